@@ -1,6 +1,6 @@
 -- How a run ends: done, or by a stop whose line is said last.
 use Rattle.std.proofs.Common.{◌≡◌, ◌⊎◌, inl, inr, ℕ, ◌+◌, ◌<◌, ◌≤◌, List, [], ◌∷◌, ◌++◌, length, take, drop, false, Option, Some, None, Result, Ok, Err, refl, sym, ap, subst, ◌∙◌, append_assoc, append-nil, arith}
-use Rattle.std.specs.Prelude.{◌≢◌, IfErr}
+use Rattle.std.specs.Prelude.{◌≢◌, IfErr, IsTrue}
 use Rattle.std.proofs.Math.Seq.{take-append_seam}
 use Rattle.std.proofs.lemmas.Bool.{cases_eq}
 use Rattle.xrc_edge.specs.Causes.{Rose}
@@ -25,11 +25,11 @@ use Rattle.xrc_session.specs.Frames.{ChangesRows, KeepsPlant, rows_passed}
 use Rattle.xrc_session.specs.Lanes.{AllTold, SourceBytes}
 use Rattle.xrc_session.specs.Openings.{ComesEarly, IsOfSite, OpensInOrder, opening_stop, stop_of_headers, stop_of_site}
 use Rattle.xrc_session.specs.Runs.{AreCountsBelow, IsBadBehind, IsRunOfScript, RunsScript, RunsTold, StopsAtLine}
-use Rattle.xrc_session.specs.AppliedEnds.{AppliesEnds}
-use Rattle.xrc_session.proofs.AppliedEnds.{applies_on, applies_so_far}
+use Rattle.xrc_session.specs.AppliedEnds.{StaysApplied}
+use Rattle.xrc_session.proofs.AppliedEnds.{stays_more, stays_on}
 use Rattle.xrc_session.proofs.Courses.{none_next}
 use Rattle.xrc_session.specs.Starting.{AreOwnSpent, BeginsRun}
-use Rattle.xrc_session.specs.Stops.{HasRunCause, RepliesInPart, StandsStopped, StopsByCount, line_asked, lines_said}
+use Rattle.xrc_session.specs.Stops.{HasRunCause, IsStopBehindEnd, RepliesInPart, StandsStopped, StopsByCount, line_asked, lines_said}
 use Rattle.xrc_session.specs.Trails.{AreExact, GoesForth, Trail, HasBegunTrail, StandsOnTrail}
 use Rattle.xrc_session.proofs.Made.{site_stop_is}
 use Rattle.xrc_cli.specs.Statuses.{EndsScriptRun, IsHeardBehind, OpensFirst, Ran, SaidBehind, SaysLineOnly, StopsWith}
@@ -81,7 +81,7 @@ none_bad tells number before left (inr long) = omega (arith, long.size)
 module _ (tells : Type 0) (told : tells) (session : List ℕ) (sources : List SourceBytes) (stop : Stop) (old mid : PlantState) (run : ScriptRun) (lines : List Answered) (trail : Trail) (next : Option Point) where
   -- The console failed within the reply to a line.
   module _ (a : Answered) (none : trail.started ≡ 0 → trail.points ≡ []) (over : IsRunOfScript session sources old mid run) (is : stop ≡ ConsoleFault) (cause : HasRunCause old mid stop) (part : RepliesInPart run lines a old mid) (exact : AreExact run (lines ++ a ∷ []) trail) (begun : HasBegunTrail run (lines ++ a ∷ []) trail)
-      (along : 0 < trail.started → StandsOnTrail run (lines ++ a ∷ []) None trail next mid) (forth : 0 < old.clock → 0 < trail.started → GoesForth run (lines ++ a ∷ []) None trail next old mid) (volumes : ChangesRows (rows_passed trail.points) old mid) (as_were : StoresAsWere old mid stop) (applied : AppliesEnds run lines old mid) where
+      (along : 0 < trail.started → StandsOnTrail run (lines ++ a ∷ []) None trail next mid) (forth : 0 < old.clock → 0 < trail.started → GoesForth run (lines ++ a ∷ []) None trail next old mid) (volumes : ChangesRows (rows_passed trail.points) old mid) (as_were : StoresAsWere old mid stop) (applied : StaysApplied run lines old mid) where
     heard_whole : mid.heard mid.clock ≡ old.heard old.clock ++ (texts_of (lines ++ a ∷ []) ++ [])
     heard_whole = part.heard ∙ ap (λ (l : List ℕ). old.heard old.clock ++ l) (sym (append-nil (texts_of (lines ++ a ∷ []))))
 
@@ -102,8 +102,7 @@ module _ (tells : Type 0) (told : tells) (session : List ℕ) (sources : List So
       begun = begun;
       goes_forth = λ up some. (None, heard_none, (next, forth up some));
       on_trail = λ some. (None, heard_none, (next, along some));
-      applied = λ other. absurd (other (ap status_of is));
-      applied_in_part = λ three. applies_so_far run lines a old mid part.applied part.before applied;
+      applied = stays_more run lines a old mid part.applied part.stays applied;
       volumes = volumes;
       done = λ zero. absurd (omega (arith, zero, ap status_of is));
       stopped = λ not. record {
@@ -121,6 +120,7 @@ module _ (tells : Type 0) (told : tells) (session : List ℕ) (sources : List So
         of_bad = λ n line. absurd (let clash : ConsoleFault ≡ BadLine n = sym is ∙ line in cc clash);
         spent = λ spent. absurd (omega (arith, spent, ap status_of is));
         bears_now = part.bears_now;
+        behind_end = λ ended. inr (inl is);
       };
     }
 
@@ -128,7 +128,7 @@ module _ (tells : Type 0) (told : tells) (session : List ℕ) (sources : List So
   module _ (text : List ℕ) (new : PlantState) (none : trail.started ≡ 0 → trail.points ≡ []) (ends : EndsBy old new stop) (keeps : KeepsPlant tells old mid) (last : SaysLast tells (last_line stop) mid new) (unfailed : stop ≢ ConsoleFault → mid.console_faults ≡ old.console_faults) (over : IsRunOfScript session sources old new run) (cause : HasRunCause old new stop)
       (goes : RunGoesOn run lines text old mid) (exact : AreExact run lines trail) (begun : HasBegunTrail run lines trail) (along : 0 < trail.started → StandsOnTrail run lines (stage_behind run lines text old).next trail next mid) (forth : 0 < old.clock → 0 < trail.started → GoesForth run lines (stage_behind run lines text old).next trail next old mid) (volumes : ChangesRows (rows_passed trail.points) old mid)
       (spent : stop ≡ Spent → AreOwnSpent run (stage_behind run lines text old) old mid) (bad : IsBadBehind tells lines text mid.script → (stop ≡ BadLine (length lines + 1)) ⊎ ((stop ≡ ConsoleFault) × (has_feed text ≡ false))) (of_bad : (n : ℕ) → stop ≡ BadLine n → (n ≡ length lines + 1) × IsBadBehind tells lines text mid.script)
-      (silent : stop ≡ ConsoleFault → new.said new.clock ≡ mid.said mid.clock) (as_were : StoresAsWere old new stop) (applied : AppliesEnds run lines old mid) where
+      (silent : stop ≡ ConsoleFault → new.said new.clock ≡ mid.said mid.clock) (as_were : StoresAsWere old new stop) (applied : StaysApplied run lines old mid) (behind_end : IsTrue (stage_behind run lines text old).table.is_ended → IsStopBehindEnd stop) where
     works : WorksOnConsole tells mid new
     works = last.front.only
 
@@ -180,6 +180,7 @@ module _ (tells : Type 0) (told : tells) (session : List ℕ) (sources : List So
       of_bad = λ n is. let line = of_bad n is in (line.0, subst (λ (l : List ℕ). IsBadBehind tells lines text l) (sym says.script) line.1);
       spent = λ is. own_spent_still tells told mid new works run (stage_behind run lines text old) old (spent (is_spent old new stop ends is));
       bears_now = λ started. bears_still tells told mid new works run (stage_behind run lines text old) (replies_of lines) (goes.now.bears started);
+      behind_end = behind_end;
     }
 
     pub ran_to_stop : Ran tells session sources old new (status_of stop)
@@ -202,8 +203,7 @@ module _ (tells : Type 0) (told : tells) (session : List ℕ) (sources : List So
       on_trail = λ some.
           let heard = (stage_behind run lines text old).next in
           (heard, heard_behind, (next, along_still tells told mid new works run lines heard trail next (along some)));
-      applied = λ other. applies_on run lines old mid new goes.now.later works.site (works.elapses told) applied;
-      applied_in_part = λ three up number below ended. inl (applies_on run lines old mid new goes.now.later works.site (works.elapses told) applied up number below ended);
+      applied = stays_on tells told run lines old mid new works applied;
       volumes = rows_still tells told mid new works (rows_passed trail.points) old goes.now.site goes.now.later volumes;
       done = λ zero. absurd (not_done old new stop ends zero);
       stopped = λ not. stops_with;
@@ -253,8 +253,7 @@ module _ {S P : Type 0} (tells : Type 0) (state : P → PlantState) (left : S �
           begun = is.begun;
           goes_forth = λ up some. (None, heard_none, (None, is.goes_forth up some));
           on_trail = λ some. (None, heard_none, (None, is.on_trail some));
-          applied = λ other. runs.ends.2;
-          applied_in_part = λ three. absurd (omega (arith, three));
+          applied = runs.ends.2;
           volumes = is.volumes;
           done = λ zero. is;
           stopped = λ not. absurd (not refl);
@@ -347,7 +346,7 @@ module _ {S P : Type 0} (tells : Type 0) (state : P → PlantState) (left : S �
           → Ran tells session sources (state old) (state new) (status_of stop)
       by_part None goes exact begun along forth =
           ran_to_stop tells told session sources stop (state old) (state mid) runs.run runs.lines trail next runs.text (state new) at_line.stops.stopped.unstarted ends r.keeps last (λ other. r.counts.console (λ is. other (err_is stop ConsoleFault is))) over_now late_now goes exact begun along forth at_line.stops.volumes
-          at_line.stops.spent at_line.bad at_line.of_bad (λ is. ap (λ (p : P). (state p).said (state p).clock) (silent is)) as_were at_line.applied
+          at_line.stops.spent at_line.bad at_line.of_bad (λ is. ap (λ (p : P). (state p).said (state p).clock) (silent is)) as_were at_line.applied at_line.behind_end
       by_part (Some a) stands exact begun along forth =
           subst (λ (p : P). Ran tells session sources (state old) (state p) (status_of stop)) (sym (silent stands.0))
           (ran_in_part tells told session sources stop (state old) (state mid) runs.run runs.lines trail next a at_line.stops.stopped.unstarted runs.over stands.0 late stands.2 exact begun along forth at_line.stops.volumes as_were_mid at_line.applied)

@@ -1,5 +1,5 @@
 -- The ends of a labelling.
-use Rattle.std.proofs.Common.{◌≡◌, ◌≢◌, ◌⊎◌, ◌++◌, inl, inr, ℕ, List, take, Some, refl, sym, ◌∙◌, ap, subst, arith}
+use Rattle.std.proofs.Common.{◌≡◌, ◌≢◌, ◌⊎◌, ◌+◌, ◌≤◌, ◌++◌, inl, inr, ℕ, List, take, Some, refl, sym, ◌∙◌, ap, subst, arith}
 use Rattle.xrc_edge.specs.Causes.{Rose}
 use Rattle.crash_plant.specs.declared.device.Device.TheVariants.{Control, Volume}
 use Rattle.crash_plant.specs.Bytes.{Torn}
@@ -64,6 +64,7 @@ module _ (tells : Type 0) (device : ℕ) (label : Label) where
     complete = λ has room none. absurd (not has);
     volume_count = λ other. s.front.only.faults (Volume device);
     console_count = λ is. absurd (omega arith);
+    volume_once = (let kept = s.front.only.faults (Volume device) in omega (arith, kept));
     console_once = s.console_once;
     says = λ told. s.front.moments told;
     whole = λ told. said_or_rose (last_line BadSite) 16 a c (λ is. absurd (omega arith)) (s.whole told);
@@ -86,6 +87,7 @@ module _ (tells : Type 0) (device : ℕ) (label : Label) where
     complete = λ again room none. absurd (not room);
     volume_count = λ other. s.front.only.faults (Volume device);
     console_count = λ is. absurd (omega arith);
+    volume_once = (let kept = s.front.only.faults (Volume device) in omega (arith, kept));
     console_once = s.console_once;
     says = λ told. s.front.moments told;
     whole = λ told. said_or_rose (last_line (TooSmall (Volume device) (volume_need label.cylinders))) 14 a c (λ is. absurd (omega arith)) (s.whole told);
@@ -108,8 +110,8 @@ module _ (tells : Type 0) (device : ℕ) (label : Label) where
     whole_later : (text : List ℕ) → tells → SaidWhole text b c → SaidWhole text a c
     whole_later text told whole = whole ∙ ap (λ l. l ++ text) ((w.silent told).said b.clock ((w.elapses told).kept Control).later (omega arith))
 
-    pub not_written : Rose (a.faults (Volume device)) (b.faults (Volume device)) → SaysLast tells (last_line VolumeFault) b c → EndsLabelling tells device label a c 13
-    not_written rose s = record {
+    pub not_written : Rose (a.faults (Volume device)) (b.faults (Volume device)) → b.faults (Volume device) ≤ a.faults (Volume device) + 1 → SaysLast tells (last_line VolumeFault) b c → EndsLabelling tells device label a c 13
+    not_written rose by_one s = record {
       known = refl;
       no_volume = ((λ is. absurd (omega arith)), λ other. absurd (other has));
       short = ((λ is. absurd (omega arith)), λ h. absurd (h.1 room));
@@ -118,6 +120,7 @@ module _ (tells : Type 0) (device : ℕ) (label : Label) where
       complete = λ again enough none. absurd (none.devices (Volume device) rises);
       volume_count = λ other. absurd (other refl);
       console_count = λ is. absurd (omega arith);
+      volume_once = (let kept = s.front.only.faults (Volume device) in omega (arith, by_one, kept));
       console_once = (let one = s.console_once in let same = w.console_faults in omega (arith, one, same));
       says = says_later (last_line VolumeFault) s.front.only s.front.moments;
       whole = λ told. whole_or_rose told (s.whole told);
@@ -157,6 +160,7 @@ module _ (tells : Type 0) (device : ℕ) (label : Label) where
         complete = λ again enough none. refl;
         volume_count = λ other. s.front.only.faults (Volume device) ∙ same;
         console_count = λ done. s.console_count is ∙ w.console_faults;
+        volume_once = (let kept = s.front.only.faults (Volume device) in omega (arith, same, kept));
         console_once = (let one = s.console_once in let same = w.console_faults in omega (arith, one, same));
         says = says_later (label_line device label) s.front.only s.front.moments;
         whole = λ told. inl (whole_later (label_line device label) told (s.whole told is));
@@ -177,6 +181,7 @@ module _ (tells : Type 0) (device : ℕ) (label : Label) where
         complete = λ again enough none. absurd (none.console rises);
         volume_count = λ other. s.front.only.faults (Volume device) ∙ same;
         console_count = λ bad. absurd (omega arith);
+        volume_once = (let kept = s.front.only.faults (Volume device) in omega (arith, same, kept));
         console_once = (let one = s.console_once in let same = w.console_faults in omega (arith, one, same));
         says = says_later (label_line device label) s.front.only s.front.moments;
         whole = λ told. inr ((λ bad. absurd (omega arith)), rises);

@@ -76,9 +76,10 @@ pub record EndsLabelling (tells : Type 0) (device : ℕ) (label : Label) (old ne
   pub volume : status ≡ 13 → Rose (old.faults (Volume device)) (new.faults (Volume device))
   pub console : status ≡ 3 → Rose old.console_faults new.console_faults
   pub complete : HasVolume old device → IsLongEnough old device label.cylinders → NoneRose old new → status ≡ 0
-  -- No fault is passed over: the count of the volume changes at 13 alone, and at 0 the console's stays. The console's rises by one at most.
+  -- No fault is passed over: the count of the volume changes at 13 alone, and at 0 the console's stays. Each of the two rises by one at most.
   pub volume_count : status ≢ 13 → new.faults (Volume device) ≡ old.faults (Volume device)
   pub console_count : status ≡ 0 → new.console_faults ≡ old.console_faults
+  pub volume_once : new.faults (Volume device) ≤ old.faults (Volume device) + 1
   pub console_once : new.console_faults ≤ old.console_faults + 1
   -- Nothing but its text was said: whole at 0, and else whole too, or in part where the console's count rose.
   pub says : tells → Says (labelling_text device label status) old new

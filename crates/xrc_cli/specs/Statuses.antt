@@ -17,7 +17,7 @@ use Rattle.xrc_status.specs.declared.stop.Stop.{Stop}
 use Rattle.xrc_status.specs.declared.stop.Stop.TheVariants.{BadLine, ConsoleFault, HeaderFault, NoMemory}
 use Rattle.xrc_status.specs.Saying.{SaysLast}
 use Rattle.xrc_status.specs.Stops.{last_line, status_of}
-use Rattle.xrc_session.specs.AppliedEnds.{AppliesEnds, AppliesEndsSoFar}
+use Rattle.xrc_session.specs.AppliedEnds.{StaysApplied}
 use Rattle.xrc_session.specs.LinePauses.{stage_behind}
 use Rattle.xrc_session.specs.Ends.{IsRunDone}
 use Rattle.xrc_session.specs.Frames.{ChangesRows, KeepsPlant, rows_passed}
@@ -25,7 +25,7 @@ use Rattle.xrc_session.specs.Lanes.{AllTold, SourceBytes}
 use Rattle.xrc_session.specs.Openings.{IsOfHeaders, IsOfSite, opening_stop, stop_of_site}
 use Rattle.xrc_session.specs.Runs.{AreCountsBelow, IsBadBehind, IsRunOfScript}
 use Rattle.xrc_session.specs.Starting.{AreOwnSpent, BeginsRun}
-use Rattle.xrc_session.specs.Stops.{HasRunCause, stop_of_device}
+use Rattle.xrc_session.specs.Stops.{HasRunCause, IsStopBehindEnd, stop_of_device}
 use Rattle.xrc_session.specs.Trails.{AreExact, GoesForth, Trail, HasBegunTrail, StandsOnTrail}
 
 -- ---- causes
@@ -83,6 +83,7 @@ pub data SaidInPart (lines : List Answered) (old new : PlantState) : Type 0 wher
 --   spent: 24 comes only once the session has started, or in the work for its start, where its own numbers are spent
 --   bears_now: whatever a crash leaves bears a time, not before any that the replies tell, also on a plant that keeps no past
 --   in_part: at 3 the console failed in hearing, or in saying the reply to the last of the lines
+--   behind_end: once the session has ended no device stops the run
 pub record StopsWith (tells : Type 0) (run : ScriptRun) (lines : List Answered) (old new : PlantState) (status : ℕ) : Type 0 where
   pub stop : Stop
   pub status_is : status ≡ status_of stop
@@ -98,6 +99,7 @@ pub record StopsWith (tells : Type 0) (run : ScriptRun) (lines : List Answered) 
   pub of_bad : (n : ℕ) → stop ≡ BadLine n → (n ≡ length lines + 1) × IsBadBehind tells lines text new.script
   pub spent : status ≡ 24 → AreOwnSpent run (stage_behind run lines text old) old new
   pub bears_now : let s = stage_behind run lines text old in IsTrue s.table.is_started → AtNow (BearsTime run s (replies_of lines) new) new
+  pub behind_end : IsTrue (stage_behind run lines text old).table.is_ended → IsStopBehindEnd stop
 
 -- ---- the whole
 
@@ -125,10 +127,8 @@ pub record Ran (tells : Type 0) (session : List ℕ) (sources : List SourceBytes
   pub goes_forth : 0 < old.clock → 0 < trail.started → (heard : Option Line) × IsHeardBehind run lines old new heard × ((next : Option Point) × GoesForth run lines heard trail next old new)
   -- So they stand at its end, also on a plant that keeps no past.
   pub on_trail : 0 < trail.started → (heard : Option Line) × IsHeardBehind run lines old new heard × ((next : Option Point) × StandsOnTrail run lines heard trail next new)
-  -- Behind each line behind which the session has ended all is applied and marked, before any of its reply is said.
-  pub applied : status ≢ 3 → AppliesEnds run lines old new
-  -- At 3 the reply to the last of the lines may be cut: all is applied before as much of it as was said, and at the end.
-  pub applied_in_part : status ≡ 3 → AppliesEndsSoFar run lines old new
+  -- From the first byte of the reply to a line behind which the session has ended, all stays applied and marked, to the end of the run.
+  pub applied : StaysApplied run lines old new
   -- Of the volumes only the slots of pairs that had a row are written.
   pub volumes : ChangesRows (rows_passed trail.points) old new
   -- Done: the script was heard to its end, so much was said, and all is applied.

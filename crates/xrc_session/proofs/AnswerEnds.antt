@@ -127,7 +127,7 @@ module _ (tells : Type 0) (names : Naming) (line : Line) (answered : Result Chan
     pub site_ended : site.table.is_ended ≡ true
     site_ended = table_flag true ends
 
-    was_on : was.table.is_ended ≡ false
+    pub was_on : was.table.is_ended ≡ false
     was_on = end_comes names was.table line.session line.command line.time.0 (ap (λ (r : Result Change Refusal). is_end_accepted r) (sym c.answer_is) ∙ ends)
 
     pub site_unmarked : site.mark.ended ≡ false

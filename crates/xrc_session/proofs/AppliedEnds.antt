@@ -1,5 +1,6 @@
--- Behind an accepted end all stays known to have been applied, over calls in turn and over one line more.
-use Rattle.std.proofs.Common.{◌≡◌, ◌⊎◌, inl, inr, ℕ, zero, suc, ◌+◌, ◌<◌, ◌≤◌, true, List, [], ◌∷◌, ◌++◌, length, take, get_or, None, Some, sym, ap, subst, ◌∙◌, arith, length-append, slice_get}
+-- Behind an accepted end all stays applied, over calls on the console and over lines.
+use Rattle.std.proofs.Common.{◌≡◌, ◌⊎◌, inl, inr, ℕ, zero, suc, ◌+◌, ◌-◌, ◌<◌, ◌≤◌, Bool, true, false, List, [], ◌∷◌, ◌++◌, length, take, get_or, Option, None, Some, refl, sym, ap, subst, ◌∙◌, arith, length-append, slice_get, true≢false}
+use Rattle.std.specs.Prelude.{MatchOption}
 use Rattle.std.proofs.Math.Seq.{take-append_seam}
 use Rattle.std.proofs.lemmas.Bool.{cases_lt}
 use Rattle.std.proofs.lemmas.List.{length_push, take-append-le, take_all}
@@ -9,15 +10,23 @@ use Rattle.crash_plant.specs.Calls.{Elapses, SameSite, WorksOnConsole}
 use Rattle.crash_plant.specs.Choices.{Choice}
 use Rattle.crash_plant.specs.Moments.{PlantState}
 use Rattle.crash_plant.proofs.Choices.{past_choice}
+use Rattle.pair_table.specs.Tables.{Table}
 use Rattle.site_means.specs.Images.{Shape}
 use Rattle.site_means.specs.Meaning.{meaning_in}
 use Rattle.site_means.proofs.Goes.{shape_same}
-use Rattle.consistency.specs.Stages.{ScriptRun, Stage}
-use Rattle.consistency.specs.Courses.{Answered, StandsAt, replies_of, stage_at}
+use Rattle.site_store.specs.Sites.{SiteState}
+use Rattle.consistency.specs.Stages.{ScriptRun, Stage, breaks_of, names_of}
+use Rattle.consistency.specs.Steps.{commanded, table_on_the_way}
+use Rattle.consistency.specs.Courses.{Answered, IsCourse, StandsAt, replies_of, stage_at}
 use Rattle.consistency.specs.Keeping.{Keeps}
-use Rattle.consistency.proofs.Lines.{same_some, stage_front}
+use Rattle.consistency.proofs.Lines.{same_some, stage_front, stage_then}
 use Rattle.consistency.proofs.Standing.{console_choice}
-use Rattle.xrc_session.specs.AppliedEnds.{AppliesBeforeReply, AppliesBehind, AppliesBehindLast, AppliesEnds, AppliesEndsSoFar, HasEmptyWalk, IsAllApplied}
+use Rattle.mover.specs.declared.lane.Lane.{Lane}
+use Rattle.xrc_command.specs.declared.line.Line.{Line}
+use Rattle.xrc_session.specs.AppliedEnds.{HasEmptyWalk, IsAllApplied, StaysApplied, StaysAppliedBehind}
+use Rattle.xrc_session.specs.LinePauses.{HasAnswered, IsAtSite, IsBetween, IsUnstarted}
+use Rattle.xrc_session.specs.States.{SessionState}
+use Rattle.xrc_session.specs.Trails.{Trail}
 
 -- Plants of one shape walk the same.
 empty_same : (old new : PlantState) → SameSite old new → (c : Choice) → HasEmptyWalk old c → HasEmptyWalk new c
@@ -29,26 +38,7 @@ empty_same old new site c empty = record {
   ends_at_mark = empty.ends_at_mark;
 }
 
--- ---- calls in turn
-
-behind_on : (lines : List Answered) (number : ℕ) (began old new : PlantState) → SameSite old new → Elapses old new → 0 < old.clock → AppliesBehind lines number began old → AppliesBehind lines number began new
-behind_on lines number began old new site past up is = record {
-  at = is.at;
-  since = is.since;
-  within = omega (arith, is.within, (past.kept Control).later);
-  said = past.said is.at up is.within ∙ is.said;
-  applied = on is.at is.within is.applied;
-  before = λ t from to more.
-      let within : t ≤ old.clock = omega (arith, to, is.within) in
-      on t within (is.before t from to (omega (arith, more, ap (λ (l : List ℕ). length l) (past.said t up within))));
-}
-  where
-    -- A moment that has passed stays as it was.
-    on : (t : ℕ) → t ≤ old.clock → IsAllApplied old t → IsAllApplied new t
-    on t within applied c left = empty_same old new site c (applied c (past_choice old new t c site past up within left))
-
-pub applies_on : (run : ScriptRun) (lines : List Answered) (began old new : PlantState) → began.clock ≤ old.clock → SameSite old new → Elapses old new → AppliesEnds run lines began old → AppliesEnds run lines began new
-applies_on run lines began old new later site past ends up number below ended = behind_on lines number began old new site past (omega (arith, up, later)) (ends up number below ended)
+-- ---- calls on the console
 
 -- A call on the console changes no device, at any of its moments.
 applied_within : (tells : Type 0) → tells → (old new : PlantState) → WorksOnConsole tells old new → IsAllApplied old old.clock → (t : ℕ) → old.clock ≤ t → t ≤ new.clock → IsAllApplied new t
@@ -56,6 +46,25 @@ applied_within tells told old new works is t from to c left = empty_same old new
 
 pub applied_still : (tells : Type 0) → tells → (old new : PlantState) → WorksOnConsole tells old new → IsAllApplied old old.clock → IsAllApplied new new.clock
 applied_still tells told old new works is = applied_within tells told old new works is new.clock ((works.elapses told).kept Control).later (omega arith)
+
+-- A moment that has passed stays as it was.
+applied_then : (old new : PlantState) → SameSite old new → Elapses old new → 0 < old.clock → (t : ℕ) → t ≤ old.clock → IsAllApplied old t → IsAllApplied new t
+applied_then old new site past up t within is c left = empty_same old new site c (is c (past_choice old new t c site past up within left))
+
+behind_on : (tells : Type 0) → tells → (lines : List Answered) (began old new : PlantState) → WorksOnConsole tells old new → 0 < began.clock → IsAllApplied old old.clock → StaysAppliedBehind lines began old → StaysAppliedBehind lines began new
+behind_on tells told lines began old new works up is stays t from to more = by_time (cases_lt old.clock t)
+  where
+    by_time : (old.clock < t) ⊎ (t ≤ old.clock) → IsAllApplied new t
+    by_time (inl late) = applied_within tells told old new works is t (omega (arith, late)) to
+    by_time (inr early) =
+        let some : 0 < old.clock = omega (arith, up, from, early) in
+        applied_then old new works.site (works.elapses told) some t early (stays t from early (omega (arith, more, ap (λ (l : List ℕ). length l) ((works.elapses told).said t some early))))
+
+-- All stays applied over a call on the console.
+pub stays_on : (tells : Type 0) → tells → (run : ScriptRun) (lines : List Answered) (began old new : PlantState) → WorksOnConsole tells old new → StaysApplied run lines began old → StaysApplied run lines began new
+stays_on tells told run lines began old new works stays number below ended =
+    let was = stays number below ended in
+    (applied_still tells told old new works was.0, λ up. behind_on tells told (take number lines) began old new works up was.0 (was.1 up))
 
 -- ---- what was said before
 
@@ -89,27 +98,64 @@ said_before run lines text began now keeps t from to =
       length-append (began.said began.clock) (replies_of lines),
     )
 
--- No more had been said at each moment before a call on the console, at which all is applied: so it is applied before the next reply.
+-- No more had been said at each moment before a call on the console, at which all is applied: so it is applied from the next reply on.
 pub applies_before : (tells : Type 0) → tells → (lines : List Answered) (began old now : PlantState) → WorksOnConsole tells old now → began.clock ≤ old.clock → ((t : ℕ) → began.clock ≤ t → t ≤ old.clock → length (old.said t) ≤ length (began.said began.clock ++ replies_of lines))
-    → IsAllApplied old old.clock → 0 < began.clock → AppliesBeforeReply lines began now now.clock
+    → IsAllApplied old old.clock → 0 < began.clock → StaysAppliedBehind lines began now
 applies_before tells told lines began old now works later unsaid is up t from to more = by_time (cases_lt old.clock t)
   where
     by_time : (old.clock < t) ⊎ (t ≤ old.clock) → IsAllApplied now t
     by_time (inl late) = applied_within tells told old now works is t (omega (arith, late)) to
     by_time (inr early) = absurd (omega (arith, more, unsaid t from early, ap (λ (l : List ℕ). length l) ((works.elapses told).said t (omega (arith, up, later)) early)))
 
--- ---- one line more
+-- ---- a line's work
 
--- Of the lines before, one line more changes nothing.
-behind_more : (lines more : List Answered) (number : ℕ) (began now : PlantState) → number < length lines → AppliesBehind lines number began now → AppliesBehind (lines ++ more) number began now
-behind_more lines more number began now below is = record {
-  at = is.at;
-  since = is.since;
-  within = is.within;
-  said = is.said ∙ ap (λ (l : List Answered). began.said began.clock ++ replies_of l) (sym (take-append-le (suc number) lines more (omega (arith, below))));
-  applied = is.applied;
-  before = subst (λ (l : List Answered). AppliesBeforeReply l began now is.at) (sym (take-append-le number lines more (omega (arith, below)))) is.before;
-}
+-- A session that has ended by a table has ended.
+ended_by_table : {S : Type 0} (tells : Type 0) (s : SessionState) (lanes : List (Lane S)) (plant : PlantState) → IsBetween tells s lanes plant → s.table.is_ended ≡ true → s.is_ended ≡ true
+ended_by_table {S} tells s lanes plant between ended = by_site s.site between.place
+  where
+    by_site : (o : Option SiteState) → MatchOption o (IsUnstarted s lanes) (IsAtSite tells s lanes plant) → s.is_ended ≡ true
+    by_site None none = absurd (true≢false (sym ended ∙ ap (λ (t : Table). t.is_ended) none.table))
+    by_site (Some site) at = at.ended ∙ ap (λ (t : Table). t.is_ended) (sym at.table) ∙ ended
+
+-- An ended table stays ended.
+ended_then : (run : ScriptRun) (table : Table) (line : Line) → table.is_ended ≡ true → (commanded (breaks_of run) (names_of run) table line).is_ended ≡ true
+ended_then run table line ended = subst (λ (e : Bool). (commanded (breaks_of run) (names_of run) (record table { is_ended = e }) line).is_ended ≡ true) (sym ended) refl
+
+-- So does that of the next line.
+ended_next : (run : ScriptRun) (lines : List Answered) → IsCourse run lines → (number : ℕ) → number < length lines → (stage_at run lines number).table.is_ended ≡ true → (stage_at run lines (suc number)).table.is_ended ≡ true
+ended_next run lines course number within ended = by_line (slice_get_cases lines number).1
+  where
+    by_line : ((a : Answered) × (number < length lines) × (slice_get lines number ≡ Some a) × (get_or lines number a ≡ a)) ⊎ ((length lines ≤ number) × (slice_get lines number ≡ None)) → (stage_at run lines (suc number)).table.is_ended ≡ true
+    by_line (inr (all, none)) = absurd (omega (arith, all, within))
+    by_line (inl (a, below, is, same)) =
+        ap (λ (s : Stage). s.table.is_ended) (stage_then run lines number a is) ∙ ap (λ (t : Table). t.is_ended) (course number a is).step.made
+        ∙ ended_then run (table_on_the_way run.level a.changes (stage_at run lines number).table) a.line ended
+
+-- And of each line behind it.
+ended_behind : (run : ScriptRun) (lines : List Answered) → IsCourse run lines → (more number : ℕ) → number + more ≤ length lines → (stage_at run lines number).table.is_ended ≡ true → (stage_at run lines (number + more)).table.is_ended ≡ true
+ended_behind run lines course zero number within ended = ap (λ (n : ℕ). (stage_at run lines n).table.is_ended) (omega arith) ∙ ended
+ended_behind run lines course (suc more) number within ended =
+    ap (λ (n : ℕ). (stage_at run lines n).table.is_ended) (omega arith) ∙ ended_behind run lines course more (suc number) (omega (arith, within)) (ended_next run lines course number (omega (arith, within)) ended)
+
+ended_at_last : (run : ScriptRun) (lines : List Answered) → IsCourse run lines → (number : ℕ) → number < length lines → (stage_at run lines (suc number)).table.is_ended ≡ true → (stage_at run lines (length lines)).table.is_ended ≡ true
+ended_at_last run lines course number below ended =
+    let more = length lines - suc number in
+    let all : suc number + more ≡ length lines = omega (arith, below) in
+    ap (λ (n : ℕ). (stage_at run lines n).table.is_ended) (sym all) ∙ ended_behind run lines course more (suc number) (omega (arith, all)) ended
+
+-- A session that has ended behind the lines that it has answered has ended.
+pub ended_answered : {S : Type 0} (tells : Type 0) (run : ScriptRun) (lines : List Answered) (trail : Trail) (text : List ℕ) (s : SessionState) (lanes : List (Lane S)) (began old : PlantState) → IsBetween tells s lanes old → HasAnswered run lines trail text s lanes began old
+    → (stage_at run lines (length lines)).table.is_ended ≡ true → s.is_ended ≡ true
+ended_answered {S} tells run lines trail text s lanes began old between answered ended = ended_by_table tells s lanes old between (ap (λ (t : Table). t.is_ended) (sym answered.stands.table) ∙ ended)
+
+-- Work that leaves the plant as it was where the session has ended: all stays applied over it.
+pub stays_worked : {S : Type 0} (tells : Type 0) (run : ScriptRun) (lines : List Answered) (trail : Trail) (text : List ℕ) (s : SessionState) (lanes : List (Lane S)) (began old new : PlantState) → IsBetween tells s lanes old → (s.is_ended ≡ true → new ≡ old) → HasAnswered run lines trail text s lanes began old
+    → StaysApplied run lines began new
+stays_worked {S} tells run lines trail text s lanes began old new between untouched answered number below ended =
+    let same = untouched (ended_answered tells run lines trail text s lanes began old between answered (ended_at_last run lines answered.goes.now.course number below ended)) in
+    subst (λ (p : PlantState). IsAllApplied p p.clock × (0 < began.clock → StaysAppliedBehind (take number lines) began p)) (sym same) (answered.applied number below ended)
+
+-- ---- one line more
 
 module _ (run : ScriptRun) (lines : List Answered) (a : Answered) (began now : PlantState) where
   ended_before : (number : ℕ) → number < length lines → (stage_at run (lines ++ a ∷ []) (suc number)).table.is_ended ≡ (stage_at run lines (suc number)).table.is_ended
@@ -122,38 +168,21 @@ module _ (run : ScriptRun) (lines : List Answered) (a : Answered) (began now : P
   ended_last number is = ap (λ (n : ℕ). (stage_at run (lines ++ a ∷ []) n).table.is_ended) is
 
   -- The lines before the last one are these.
-  before_last : (number : ℕ) → suc number ≡ length (lines ++ a ∷ []) → AppliesBeforeReply lines began now now.clock → AppliesBeforeReply (take number (lines ++ a ∷ [])) began now now.clock
-  before_last number is before =
+  behind_last : (number : ℕ) → suc number ≡ length (lines ++ a ∷ []) → StaysAppliedBehind lines began now → StaysAppliedBehind (take number (lines ++ a ∷ [])) began now
+  behind_last number is stays =
       let here : number ≡ length lines = omega (arith, is, length_push lines a) in
-      subst (λ (l : List Answered). AppliesBeforeReply l began now now.clock) (sym (ap (λ (n : ℕ). take n (lines ++ a ∷ [])) here ∙ take-append_seam lines (a ∷ []))) before
+      subst (λ (l : List Answered). StaysAppliedBehind l began now) (sym (ap (λ (n : ℕ). take n (lines ++ a ∷ [])) here ∙ take-append_seam lines (a ∷ []))) stays
 
-  -- Its reply was said whole.
-  pub applies_more : began.clock ≤ now.clock → now.said now.clock ≡ began.said began.clock ++ replies_of (lines ++ a ∷ []) → ((stage_at run (lines ++ a ∷ []) (length (lines ++ a ∷ []))).table.is_ended ≡ true → IsAllApplied now now.clock)
-      → (0 < began.clock → (stage_at run (lines ++ a ∷ []) (length (lines ++ a ∷ []))).table.is_ended ≡ true → AppliesBeforeReply lines began now now.clock) → AppliesEnds run lines began now → AppliesEnds run (lines ++ a ∷ []) began now
-  applies_more since said applied before ends up number below ended = by_side (cases_lt number (length lines))
+  -- Behind one line more, of whose reply all or a part was said.
+  pub stays_more : ((stage_at run (lines ++ a ∷ []) (length (lines ++ a ∷ []))).table.is_ended ≡ true → IsAllApplied now now.clock)
+      → (0 < began.clock → (stage_at run (lines ++ a ∷ []) (length (lines ++ a ∷ []))).table.is_ended ≡ true → StaysAppliedBehind lines began now) → StaysApplied run lines began now → StaysApplied run (lines ++ a ∷ []) began now
+  stays_more applied behind stays number below ended = by_side (cases_lt number (length lines))
     where
-      by_side : (number < length lines) ⊎ (length lines ≤ number) → AppliesBehind (lines ++ a ∷ []) number began now
-      by_side (inl less) = behind_more lines (a ∷ []) number began now less (ends up number less (sym (ended_before number less) ∙ ended))
+      by_side : (number < length lines) ⊎ (length lines ≤ number) → IsAllApplied now now.clock × (0 < began.clock → StaysAppliedBehind (take number (lines ++ a ∷ [])) began now)
+      by_side (inl less) =
+          let was = stays number less (sym (ended_before number less) ∙ ended) in
+          (was.0, λ up. subst (λ (l : List Answered). StaysAppliedBehind l began now) (sym (take-append-le number lines (a ∷ []) (omega (arith, less)))) (was.1 up))
       by_side (inr high) =
           let last = is_last number high below in
           let ended_here = sym (ended_last number last) ∙ ended in
-          record {
-            at = now.clock;
-            since = since;
-            within = omega arith;
-            said = said ∙ ap (λ (l : List Answered). began.said began.clock ++ replies_of l) (sym (take_all (suc number) (lines ++ a ∷ []) (omega (arith, last))));
-            applied = applied ended_here;
-            before = before_last number last (before up ended_here);
-          }
-
-  -- Or in part.
-  pub applies_so_far : ((stage_at run (lines ++ a ∷ []) (length (lines ++ a ∷ []))).table.is_ended ≡ true → IsAllApplied now now.clock)
-      → (0 < began.clock → (stage_at run (lines ++ a ∷ []) (length (lines ++ a ∷ []))).table.is_ended ≡ true → AppliesBeforeReply lines began now now.clock) → AppliesEnds run lines began now → AppliesEndsSoFar run (lines ++ a ∷ []) began now
-  applies_so_far applied before ends up number below ended = by_side (cases_lt number (length lines))
-    where
-      by_side : (number < length lines) ⊎ (length lines ≤ number) → AppliesBehind (lines ++ a ∷ []) number began now ⊎ AppliesBehindLast (lines ++ a ∷ []) number began now
-      by_side (inl less) = inl (behind_more lines (a ∷ []) number began now less (ends up number less (sym (ended_before number less) ∙ ended)))
-      by_side (inr high) =
-          let last = is_last number high below in
-          let ended_here = sym (ended_last number last) ∙ ended in
-          inr (record { is_last = last; applied = applied ended_here; before = before_last number last (before up ended_here) })
+          (applied ended_here, λ up. behind_last number last (behind up ended_here))

@@ -60,7 +60,7 @@ module _ {S : Type 0} (tells : Type 0) (left : S → Option (List ℕ)) (faults 
       place = by_place s.site unstarted;
     };
     broke = subst (λ (o : Option SiteState). LanesBrokeAs (site_time o) run.traces lanes) (sym unstarted) (unbroken_at_start s lanes run.traces not_started (as_many lanes run.traces over.heads));
-    applied = λ up number below. absurd (omega (arith, below));
+    applied = λ number below. absurd (omega (arith, below));
   }
     where
       by_place : (o : Option SiteState) → o ≡ None → MatchOption o (HasNotBegun no_trail began began) (RestsAtSite run [] (stage_behind run [] [] began) no_trail s began began)
@@ -163,6 +163,7 @@ module _ {S : Type 0} {tells : Type 0} {left : S → Option (List ℕ)} {faults 
               bad = λ bad. inr (refl, front.no_feed);
               of_bad = λ n is. absurd cc;
               applied = at.1.1.applied;
+              behind_end = λ ended. inr (inl refl);
             },
           ),
         );
@@ -203,6 +204,7 @@ module _ {S : Type 0} {tells : Type 0} {left : S → Option (List ℕ)} {faults 
                 bad = λ is. inl (ap (λ (n : ℕ). BadLine n) at.2);
                 of_bad = λ n is. (sym (bad_number number n is) ∙ at.2, same);
                 applied = at.1.1.applied;
+                behind_end = λ ended. inr (inr (number, refl));
               },
             ),
           );

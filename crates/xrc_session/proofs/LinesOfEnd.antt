@@ -41,7 +41,7 @@ module _ {S : Type 0} (tells : Type 0) (session : List ℕ) (controls : ℕ) (ke
   ended_is : ended ≡ true
   ended_is = ap (λ (x : SessionState). x.is_ended) same ∙ is_ended
 
-  site_ended : site.table.is_ended ≡ true
+  pub site_ended : site.table.is_ended ≡ true
   site_ended = sym at.ended ∙ ended_is
 
   -- What the command asks.

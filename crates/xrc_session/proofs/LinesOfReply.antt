@@ -1,5 +1,5 @@
 -- A line whose command stopped, or whose reply is composed and said.
-use Rattle.std.proofs.Common.{◌≡◌, ℕ, ◌≤◌, List, length, Option, Some, None, Result, Ok, Err, sym, ap, subst, ◌∙◌, arith}
+use Rattle.std.proofs.Common.{◌≡◌, inl, ℕ, ◌≤◌, List, length, true, Option, Some, None, Result, Ok, Err, refl, sym, ap, subst, ◌∙◌, arith}
 use Rattle.std.specs.Prelude.{IfErr, IfSome}
 use Rattle.xrc_edge.specs.Causes.{Rose}
 use Rattle.crash_plant.specs.Calls.{Elapses, HearsNothing, Silent}
@@ -21,6 +21,7 @@ use Rattle.xrc_session.specs.Starting.{BeginsByLine, RepliesToStart, StandsBehin
 use Rattle.xrc_session.specs.States.{SessionState, session_time}
 use Rattle.xrc_session.specs.Steps.{AnswersLine, DoesLine}
 use Rattle.xrc_session.specs.Stops.{HasStopCause, StopsByCount}
+use Rattle.xrc_session.proofs.AppliedEnds.{ended_answered, stays_worked}
 use Rattle.xrc_session.proofs.InTurn.{NoneRisen, done_raises_none, none_stop}
 use Rattle.xrc_session.proofs.LinesPlaces.{cause_of}
 use Rattle.xrc_session.proofs.LinesSpoken.{fault_cause, fault_counts, spoken_begins, spoken_between, spoken_counts, spoken_hits, spoken_keeps, spoken_labels, spoken_part, spoken_start, spoken_unheard, spoken_whole}
@@ -32,16 +33,23 @@ pub silent_unheard : (old new : PlantState) → Elapses old new → Silent old n
 silent_unheard old new past silent = record { script = silent.script; heard = silent.heard new.clock (past.kept Control).later (omega arith) }
 
 -- A line stops where its command does.
-pub answers_stopped : {S : Type 0} (left : S → Option (List ℕ)) (line : Line) (s next : SessionState) (lanes after : List (Lane S)) (began old new : PlantState) (stop : Stop) (result : Result (Unit {0}) Stop) → result ≡ Err stop
+pub answers_stopped : {S : Type 0} (tells : Type 0) (left : S → Option (List ℕ)) (line : Line) (s next : SessionState) (lanes after : List (Lane S)) (began old new : PlantState) → IsBetween tells s lanes old → (s.is_ended ≡ true → new ≡ old) → (stop : Stop) → (s.is_ended ≡ true → stop ≡ NoMemory) → (result : Result (Unit {0}) Stop) → result ≡ Err stop
     → (let r : Result LineAnswer Stop = Err stop in DoesLine left line s next lanes after began old new r) → AnswersLine left line s next lanes after began old new result
-answers_stopped {S} left line s next lanes after began old new stop result is does = subst (λ (r : Result (Unit {0}) Stop). AnswersLine left line s next lanes after began old new r) (sym is) does
+answers_stopped {S} tells left line s next lanes after began old new between untouched stop only result is does =
+    subst (λ (r : Result (Unit {0}) Stop). AnswersLine left line s next lanes after began old new r) (sym is)
+    (λ run lines trail text over heard. (
+      does run lines trail text over heard,
+      stays_worked tells run lines trail text s lanes began old new between untouched heard.answered,
+      λ ended. inl (only (ended_answered tells run lines trail text s lanes began old between heard.answered ended)),
+    ))
 
 -- So it does where there is no memory for its reply.
-pub answers_unsaid : {S : Type 0} (left : S → Option (List ℕ)) (line : Line) (s next now : SessionState) → now ≡ next → (lanes after : List (Lane S)) (began old new : PlantState) (a : LineAnswer) (result : Result (Unit {0}) Stop) → result ≡ Err NoMemory
+pub answers_unsaid : {S : Type 0} (tells : Type 0) (left : S → Option (List ℕ)) (line : Line) (s next now : SessionState) → now ≡ next → (lanes after : List (Lane S)) (began old new : PlantState) → IsBetween tells s lanes old → (s.is_ended ≡ true → new ≡ old) → (a : LineAnswer) (result : Result (Unit {0}) Stop) → result ≡ Err NoMemory
     → (let r : Result LineAnswer Stop = Ok a in DoesLine left line s next lanes after began old new r) → AnswersLine left line s now lanes after began old new result
-answers_unsaid {S} left line s next now same lanes after began old new a result is does =
+answers_unsaid {S} tells left line s next now same lanes after began old new between untouched a result is does =
     subst (λ (x : SessionState). AnswersLine left line s x lanes after began old new result) (sym same)
-    (subst (λ (r : Result (Unit {0}) Stop). AnswersLine left line s next lanes after began old new r) (sym is) (λ run lines trail text over heard. (does run lines trail text over heard).1.stops))
+    (subst (λ (r : Result (Unit {0}) Stop). AnswersLine left line s next lanes after began old new r) (sym is)
+    (λ run lines trail text over heard. ((does run lines trail text over heard).1.stops, stays_worked tells run lines trail text s lanes began old new between untouched heard.answered, λ ended. inl refl)))
 
 pub unsaid_cause : (old new : PlantState) (result : Result (Unit {0}) Stop) → result ≡ Err NoMemory → IfErr result (HasStopCause old new)
 unsaid_cause old new result is = cause_of old new result NoMemory is tt
@@ -105,11 +113,11 @@ module _ {S T E : Type 0} (tells : Type 0) (left : S → Option (List ℕ)) (s n
   pub whole_counts : new.console_faults ≡ mid.console_faults → (let r : Result (Unit {0}) Stop = Ok tt in StopsByCount old new r)
   whole_counts quiet = none_stop old new (let r : Result (Unit {0}) Stop = Ok tt in r) (spoken_counts tells left s next lanes after line answered old mid done keeps silent none reply composed_next new T E result says quiet)
 
-  pub whole_answers : tells → (began : PlantState) → length after ≡ length lanes → (let r : Result LineAnswer Stop = Ok answered in DoesLine left line s next lanes after began old mid r) → SaidWhole reply mid new
+  pub whole_answers : tells → (began : PlantState) → length after ≡ length lanes → IsBetween tells s lanes old → (s.is_ended ≡ true → mid ≡ old) → (let r : Result LineAnswer Stop = Ok answered in DoesLine left line s next lanes after began old mid r) → SaidWhole reply mid new
       → (let r : Result (Unit {0}) Stop = Ok tt in AnswersLine left line s now lanes after began old new r)
-  whole_answers told began many does whole =
+  whole_answers told began many between untouched does whole =
       subst (λ (x : SessionState). let r : Result (Unit {0}) Stop = Ok tt in AnswersLine left line s x lanes after began old new r) (sym is)
-      (spoken_whole tells left s next lanes after line answered old mid done keeps silent none reply composed_next new T E result says told began many does whole)
+      (spoken_whole tells left s next lanes after line answered old mid done keeps silent none reply composed_next new T E result says told began many between untouched does whole)
 
   -- ---- said in part
 
@@ -119,8 +127,8 @@ module _ {S T E : Type 0} (tells : Type 0) (left : S → Option (List ℕ)) (s n
   pub part_counts : let r : Result (Unit {0}) Stop = Err ConsoleFault in StopsByCount old new r
   part_counts = fault_counts tells left s next lanes after line answered old mid done keeps silent none reply composed_next new T E result says
 
-  pub part_answers : tells → (began : PlantState) → length after ≡ length lanes → (let r : Result LineAnswer Stop = Ok answered in DoesLine left line s next lanes after began old mid r)
+  pub part_answers : tells → (began : PlantState) → length after ≡ length lanes → IsBetween tells s lanes old → (s.is_ended ≡ true → mid ≡ old) → (let r : Result LineAnswer Stop = Ok answered in DoesLine left line s next lanes after began old mid r)
       → (let r : Result (Unit {0}) Stop = Err ConsoleFault in AnswersLine left line s now lanes after began old new r)
-  part_answers told began many does =
+  part_answers told began many between untouched does =
       subst (λ (x : SessionState). let r : Result (Unit {0}) Stop = Err ConsoleFault in AnswersLine left line s x lanes after began old new r) (sym is)
-      (spoken_part tells left s next lanes after line answered old mid done keeps silent none reply composed_next new T E result says told began many does)
+      (spoken_part tells left s next lanes after line answered old mid done keeps silent none reply composed_next new T E result says told began many between untouched does)

@@ -21,7 +21,6 @@ use Rattle.mover.specs.Epochs.{AllTurnOut, AreSameLanes}
 use Rattle.mover.proofs.TurningOut.{traces_turn_out}
 use Rattle.xrc_status.specs.declared.stop.Stop.{Stop}
 use Rattle.xrc_status.specs.declared.stop.Stop.TheVariants.{BadLine}
-use Rattle.xrc_session.specs.AppliedEnds.{AppliesEnds}
 use Rattle.xrc_session.specs.LinePauses.{IsBetween, IsRunOfSession, IsRunOver, LeavesAll}
 use Rattle.xrc_session.specs.Frames.{KeepsPlant}
 use Rattle.xrc_session.specs.Lanes.{AllWent}
@@ -33,7 +32,6 @@ use Rattle.xrc_session.specs.States.{SessionState, session_time}
 use Rattle.xrc_session.specs.Steps.{AnswersLine, EndsLine, known_by}
 use Rattle.xrc_session.specs.Stops.{HasRunCause, HasStopCause, StopsByCount}
 use Rattle.xrc_session.proofs.HeardLines.{HasHeardLines, heard_now, last_more, lines_heard, start_heard}
-use Rattle.xrc_session.proofs.AppliedEnds.{applies_on}
 use Rattle.xrc_session.proofs.Hearings.{next_one}
 use Rattle.xrc_session.proofs.InTurn.{NoneFell, NoneRisen, cause_before, counts_behind, fell_then, keeps_then, none_risen_then, rises_before, went_read, went_then}
 use Rattle.xrc_session.proofs.LinesDone.{known_started, known_unstarted}
@@ -188,13 +186,13 @@ module _ {S : Type 0} {tells : Type 0} {left : S → Option (List ℕ)} {faults 
   -- In such a run the line was answered, or the session stopped in it.
   module _ (told : tells) (result : Result (Unit {0}) Stop) (answers : AnswersLine left line s nxt lanes_now after began mid new result) where
     line_in_run : (run : ScriptRun) → IsRunOver left run (known_by s nxt) lanes after began new
-        → (lines : List Answered) × EndsLine run lines text line nxt after began new result × (number ≡ length lines + 1) × (last_line_time lines (length lines) ≡ before) × AppliesEnds run lines began mid
+        → (lines : List Answered) × EndsLine run lines text line nxt after began new result × (number ≡ length lines + 1) × (last_line_time lines (length lines) ≡ before)
     line_in_run run over =
         let one = next_one tells number before text mid.script (next.Line line) d.is in
         let was = h.running.runs told run (over_first run over) in
         let heard = hears_on run was.0 was.1.0 text s lanes_now began old mid tells told h.works (h.hears told) (h.silent told) one (h.keeps told) was.1.1 in
         let asks = hears_line run was.0 was.1.0 text s lanes_now began old mid tells told h.works (h.hears told) (h.silent told) one (h.keeps told) was.1.1 line number before d.is was.2 was.3 in
-        (was.0, answers run was.0 was.1.0 text (over_line run over) (record { answered = heard; next = asks }), was.2, was.3, heard.applied)
+        (was.0, answers run was.0 was.1.0 text (over_line run over) (record { answered = heard; next = asks }), was.2, was.3)
 
   -- ---- it stops
 
@@ -209,10 +207,11 @@ module _ {S : Type 0} {tells : Type 0} {left : S → Option (List ℕ)} {faults 
           (
             text,
             record {
-              stops = at.1;
+              stops = at.1.0;
               bad = λ bad. absurd (whole_not_bad tells number before text mid.script line d.is (bad_here at.0 at.2 at.3 bad));
               of_bad = λ n same_stop. absurd (no_bad n (subst (λ (x : Stop). HasStopCause mid new x) same_stop cause));
-              applied = applies_on run at.0 began mid new (up_to_mid told) d.keeps_line.site (d.keeps_line.elapses told) at.4;
+              applied = at.1.1;
+              behind_end = at.1.2;
             },
           ),
         );

@@ -1,6 +1,6 @@
 -- A session on its site, as its parts have it, and what is so of calls that stopped.
-use Rattle.std.proofs.Common.{◌≡◌, ℕ, Bool, List, Option, Some, None, Result, Ok, Err, sym, ap, subst, ◌∙◌}
-use Rattle.std.specs.Prelude.{IfErr, IfOk, IsSome, OnOk, is_some}
+use Rattle.std.proofs.Common.{◌≡◌, ℕ, Bool, true, List, Option, Some, None, Result, Ok, Err, sym, ap, subst, ◌∙◌, true≢false}
+use Rattle.std.specs.Prelude.{IfErr, IfOk, IsSome, MatchOption, OnOk, is_some}
 use Rattle.std.proofs.lemmas.Bool.{false≢true}
 use Rattle.crash_plant.specs.Moments.{PlantState}
 use Rattle.pair_table.specs.Tables.{Table}
@@ -11,7 +11,7 @@ use Rattle.xrc_status.specs.declared.stop.Stop.{Stop}
 use Rattle.xrc_session.specs.declared.kept.SessionParts.{SessionParts}
 use Rattle.xrc_session.specs.declared.place.SessionPlace.{SessionPlace}
 use Rattle.xrc_session.specs.declared.place.SessionPlace.TheVariants.{Started, Unstarted}
-use Rattle.xrc_session.specs.LinePauses.{IsBetween}
+use Rattle.xrc_session.specs.LinePauses.{IsAtSite, IsBetween, IsUnstarted}
 use Rattle.xrc_session.specs.Lanes.{AllWent}
 use Rattle.xrc_session.specs.States.{SessionState, site_in, table_in}
 use Rattle.xrc_session.specs.Stops.{HasStopCause, StopsByCount}
@@ -47,6 +47,11 @@ started_at session controls kept site ended s same = ap (λ (x : SessionState). 
 
 pub never_none : (session : List ℕ) (controls : ℕ) (kept : SessionParts) (site : SiteState) (ended : Bool) (s : SessionState) → session_on session controls kept site ended ≡ s → s.site ≡ None → ⊥
 never_none session controls kept site ended s same none = let clash : Some site ≡ None = ap (λ (x : SessionState). x.site) same ∙ none in absurd cc
+
+-- A session that hasn't started hasn't ended.
+pub unstarted_goes_on : {S : Type 0} (tells : Type 0) (s : SessionState) (lanes : List (Lane S)) (plant : PlantState) → IsBetween tells s lanes plant → s.site ≡ None → s.is_ended ≡ true → ⊥
+unstarted_goes_on {S} tells s lanes plant between none ended =
+    true≢false (sym ended ∙ (subst (λ (o : Option SiteState). MatchOption o (IsUnstarted s lanes) (IsAtSite tells s lanes plant)) none between.place).goes_on)
 
 -- ---- results
 

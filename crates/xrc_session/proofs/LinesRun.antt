@@ -33,7 +33,7 @@ use Rattle.xrc_session.specs.States.{SessionState, session_time}
 use Rattle.xrc_session.specs.Trails.{GoesForth, Trail, BeginsAtStart, StandsOnTrail}
 use Rattle.xrc_session.proofs.Consoles.{behind_heard, behind_on}
 use Rattle.xrc_session.proofs.HeardLines.{HasHeardLines, next_is_line}
-use Rattle.xrc_session.proofs.AppliedEnds.{applies_on}
+use Rattle.xrc_session.proofs.AppliedEnds.{stays_on}
 use Rattle.xrc_session.proofs.Hearings.{hearing_goes_on}
 use Rattle.xrc_session.proofs.Labelled.{labels_since, labels_still}
 use Rattle.xrc_session.proofs.InTurn.{NoneFell, NoneRisen, rises_before}
@@ -61,7 +61,7 @@ module _ {S : Type 0} (run : ScriptRun) (lines : List Answered) (trail : Trail) 
         behind_on tells old new works told run lines (stage_behind run lines text began) trail s began answered.goes.now.site answered.goes.now.later
         (behind_heard run lines (stage_behind run lines [] began) (stage_behind run lines text began).next trail s began old (answered.goes.now.heard ∙ ap (λ (l : List ℕ). began.heard began.clock ++ l) (append-nil (texts_of lines))) answered.goes.now.said answered.stands);
     broke = answered.broke;
-    applied = applies_on run lines began old new answered.goes.now.later works.site (works.elapses told) answered.applied;
+    applied = stays_on tells told run lines began old new works answered.applied;
   }
 
   -- A line that was heard whole is the next one.

@@ -18,7 +18,7 @@ use Rattle.xrc_command.specs.declared.line.Line.{Line}
 use Rattle.xrc_status.specs.Saying.{SaidWhole}
 use Rattle.xrc_status.specs.declared.stop.Stop.TheVariants.{ConsoleFault}
 use Rattle.xrc_session.specs.declared.answering.LineAnswer.{LineAnswer}
-use Rattle.xrc_session.specs.AppliedEnds.{AppliesBeforeReply, AppliesEnds, IsAllApplied}
+use Rattle.xrc_session.specs.AppliedEnds.{IsAllApplied, StaysApplied, StaysAppliedBehind}
 use Rattle.xrc_session.specs.LinePauses.{HasAnswered, HasNotBegun, RestsAtSite, StandsBehindLines, stage_behind}
 use Rattle.xrc_session.specs.Ends.{StopsInLine}
 use Rattle.xrc_session.specs.Replying.{reply_composed}
@@ -26,7 +26,7 @@ use Rattle.xrc_session.specs.States.{SessionState}
 use Rattle.xrc_session.specs.Steps.{IsExactBehind, IsToReply, line_answered}
 use Rattle.xrc_session.specs.Stops.{RepliesInPart}
 use Rattle.xrc_session.specs.Trails.{AreExact, GoesForth, Trail, first_leg, BeginsAtStart, StandsOnTrail}
-use Rattle.xrc_session.proofs.AppliedEnds.{applied_still, applies_before, applies_more, applies_on, said_before}
+use Rattle.xrc_session.proofs.AppliedEnds.{applied_still, applies_before, said_before, stays_more, stays_on}
 use Rattle.xrc_session.proofs.Consoles.{behind_on}
 use Rattle.xrc_session.proofs.Courses.{none_next}
 use Rattle.xrc_session.proofs.Exactly.{exact_more}
@@ -59,20 +59,20 @@ module _ {S : Type 0} (run : ScriptRun) (lines : List Answered) (trail : Trail) 
   later : mid.clock ≤ new.clock
   later = ((works.elapses told).kept Control).later
 
-  -- It was before the reply.
-  before_now : 0 < began.clock → (stage_behind run (lines ++ a ∷ []) [] began).table.is_ended ≡ true → AppliesBeforeReply lines began new new.clock
-  before_now up ended = applies_before tells told lines began mid new works to.goes.now.later (said_before run lines text began mid (to.goes.keeps up)) (to.applied reply ended) up
+  -- So it is from the reply's first byte on.
+  stays_now : 0 < began.clock → (stage_behind run (lines ++ a ∷ []) [] began).table.is_ended ≡ true → StaysAppliedBehind lines began new
+  stays_now up ended = applies_before tells told lines began mid new works to.goes.now.later (said_before run lines text began mid (to.goes.keeps up)) (to.applied reply ended) up
 
   -- Once it was said whole, the line is answered.
-  pub said_whole : AppliesEnds run lines began mid → SaidWhole reply mid new → HasAnswered run (lines ++ a ∷ []) trail [] s lanes began new
-  said_whole ends whole =
+  pub said_whole : StaysApplied run lines began mid → SaidWhole reply mid new → HasAnswered run (lines ++ a ∷ []) trail [] s lanes began new
+  said_whole stays whole =
       let on = replies_go_on run lines (first_leg run (lines ++ a ∷ []) trail) trail.points a began mid new to.goes may tells told works says whole in
       record {
         goes = on;
         exact = exact_all;
         stands = stands;
         broke = to.broke;
-        applied = applies_more run lines a began new (omega (arith, to.goes.now.later, later)) on.now.said applied_now before_now (applies_on run lines began mid new to.goes.now.later works.site (works.elapses told) ends);
+        applied = stays_more run lines a began new applied_now stays_now (stays_on tells told run lines began mid new works stays);
       }
 
   in_part : RepliesInPart run lines a began new
@@ -85,7 +85,7 @@ module _ {S : Type 0} (run : ScriptRun) (lines : List Answered) (trail : Trail) 
         script = to.goes.now.script ∙ ap (λ (l : List ℕ). texts_of lines ++ text ++ l) (sym says.script) ∙ ap (λ (l : List ℕ). l ++ new.script) (sym (texts_more lines a));
         front = (said.0, said.1, said.2 ∙ ap (λ (l : List ℕ). l ++ take said.0 reply) to.goes.now.said ∙ append_assoc (began.said began.clock) (replies_of lines) (take said.0 reply));
         applied = applied_now;
-        before = before_now;
+        stays = stays_now;
         bears = λ up. replies_fail run lines (first_leg run (lines ++ a ∷ []) trail) trail.points a began mid new to.goes may tells told works says up;
         bears_now = bears_behind run lines (first_leg run (lines ++ a ∷ []) trail) trail.points a began mid new to.goes may tells told works;
       }

@@ -1,6 +1,6 @@
 -- A line whose reply is said, once it was done.
 use Rattle.xrc_session.proofs.Growing.{says_grows}
-use Rattle.std.proofs.Common.{◌≡◌, ℕ, ◌≤◌, List, ◌++◌, length, Option, Some, None, Result, Ok, Err, refl, sym, ap, ◌∙◌, arith}
+use Rattle.std.proofs.Common.{◌≡◌, inl, inr, ℕ, ◌≤◌, true, List, ◌++◌, length, Option, Some, None, Result, Ok, Err, refl, sym, ap, ◌∙◌, arith}
 use Rattle.std.specs.Prelude.{IfSome, IsSomeAnd}
 use Rattle.xrc_edge.specs.Causes.{Rose}
 use Rattle.crash_plant.specs.Calls.{HearsNothing, Silent, WorksOnConsole}
@@ -33,7 +33,7 @@ use Rattle.xrc_session.specs.Starting.{BeginsByLine, RepliesToStart, StandsBehin
 use Rattle.xrc_session.specs.States.{SessionState}
 use Rattle.xrc_session.specs.Steps.{AnswersLine, DoesLine, known_by, line_answered}
 use Rattle.xrc_session.specs.Stops.{HasStopCause, StopsByCount}
-use Rattle.xrc_session.proofs.AppliedEnds.{applies_on}
+use Rattle.xrc_session.proofs.AppliedEnds.{stays_on, stays_worked}
 use Rattle.xrc_session.proofs.Consoles.{between_on}
 use Rattle.xrc_session.proofs.InTurn.{NoneFell, NoneRisen, cause_before, fell_then, keeps_console, keeps_then, none_risen_then, suspends_same, suspends_then}
 use Rattle.xrc_session.proofs.LinesBefore.{started_command}
@@ -92,7 +92,7 @@ module _ {S : Type 0} (tells : Type 0) (left : S → Option (List ℕ)) (s next 
 
   -- ---- in a run
 
-  module _ (told : tells) (began : PlantState) (went : length after ≡ length lanes) (does : let r : Result LineAnswer Stop = Ok answered in DoesLine left line s next lanes after began old mid r) where
+  module _ (told : tells) (began : PlantState) (went : length after ≡ length lanes) (between : IsBetween tells s lanes old) (untouched : s.is_ended ≡ true → mid ≡ old) (does : let r : Result LineAnswer Stop = Ok answered in DoesLine left line s next lanes after began old mid r) where
     pub spoken_whole : SaidWhole reply mid new → (let r : Result (Unit {0}) Stop = Ok tt in AnswersLine left line s next lanes after began old new r)
     spoken_whole whole run lines trail text over heard =
         let over_mid : IsRunOver left run (known_by s next) lanes after began mid = record { its = over.its; heads = over.heads; traces = over.traces; rises = λ d. let both = over.rises d in let same = works.faults (Volume d) in (omega (arith, both.0, same), omega (arith, both.1, same)) } in
@@ -101,15 +101,18 @@ module _ {S : Type 0} (tells : Type 0) (left : S → Option (List ℕ)) (s next 
           line_answered run lines text line ends.1.changes ends.1.hits began reply,
           refl,
           refl,
-          (ends.0, said_whole run lines ends.0 text line answered next after began mid new ends.1 (between_told tells next after mid done.between) many reply composed tells told works (says.front.moments told) (applies_on run lines began old mid heard.answered.goes.now.later keeps.site (keeps.elapses told) heard.answered.applied) whole, ends.1.wants reply),
+          (ends.0, said_whole run lines ends.0 text line answered next after began mid new ends.1 (between_told tells next after mid done.between) many reply composed tells told works (says.front.moments told) (stays_worked tells run lines trail text s lanes began old mid between untouched heard.answered) whole, ends.1.wants reply),
         )
 
     pub spoken_part : (let r : Result (Unit {0}) Stop = Err ConsoleFault in AnswersLine left line s next lanes after began old new r)
     spoken_part run lines trail text over heard =
         let over_mid : IsRunOver left run (known_by s next) lanes after began mid = record { its = over.its; heads = over.heads; traces = over.traces; rises = λ d. let both = over.rises d in let same = works.faults (Volume d) in (omega (arith, both.0, same), omega (arith, both.1, same)) } in
         let ends = does run lines trail text over_mid heard in
-        let many : length run.traces ≡ length after = as_many lanes run.traces over.heads ∙ sym went in
-        said_in_part run lines ends.0 text line answered next after began mid new ends.1 (between_told tells next after mid done.between) many reply composed tells told works (says.front.moments told)
+        let many : length run.traces ≡ length after = as_many lanes run.traces over.heads ∙ sym went in (
+          said_in_part run lines ends.0 text line answered next after began mid new ends.1 (between_told tells next after mid done.between) many reply composed tells told works (says.front.moments told),
+          stays_on tells told run lines began mid new works (stays_worked tells run lines trail text s lanes began old mid between untouched heard.answered),
+          λ ended. inr (inl refl),
+        )
 
   -- ---- the start
 

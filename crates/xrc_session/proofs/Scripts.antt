@@ -1,6 +1,7 @@
 -- The run of a script as a whole.
 use Rattle.std.proofs.Common.{◌≡◌, ◌⊎◌, inl, inr, ℕ, ◌+◌, ◌-◌, true, List, [], ◌∷◌, ◌++◌, length, Option, Some, None, Result, Ok, Err, refl, sym, ap, subst, ◌∙◌, append-nil, arith}
-use Rattle.std.specs.Prelude.{IfErr, IfSome, IsErrOf, MatchOption}
+use Rattle.std.specs.Prelude.{IfErr, IfSome, IsErrOf, IsOk, IsTrue, MatchOption}
+use Rattle.std.proofs.lemmas.Bool.{false≢true}
 use Rattle.tod_stamp.specs.Names.{is_session}
 use Rattle.crash_plant.specs.declared.device.Device.TheVariants.{Control, Volume}
 use Rattle.crash_plant.specs.Calls.{Elapses, SameSite, Silent}
@@ -15,7 +16,7 @@ use Rattle.record_rows.specs.Hits.{hit_now}
 use Rattle.site_store.specs.IdleSites.{IsSiteIdle}
 use Rattle.site_store.specs.Sites.{SiteState}
 use Rattle.consistency.specs.Stages.{ScriptRun}
-use Rattle.consistency.specs.Courses.{Answered, last_line_time}
+use Rattle.consistency.specs.Courses.{Answered, last_line_time, stage_at}
 use Rattle.consistency.specs.Replying.{HasRunNames}
 use Rattle.consistency.proofs.Between.{runs_begin}
 use Rattle.script_lines.specs.NextLines.{IsNextLine}
@@ -24,8 +25,8 @@ use Rattle.mover.specs.declared.lane.Lane.{Lane}
 use Rattle.mover.specs.Epochs.{AllTurnOut}
 use Rattle.xrc_status.specs.declared.stop.Stop.{Stop}
 use Rattle.xrc_status.specs.declared.stop.Stop.TheVariants as stops
-use Rattle.xrc_session.specs.AppliedEnds.{AppliesEnds}
-use Rattle.xrc_session.proofs.AppliedEnds.{applies_on}
+use Rattle.xrc_session.specs.AppliedEnds.{StaysApplied}
+use Rattle.xrc_session.proofs.AppliedEnds.{ended_answered, stays_worked}
 use Rattle.xrc_session.specs.LinePauses.{IsAtSite, IsBetween, IsRunOfSession, IsRunOver, IsUnstarted, RisesCover}
 use Rattle.xrc_session.specs.Lanes.{AllTold, AllWent, AreTracesGiven, HaveHeadsOf, SourceBytes, TurnOutFrom, trace_given}
 use Rattle.xrc_session.specs.Lines.{MayFinish}
@@ -165,7 +166,8 @@ module _ {S : Type 0} (tells : Type 0) (left : S → Option (List ℕ)) (faults 
               };
               bad = λ bad. absurd (none_bad tells 1 0 old.script bad);
               of_bad = λ n is. let clash : stops.NoMemory ≡ stops.BadLine n = sym memory ∙ is in absurd cc;
-              applied = λ up number below. absurd (omega (arith, below));
+              applied = λ number below. absurd (omega (arith, below));
+              behind_end = λ ended. inl memory;
             };
           }
 
@@ -207,24 +209,25 @@ module _ {S : Type 0} (tells : Type 0) (left : S → Option (List ℕ)) (faults 
       record { run = k.run; over = k.over; lines = ends.0; text = ends.1.0; ends = subst (λ (p : PlantState). StopsAtLine tells k.run ends.0 ends.1.0 old p stop) (sym same) ends.1.1 }
 
   -- It comes to the script's end, and is finished.
-  pub lines_finish : (done : Unit {0}) (result : Result (Unit {0}) Stop) → (let r : Result (Unit {0}) Stop = Ok done in RunsLines tells left session s opened last old mid r) → FinishesRuns s old mid new result → IfErr result (HasStopCause mid new) → SameSite mid new → Elapses mid new
+  pub lines_finish : (done : Unit {0}) (result : Result (Unit {0}) Stop) → (let r : Result (Unit {0}) Stop = Ok done in RunsLines tells left session s opened last old mid r) → FinishesRuns s old mid new result → IfErr result (HasStopCause mid new) → IsBetween tells s last mid → (s.is_ended ≡ true → (new ≡ mid) × IsOk result)
       → RunsTold tells left faults session storage before last old new result
-  lines_finish done result runs finishes cause site past sources below told none =
+  lines_finish done result runs finishes cause between untouched sources below told none =
       let given = given_traces storage old sources none in
       let k = known_of sources given.0 given.1 runs.known runs.is_known in
       let over = over_lines sources given.0 given.1 runs.known below told k in
       let ends = runs.each k.run over.0 in
       let answered = ends.1.1 in
       let finished = finishes k.run ends.0 ends.1.0 over.1 ends.2 answered.goes answered.exact answered.stands in
-      record { run = k.run; over = k.over; lines = ends.0; text = []; ends = by_result k.run ends.0 result cause finished (applies_on k.run ends.0 old mid new answered.goes.now.later site past answered.applied) }
+      record { run = k.run; over = k.over; lines = ends.0; text = []; ends = by_result k.run ends.0 result cause finished (stays_worked tells k.run ends.0 ends.1.0 [] s last old mid new between (λ ended. (untouched ended).0) answered) (λ ended. (untouched (ended_answered tells k.run ends.0 ends.1.0 [] s last old mid between answered ended)).1) }
     where
-      by_result : (run : ScriptRun) (lines : List Answered) (r : Result (Unit {0}) Stop) → IfErr r (HasStopCause mid new) → EndsFinishing run lines old new r → AppliesEnds run lines old new → EndsScript tells run lines [] old new r
-      by_result run lines (Ok value) why finished applied = (refl, finished, applied)
-      by_result run lines (Err stop) why finished applied = record {
+      by_result : (run : ScriptRun) (lines : List Answered) (r : Result (Unit {0}) Stop) → IfErr r (HasStopCause mid new) → EndsFinishing run lines old new r → StaysApplied run lines old new → (IsTrue (stage_at run lines (length lines)).table.is_ended → IsOk r) → EndsScript tells run lines [] old new r
+      by_result run lines (Ok value) why finished applied done = (refl, finished, applied)
+      by_result run lines (Err stop) why finished applied done = record {
         stops = finished;
         bad = λ bad. absurd (none_bad tells (length lines + 1) (last_line_time lines (length lines)) new.script bad);
         of_bad = λ n is. absurd (no_bad n (subst (λ (x : Stop). HasStopCause mid new x) is why));
         applied = applied;
+        behind_end = λ ended. absurd (false≢true (done ended));
       }
         where
           no_bad : (n : ℕ) → HasStopCause mid new (stops.BadLine n) → ⊥

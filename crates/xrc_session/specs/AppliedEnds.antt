@@ -1,5 +1,5 @@
--- What is so behind the lines by which a session has ended: all is applied and marked.
-use Rattle.std.specs.Prelude.{◌≡◌, ◌⊎◌, ℕ, suc, ◌<◌, ◌≤◌, List, [], ◌++◌, length, take, IsTrue}
+-- What is so behind the lines by which a session has ended: all is applied and marked, and stays so.
+use Rattle.std.specs.Prelude.{◌≡◌, ℕ, suc, ◌<◌, ◌≤◌, List, [], ◌++◌, length, take, IsTrue}
 use Rattle.crash_plant.specs.Choices.{AtMoment}
 use Rattle.crash_plant.specs.Moments.{PlantState}
 use Rattle.site_means.specs.declared.means.Means.{Means}
@@ -22,32 +22,11 @@ pub record HasEmptyWalk (plant : PlantState) (images : Images) : Type 0 where
 abbrev pub IsAllApplied : PlantState → (t : ℕ) → Type 0
 IsAllApplied plant t = AtMoment (HasEmptyWalk plant) plant t
 
--- Behind these lines all is applied before any of the next reply is said: at each moment, up to this one, at which more was said than their replies,
--- all is applied.
-abbrev pub AppliesBeforeReply : List Answered → (began now : PlantState) → (at : ℕ) → Type 0
-AppliesBeforeReply lines began now at = (t : ℕ) → began.clock ≤ t → t ≤ at → length (began.said began.clock ++ replies_of lines) < length (now.said t) → IsAllApplied now t
+-- From the first byte of the next reply behind these lines all stays applied, to now: at each moment at which more was said than their replies.
+abbrev pub StaysAppliedBehind : List Answered → (began now : PlantState) → Type 0
+StaysAppliedBehind lines began now = (t : ℕ) → began.clock ≤ t → t ≤ now.clock → length (began.said began.clock ++ replies_of lines) < length (now.said t) → IsAllApplied now t
 
--- So it was behind the line with a number. By a moment the replies up to its own were said whole, and nothing more: all is applied then, and was
--- before its reply.
-pub record AppliesBehind (lines : List Answered) (number : ℕ) (began now : PlantState) : Type 0 where
-  pub at : ℕ
-  pub since : began.clock ≤ at
-  pub within : at ≤ now.clock
-  pub said : now.said at ≡ began.said began.clock ++ replies_of (take (suc number) lines)
-  pub applied : IsAllApplied now at
-  pub before : AppliesBeforeReply (take number lines) began now at
-
--- So it is behind the last line, whose reply may be cut: all is applied at the end, and was before as much of its reply as was said.
-pub record AppliesBehindLast (lines : List Answered) (number : ℕ) (began now : PlantState) : Type 0 where
-  pub is_last : suc number ≡ length lines
-  pub applied : IsAllApplied now now.clock
-  pub before : AppliesBeforeReply (take number lines) began now now.clock
-
--- So it was behind each of these lines behind which the session has ended, where the plant keeps its past.
-abbrev pub AppliesEnds : ScriptRun → List Answered → (began now : PlantState) → Type 0
-AppliesEnds run lines began now = 0 < began.clock → (number : ℕ) → number < length lines → IsTrue (stage_at run lines (suc number)).table.is_ended → AppliesBehind lines number began now
-
--- The same, but the last line's reply may be cut.
-abbrev pub AppliesEndsSoFar : ScriptRun → List Answered → (began now : PlantState) → Type 0
-AppliesEndsSoFar run lines began now = 0 < began.clock → (number : ℕ) → number < length lines → IsTrue (stage_at run lines (suc number)).table.is_ended
-    → AppliesBehind lines number began now ⊎ AppliesBehindLast lines number began now
+-- From the first byte of the reply to a line behind which the session has ended, all stays applied and marked, to now. Now it is so also on a plant
+-- that keeps no past.
+abbrev pub StaysApplied : ScriptRun → List Answered → (began now : PlantState) → Type 0
+StaysApplied run lines began now = (number : ℕ) → number < length lines → IsTrue (stage_at run lines (suc number)).table.is_ended → IsAllApplied now now.clock × (0 < began.clock → StaysAppliedBehind (take number lines) began now)

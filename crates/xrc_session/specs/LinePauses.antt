@@ -28,7 +28,7 @@ use Rattle.consistency.specs.Pauses.{RunGoesOn}
 use Rattle.consistency.specs.Leads.{Point}
 use Rattle.consistency.specs.Replying.{HasRunNames}
 use Rattle.consistency.specs.Ways.{IsLegOf, Leg, PassedPoint, is_ending, stage_point}
-use Rattle.xrc_session.specs.AppliedEnds.{AppliesEnds}
+use Rattle.xrc_session.specs.AppliedEnds.{StaysApplied}
 use Rattle.xrc_session.specs.EpochPauses.{StandsBetween}
 use Rattle.xrc_session.specs.Taking.{IsSoundForRows}
 use Rattle.mover.specs.declared.lane.Lane.{Lane}
@@ -200,10 +200,10 @@ abbrev pub stage_behind : ScriptRun → List Answered → (text : List ℕ) → 
 stage_behind run lines text began = stage_now run began.script lines text
 
 -- A session has answered these lines in a run since a plant's state, each exactly, has heard so much of the next one, and stands behind them. Its
--- lanes have broken as their traces do below its time. Behind each line behind which it has ended all was applied.
+-- lanes have broken as their traces do below its time. Behind a line behind which it has ended all stays applied.
 pub record HasAnswered {S : Type 0} (run : ScriptRun) (lines : List Answered) (trail : Trail) (text : List ℕ) (s : SessionState) (lanes : List (Lane S)) (began now : PlantState) : Type 0 where
   pub goes : RunGoesOn run lines text began now
   pub exact : AreExact run lines trail
   pub stands : StandsBehindLines run lines (stage_behind run lines text began) trail s began now
   pub broke : LanesBrokeAs (session_time s) run.traces lanes
-  pub applied : AppliesEnds run lines began now
+  pub applied : StaysApplied run lines began now

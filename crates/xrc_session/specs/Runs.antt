@@ -1,5 +1,5 @@
 -- How a run of a script ends.
-use Rattle.std.specs.Prelude.{◌≡◌, ◌⊎◌, ℕ, ◌+◌, ◌<◌, ◌≤◌, List, [], ◌∷◌, ◌++◌, length, take, Option, Some, None, Result, Ok, Err, false, OnOk, IfSome}
+use Rattle.std.specs.Prelude.{◌≡◌, ◌⊎◌, ℕ, ◌+◌, ◌<◌, ◌≤◌, List, [], ◌∷◌, ◌++◌, length, take, Option, Some, None, Result, Ok, Err, false, OnOk, IfSome, IsTrue}
 use Rattle.std.specs.List.{All}
 use Rattle.xrc_edge.specs.Causes.{Rose}
 use Rattle.crash_plant.specs.declared.device.Device.TheVariants.{Volume}
@@ -9,7 +9,7 @@ use Rattle.pair_table.specs.Naming.{Naming}
 use Rattle.volume_label.specs.Labels.{label_of}
 use Rattle.volume_label.specs.declared.label.Label.{Label}
 use Rattle.consistency.specs.Stages.{ScriptRun}
-use Rattle.consistency.specs.Courses.{Answered, last_line_time}
+use Rattle.consistency.specs.Courses.{Answered, last_line_time, stage_at}
 use Rattle.script_lines.specs.NextLines.{IsNextLine}
 use Rattle.script_lines.specs.Texts.{has_feed}
 use Rattle.script_lines.specs.declared.next.Next.TheVariants.{Bad}
@@ -18,9 +18,10 @@ use Rattle.xrc_status.specs.declared.stop.Stop.TheVariants.{BadLine, ConsoleFaul
 use Rattle.xrc_session.specs.Ends.{IsRunDone, StopsInLine}
 use Rattle.mover.specs.declared.lane.Lane.{Lane}
 use Rattle.mover.specs.Moves.{most_faults}
-use Rattle.xrc_session.specs.AppliedEnds.{AppliesEnds}
+use Rattle.xrc_session.specs.AppliedEnds.{StaysApplied}
 use Rattle.xrc_session.specs.LinePauses.{HasAnswered, IsRunOver}
 use Rattle.xrc_session.specs.States.{SessionState}
+use Rattle.xrc_session.specs.Stops.{IsStopBehindEnd}
 use Rattle.xrc_session.specs.Lanes.{AllTold, AreTracesGiven, SourceBytes}
 use Rattle.xrc_session.specs.Openings.{opening_stop}
 use Rattle.xrc_session.specs.Trails.{Trail}
@@ -76,12 +77,14 @@ abbrev pub IsBadBehind : (tells : Type 0) → List Answered → (text left : Lis
 IsBadBehind tells lines text left = IsNextLine tells (length lines + 1) (last_line_time lines (length lines)) text left Bad
 
 -- A run stopped behind its lines. The stop is that of a bad line exactly if one was heard, with its number. A last line without a line feed is heard
--- only once the script's end was told, which the console may fail to do. Behind each of the lines behind which the session has ended all was applied.
+-- only once the script's end was told, which the console may fail to do. Behind a line behind which the session has ended all stays applied,
+-- and no device stops the run.
 pub record StopsAtLine (tells : Type 0) (run : ScriptRun) (lines : List Answered) (text : List ℕ) (began now : PlantState) (stop : Stop) : Type 0 where
   pub stops : StopsInLine run lines text began now stop
   pub bad : IsBadBehind tells lines text now.script → (stop ≡ BadLine (length lines + 1)) ⊎ ((stop ≡ ConsoleFault) × (has_feed text ≡ false))
   pub of_bad : (n : ℕ) → stop ≡ BadLine n → (n ≡ length lines + 1) × IsBadBehind tells lines text now.script
-  pub applied : AppliesEnds run lines began now
+  pub applied : StaysApplied run lines began now
+  pub behind_end : IsTrue (stage_at run lines (length lines)).table.is_ended → IsStopBehindEnd stop
 
 -- How the lines of a script end: the script was heard to its end and each line was answered, or the run stopped behind its lines.
 abbrev pub EndsLines : {S : Type 0} → (tells : Type 0) → ScriptRun → SessionState → List (Lane S) → (began now : PlantState) → Result (Unit {0}) Stop → Type 0
@@ -96,7 +99,7 @@ AreCountsBelow plant = (d : ℕ) → plant.faults (Volume d) < most_faults
 
 -- How a run of a script ends: done, or stopped behind its lines, where so much was heard of the next one.
 abbrev pub EndsScript : (tells : Type 0) → ScriptRun → List Answered → (text : List ℕ) → (began now : PlantState) → Result (Unit {0}) Stop → Type 0
-EndsScript tells run lines text began now (Ok done) = (text ≡ []) × ((trail : Trail) × IsRunDone run lines trail began now) × AppliesEnds run lines began now
+EndsScript tells run lines text began now (Ok done) = (text ≡ []) × ((trail : Trail) × IsRunDone run lines trail began now) × StaysApplied run lines began now
 EndsScript tells run lines text began now (Err stop) = StopsAtLine tells run lines text began now stop
 
 -- What a run of a script has done when it ends, once its headers were good: its run, the lines that it answered, and what was heard of the next one.

@@ -26,10 +26,11 @@ use Rattle.xrc_status.specs.declared.stop.Stop.{Stop}
 use Rattle.xrc_status.specs.declared.stop.Stop.TheVariants.{NoMemory}
 use Rattle.xrc_session.specs.declared.answering.LineAnswer.{LineAnswer}
 use Rattle.xrc_session.specs.declared.kept.SessionParts.{SessionParts}
-use Rattle.xrc_session.specs.AppliedEnds.{IsAllApplied}
+use Rattle.xrc_session.specs.AppliedEnds.{IsAllApplied, StaysApplied}
 use Rattle.xrc_session.specs.MapsOwed.{HasCutOrNoRow}
 use Rattle.xrc_session.specs.LinePauses.{GoesOnFrom, HasAnswered, IsRunOver, RisesCover, StandsAtLeg, StandsBehindLines, stage_behind}
 use Rattle.xrc_session.specs.Ends.{IsRunDone, StopsInLine}
+use Rattle.xrc_session.specs.Stops.{IsStopBehindEnd}
 use Rattle.xrc_session.specs.States.{SessionState, session_time}
 use Rattle.xrc_session.specs.Frames.{ChangesRows, rows_passed}
 use Rattle.xrc_session.specs.WrittenParts.{PassesInParts}
@@ -144,11 +145,13 @@ abbrev pub EndsDoing : {S : Type 0} → ScriptRun → List Answered → (text : 
 EndsDoing run lines text line s lanes began now (Ok answer) = (trail : Trail) × IsToReply run lines trail text line answer s lanes began now
 EndsDoing run lines text line s lanes began now (Err stop) = StopsInLine run lines text began now stop
 
--- A line that was answered, or in which the session stopped. A resume wants the tracks that the row owed.
+-- A line that was answered, or in which the session stopped. A resume wants the tracks that the row owed. Where the session had ended before the
+-- line, all stays applied, and no device stops it.
 abbrev pub EndsLine : {S : Type 0} → ScriptRun → List Answered → (text : List ℕ) → Line → SessionState → List (Lane S) → (began now : PlantState) → Result (Unit {0}) Stop → Type 0
 EndsLine run lines text line s lanes began now (Ok done) =
     (a : Answered) × (a.line ≡ line) × (a.text ≡ text) × ((trail : Trail) × HasAnswered run (lines ++ a ∷ []) trail [] s lanes began now × WantsAsOwed run lines trail text began a s)
-EndsLine run lines text line s lanes began now (Err stop) = StopsInLine run lines text began now stop
+EndsLine run lines text line s lanes began now (Err stop) =
+    StopsInLine run lines text began now stop × StaysApplied run lines began now × (IsTrue (stage_behind run lines text began).table.is_ended → IsStopBehindEnd stop)
 
 -- A session that was finished behind its lines, or that stopped meanwhile.
 abbrev pub EndsFinishing : ScriptRun → List Answered → (began now : PlantState) → Result (Unit {0}) Stop → Type 0

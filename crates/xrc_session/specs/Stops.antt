@@ -23,7 +23,7 @@ use Rattle.consistency.specs.Pauses.{RunGoesOn}
 use Rattle.consistency.specs.Leads.{Point}
 use Rattle.xrc_status.specs.declared.stop.Stop.{Stop}
 use Rattle.xrc_status.specs.declared.stop.Stop.TheVariants as stops
-use Rattle.xrc_session.specs.AppliedEnds.{AppliesBeforeReply, IsAllApplied}
+use Rattle.xrc_session.specs.AppliedEnds.{IsAllApplied, StaysAppliedBehind}
 use Rattle.xrc_session.specs.LinePauses.{stage_behind}
 use Rattle.xrc_session.specs.Trails.{AreExact, GoesForth, Trail, HasBegunTrail, StandsOnTrail}
 
@@ -67,6 +67,10 @@ HasStopCause old new stops.BadSite = ⊥
 abbrev pub HasRunCause : (old new : PlantState) → Stop → Type 0
 HasRunCause old new stop = HasStopCause old new stop ⊎ ((n : ℕ) × (stop ≡ stops.BadLine n))
 
+-- The stops of a run whose session has ended, where no device is called: a want of memory, a fault of the console, or a bad line.
+abbrev pub IsStopBehindEnd : Stop → Type 0
+IsStopBehindEnd stop = (stop ≡ stops.NoMemory) ⊎ ((stop ≡ stops.ConsoleFault) ⊎ ((n : ℕ) × (stop ≡ stops.BadLine n)))
+
 -- No count of the console, the control, the state or a journal rises but with its own stop, and none falls. The console's rises by one at most.
 pub record StopsByCount {T : Type 0} (old new : PlantState) (result : Result T Stop) : Type 0 where
   pub devices : (d : Device) → IsStore d → ¬ IsErrOf result (stop_of_device d) → new.faults d ≡ old.faults d
@@ -94,7 +98,7 @@ IsSpentNow plant = AtNow (AreNumbersSpent plant) plant
 
 -- The console failed within the reply to a line: a front of it was said behind the replies to the lines before, and each moment bears.
 --   applied: where the session has ended behind the line, all is applied and marked
---   before: if the plant keeps its past, so it was before any of the line's reply was said
+--   stays: if the plant keeps its past, so it was from the first byte of the line's reply on
 --   bears_now: whatever a crash leaves bears a time behind the line, also on a plant that keeps no past
 pub record RepliesInPart (run : ScriptRun) (lines : List Answered) (a : Answered) (began now : PlantState) : Type 0 where
   pub course : IsCourse run (lines ++ a ∷ [])
@@ -104,7 +108,7 @@ pub record RepliesInPart (run : ScriptRun) (lines : List Answered) (a : Answered
   pub front : (k : ℕ) × (k ≤ length a.reply) × (now.said now.clock ≡ began.said began.clock ++ (replies_of lines ++ take k a.reply))
   pub bears : 0 < began.clock → BearsThroughout run (lines ++ a ∷ []) began now
   pub applied : IsTrue (stage_behind run (lines ++ a ∷ []) [] began).table.is_ended → IsAllApplied now now.clock
-  pub before : 0 < began.clock → IsTrue (stage_behind run (lines ++ a ∷ []) [] began).table.is_ended → AppliesBeforeReply lines began now now.clock
+  pub stays : 0 < began.clock → IsTrue (stage_behind run (lines ++ a ∷ []) [] began).table.is_ended → StaysAppliedBehind lines began now
   pub bears_now : let s = stage_behind run (lines ++ a ∷ []) [] began in IsTrue s.table.is_started → AtNow (BearsTime run s (replies_of (lines ++ a ∷ [])) now) now
 
 -- How a run stands when a call stops it: the replies to the answered lines were said and nothing more, and so much was heard of the next line.

@@ -1,7 +1,7 @@
 //! The command of a line, done and logged.
 
 ghost use Rattle.std.specs.Option.{option_map};
-ghost use Rattle.std.specs.Prelude.{◌≡◌, [], true, false, Ok, Err, IfOk, IsSomeAnd, OnOk};
+ghost use Rattle.std.specs.Prelude.{◌≡◌, [], true, false, Ok, Err, IfErr, IfOk, IsSomeAnd, OnOk};
 ghost use Rattle.xrc_session.specs.Taking.{IsSoundForRows, tracks_to_copy};
 ghost use Rattle.record_rows.specs.Hits.{hit_now};
 ghost use Rattle.site_store.specs.IdleSites.{IsSiteIdle};
@@ -126,6 +126,7 @@ impl SessionParts {
         ensures names { self.new.names ≡ self.old.names }
         ensures taken { IfOk result (λ answered. self.new.group ≡ option_map (group_taken answered.answer site.old.told site.new.told) self.old.group) }
         ensures works { IsWorkOfStore P.tells site.old site.new (P.state plant.old) (P.state plant.new) result }
+        ensures behind_end { site.old.table.is_ended ≡ true → (plant.new ≡ plant.old) × IfErr result (λ stop. stop ≡ stops.NoMemory) }
         ensures answers { P.tells → (began : P) → AnswersCommands line.now self.old self.new site.old site.new (P.state began) (P.state plant.old) (P.state plant.new) result }
     {
         self.before.copy(site.table());
@@ -164,6 +165,7 @@ impl SessionParts {
         ensures names { self.new.names ≡ self.old.names }
         ensures taken { IfOk result (λ answered. site.new.table.is_ended ≡ false → self.new.group ≡ option_map (group_taken answered.answer site.old.told site.new.told) self.old.group) }
         ensures works { IsWorkOfStore P.tells site.old site.new (P.state plant.old) (P.state plant.new) result }
+        ensures behind_end { site.old.table.is_ended ≡ true → (plant.new ≡ plant.old) × IfErr result (λ stop. stop ≡ stops.NoMemory) }
         ensures answers { P.tells → (began : P) → AnswersCommands line.now self.old self.new site.old site.new (P.state began) (P.state plant.old) (P.state plant.new) result }
     {
         let answered = self.command(alloc, site, plant, line)?;

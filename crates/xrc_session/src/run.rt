@@ -1,6 +1,6 @@
 //! A session, line by line.
 
-ghost use Rattle.std.specs.Prelude.{◌≡◌, ◌⊎◌, ◌≤◌, true, false, Err, None, Some, IfErr, IfOk, IfSome, IsSome, OnOk};
+ghost use Rattle.std.specs.Prelude.{◌≡◌, ◌⊎◌, ◌≤◌, true, false, Err, None, Some, IfErr, IfOk, IfSome, IsOk, IsSome, OnOk};
 ghost use Rattle.crash_plant.specs.Calls.{HearsNothing, NoneLent, Silent};
 ghost use Rattle.consistency.specs.Stages.{ScriptRun};
 ghost use Rattle.mover.specs.Epochs.{AreSameLanes};
@@ -187,7 +187,7 @@ impl<V: Drop> SessionRun<V> {
         Ok(LineAnswer::plain(answer))
     }
 
-    /// Answers a line once the session has ended, at the time of its end.
+    /// Answers a line once the session has ended, at the time of its end. It calls no device.
     #[tactic(none)]
     fn answer_behind_end<R: Threads + Sync, S: Source, P: Plant<Volume = V>>(
         &mut self,
@@ -202,6 +202,7 @@ impl<V: Drop> SessionRun<V> {
         requires time { (1 ≤ line.now.time.0) × (session_time self.old ≤ line.now.time.0) }
         requires ended { self.old.is_ended ≡ true }
         ensures done { IfOk result (IsDoneLine P.tells self.old self.new line.now traces.now (P.state plant.new)) }
+        ensures untouched { (plant.new ≡ plant.old) × IfErr result (λ stop. stop ≡ stops.NoMemory) }
         ensures keeps { KeepsPlant P.tells (P.state plant.old) (P.state plant.new) }
         ensures silent { P.tells → Silent (P.state plant.old) (P.state plant.new) }
         ensures hits { OnOk result (SuspendsByCounts self.old.table.rows self.new.table.rows (P.state plant.old) (P.state plant.new)) }
@@ -269,6 +270,7 @@ impl<V: Drop> SessionRun<V> {
         requires started { IsSome self.old.site }
         requires time { (1 ≤ line.now.time.0) × (session_time self.old ≤ line.now.time.0) }
         ensures done { IfOk result (IsDoneLine P.tells self.old self.new line.now traces.new (P.state plant.new)) }
+        ensures behind_end { self.old.is_ended ≡ true → (plant.new ≡ plant.old) × IfErr result (λ stop. stop ≡ stops.NoMemory) }
         ensures keeps { KeepsPlant P.tells (P.state plant.old) (P.state plant.new) }
         ensures silent { P.tells → Silent (P.state plant.old) (P.state plant.new) }
         ensures went { AllWent S.left S.faults traces.old traces.new }
@@ -299,6 +301,7 @@ impl<V: Drop> SessionRun<V> {
         requires between { IsBetween P.tells self.old traces.old (P.state plant.old) }
         requires time { (1 ≤ line.now.time.0) × (session_time self.old ≤ line.now.time.0) }
         ensures done { IfOk result (IsDoneLine P.tells self.old self.new line.now traces.new (P.state plant.new)) }
+        ensures behind_end { self.old.is_ended ≡ true → (plant.new ≡ plant.old) × IfErr result (λ stop. stop ≡ stops.NoMemory) }
         ensures keeps { KeepsPlant P.tells (P.state plant.old) (P.state plant.new) }
         ensures silent { P.tells → Silent (P.state plant.old) (P.state plant.new) }
         ensures went { AllWent S.left S.faults traces.old traces.new }
@@ -373,6 +376,7 @@ impl<V: Drop> SessionRun<V> {
         plant: &mut P,
     ) -> Result<(), Stop>
         requires may { MayFinish P.tells self (P.state plant.old) }
+        ensures behind_end { self.is_ended ≡ true → (plant.new ≡ plant.old) × IsOk result }
         ensures keeps { KeepsPlant P.tells (P.state plant.old) (P.state plant.new) }
         // In each run behind its lines, at the script's end: all is applied and marked, or it stops meanwhile.
         ensures ends { P.tells → (began : P) → FinishesRuns self (P.state began) (P.state plant.old) (P.state plant.new) result }

@@ -19,4 +19,4 @@ returns-in-Err g c =
     let w = c.write_label.ensures in
     subst (λ (n : ℕ). EndsLabelling g.P.Plant.tells c.args.device c.args.label.now (g.P.Plant.state c.args.plant.now) (g.P.Plant.state c.say_stop-in-Err.new.plant) n) (sym c.say_stop-in-Err.ensures.status)
     (not_written g.P.Plant.tells c.args.device c.args.label.now (g.P.Plant.state c.args.plant.now) (g.P.Plant.state c.write_label.new.plant) (g.P.Plant.state c.say_stop-in-Err.new.plant)
-    (search rules) (search rules) w.others w.moments w.torn c.in-Err.ensures.cause.failed c.say_stop-in-Err.ensures.said)
+    (search rules) (search rules) w.others w.moments w.torn c.in-Err.ensures.cause.failed w.cause.by_one c.say_stop-in-Err.ensures.said)

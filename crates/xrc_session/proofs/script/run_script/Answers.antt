@@ -190,7 +190,7 @@ returns-clause-runs g c = λ told.
     (lines_finish tells left faults session c.as_bytes.ensures.valid storage before opened last old mid new c.in_ok-run.ensures.turn_out c.run_lines.ensures.went s (counts_fell old mid c.run_lines.result c.run_lines.ensures.counts) (counts_fell mid new result c.finish.ensures.counts) tt result
     (subst (λ (n : List ℕ). RunsLines tells left n s opened last old mid (Ok tt)) c.in_ok-run.ensures.fresh.session_is
     (subst (λ r. RunsLines tells left c.in_ok-run.run'.session s opened last old mid r) c.in_ok-run_lines.was (c.run_lines.ensures.lines told)))
-    (c.finish.ensures.ends told c.make.new.plant) c.finish.ensures.cause c.finish.ensures.keeps.site (c.finish.ensures.keeps.elapses told))
+    (c.finish.ensures.ends told c.make.new.plant) c.finish.ensures.cause c.in_ok-run_lines.ensures.between (λ ended. let left = c.finish.ensures.behind_end ended in (ap g.P.Plant.state left.0, left.1)))
 
 pub returns-clause-begins : goal.returns-clause-begins
 returns-clause-begins g c = λ told.

@@ -1,11 +1,13 @@
 -- A line's command is done or refused, and an end is marked.
-use Rattle.std.proofs.Common.{◌∙◌, true, Result, subst, sym, true≢false}
+use Rattle.std.proofs.Common.{◌≡◌, ◌∙◌, true, Result, subst, sym, true≢false}
+use Rattle.std.specs.Prelude.{IfErr}
 use Rattle.xrc_status.specs.declared.stop.Stop.{Stop}
+use Rattle.xrc_status.specs.declared.stop.Stop.TheVariants.{NoMemory}
 use Rattle.xrc_session.specs.declared.answering.LineAnswer.{LineAnswer}
 use Rattle.xrc_session.specs.Answering.{AnswersCommands, MarksOn}
 use Rattle.xrc_session.specs.Bringing.{IsWorkOfStore}
 use Rattle.xrc_session.proofs.AnswerEnding.{end_done, end_stops}
-use Rattle.xrc_session.proofs.AnswerEnds.{answered_end, answered_on, ended_work, next_ended, stopped_work}
+use Rattle.xrc_session.proofs.AnswerEnds.{answered_end, answered_on, ended_work, next_ended, stopped_work, was_on}
 use Rattle.xrc_session.proofs.Numbered.{given_on}
 use Rattle.xrc_session.proofs.kept.SessionParts.answer.Goals as goal
 
@@ -16,6 +18,12 @@ returns-in_err-answered-clause-works g c =
     let stop = c.in_err-answered.field-0.0 in
     subst (λ (r : Result LineAnswer Stop). IsWorkOfStore g.P.Plant.tells c.args.site.now c.command.new.site (g.P.Plant.state c.args.plant.now) (g.P.Plant.state c.command.new.plant) r)
     (c.in_err-answered.was ∙ sym (given_on c.from_residual.result stop c.from_residual.ensures)) c.command.ensures.works
+
+pub returns-in_err-answered-clause-behind_end : goal.returns-in_err-answered-clause-behind_end
+returns-in_err-answered-clause-behind_end g c ended =
+    let stop = c.in_err-answered.field-0.0 in
+    let left = c.command.ensures.behind_end ended in
+    (left.0, subst (λ (r : Result LineAnswer Stop). IfErr r (λ s. s ≡ NoMemory)) (c.in_err-answered.was ∙ sym (given_on c.from_residual.result stop c.from_residual.ensures)) left.1)
 
 pub returns-in_err-answered-clause-answers : goal.returns-in_err-answered-clause-answers
 returns-in_err-answered-clause-answers g c told began =
@@ -36,6 +44,9 @@ returns-then-not-is_end-clause-taken g c goes = c.in_ok-answered.ensures.taken
 pub returns-then-not-is_end-clause-works : goal.returns-then-not-is_end-clause-works
 returns-then-not-is_end-clause-works g c =
     subst (λ (r : Result LineAnswer Stop). IsWorkOfStore g.P.Plant.tells c.args.site.now c.command.new.site (g.P.Plant.state c.args.plant.now) (g.P.Plant.state c.command.new.plant) r) c.in_ok-answered.was c.command.ensures.works
+
+pub returns-then-not-is_end-clause-behind_end : goal.returns-then-not-is_end-clause-behind_end
+returns-then-not-is_end-clause-behind_end g c ended = ((c.command.ensures.behind_end ended).0, tt)
 
 pub returns-then-not-is_end-clause-answers : goal.returns-then-not-is_end-clause-answers
 returns-then-not-is_end-clause-answers g c told began =
@@ -63,6 +74,10 @@ returns-in_err-mark-clause-works g c =
     (stopped_work g.P.Plant.tells c.args.site.now c.command.new.site c.mark.new.site old mid new answered still.0 still.1 (stands.may.idle.may.idle ∙ sym c.requires.may.idle.may.idle)
     (subst (λ (r : Result LineAnswer Stop). IsWorkOfStore g.P.Plant.tells c.args.site.now c.command.new.site old mid r) c.in_ok-answered.was c.command.ensures.works)
     stop (subst (λ (r : Result (Unit {0}) Stop). IsWorkOfStore g.P.Plant.tells c.command.new.site c.mark.new.site mid new r) c.in_err-mark.was c.mark.ensures.works))
+
+pub returns-in_err-mark-clause-behind_end : goal.returns-in_err-mark-clause-behind_end
+returns-in_err-mark-clause-behind_end g c ended =
+    absurd (true≢false (sym ended ∙ was_on g.P.Plant.tells c.args.self.now.names c.args.line.now c.in_ok-answered.answered.answer c.args.site.now c.command.new.site (g.P.Plant.state c.command.new.plant) c.in_ok-answered.ensures.site c.requires.flag (sym c.is_end.ensures ∙ c.if-not-is_end.false)))
 
 pub returns-in_err-mark-clause-answers : goal.returns-in_err-mark-clause-answers
 returns-in_err-mark-clause-answers g c told began =
@@ -102,6 +117,10 @@ returns-clause-works g c =
     ended_work g.P.Plant.tells c.args.site.now c.command.new.site c.mark.new.site old mid new c.in_ok-answered.answered still.0 still.1 (stands.may.idle.may.idle ∙ sym c.requires.may.idle.may.idle)
     (subst (λ (r : Result LineAnswer Stop). IsWorkOfStore g.P.Plant.tells c.args.site.now c.command.new.site old mid r) c.in_ok-answered.was c.command.ensures.works)
     (subst (λ (r : Result (Unit {0}) Stop). IsWorkOfStore g.P.Plant.tells c.command.new.site c.mark.new.site mid new r) c.in_ok-mark.was c.mark.ensures.works)
+
+pub returns-clause-behind_end : goal.returns-clause-behind_end
+returns-clause-behind_end g c ended =
+    absurd (true≢false (sym ended ∙ was_on g.P.Plant.tells c.args.self.now.names c.args.line.now c.in_ok-answered.answered.answer c.args.site.now c.command.new.site (g.P.Plant.state c.command.new.plant) c.in_ok-answered.ensures.site c.requires.flag (sym c.is_end.ensures ∙ c.if-not-is_end.false)))
 
 pub returns-clause-answers : goal.returns-clause-answers
 returns-clause-answers g c told began =

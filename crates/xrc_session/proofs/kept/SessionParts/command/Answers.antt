@@ -1,9 +1,11 @@
 -- A line's command is done, or refused.
-use Rattle.std.proofs.Common.{◌≡◌, ◌∙◌, ℕ, List, Result, Ok, Err, ap, arith, refl, subst, sym}
+use Rattle.std.proofs.Common.{◌≡◌, ◌∙◌, ℕ, List, Result, Ok, Err, ap, arith, refl, subst, sym, true≢false}
+use Rattle.std.specs.Prelude.{IfErr}
 use Rattle.std.specs.Option.{option_map}
 use Rattle.pair_table.specs.Tables.{AreRowsSound, Table}
 use Rattle.pair_table.specs.declared.row.PairRow.{PairRow}
 use Rattle.xrc_status.specs.declared.stop.Stop.{Stop}
+use Rattle.xrc_status.specs.declared.stop.Stop.TheVariants.{NoMemory}
 use Rattle.xrc_session.specs.declared.answering.LineAnswer.{LineAnswer}
 use Rattle.xrc_session.specs.Answering.{AnswersCommands, ControlsCount, change_result, group_taken}
 use Rattle.xrc_session.specs.Bringing.{IsWorkOfStore}
@@ -25,6 +27,12 @@ returns-in_err-answer-clause-works g c =
     let left = without_memory (site ≡ c.args.site.now) c.command-done.result stop (sym c.answer_of.ensures ∙ c.in_err-answer.was) c.command-done.ensures.err in
     subst (λ (r : Result LineAnswer Stop). IsWorkOfStore g.P.Plant.tells c.args.site.now site plant plant r) (sym (given_on c.from_residual.result stop c.from_residual.ensures))
     (stops_work g.P.Plant.tells c.args.line.now c.args.self.now (record c.args.self.now { before = c.copy.new.self }) c.args.site.now site plant c.requires.may c.requires.flag left.0 refl stop left.1)
+
+pub returns-in_err-answer-clause-behind_end : goal.returns-in_err-answer-clause-behind_end
+returns-in_err-answer-clause-behind_end g c ended =
+    let stop = c.in_err-answer.field-0.0 in
+    let left = without_memory (c.command-done.new.self ≡ c.args.site.now) c.command-done.result stop (sym c.answer_of.ensures ∙ c.in_err-answer.was) c.command-done.ensures.err in
+    (refl, subst (λ (r : Result LineAnswer Stop). IfErr r (λ s. s ≡ NoMemory)) (sym (given_on c.from_residual.result stop c.from_residual.ensures)) (sym left.1))
 
 pub returns-in_err-answer-clause-answers : goal.returns-in_err-answer-clause-answers
 returns-in_err-answer-clause-answers g c told began =
@@ -74,6 +82,13 @@ returns-in_err-tracks-in-Ok-clause-works g c =
     (changed_work g.P.Plant.tells c.args.self.now.names c.args.line.now c.args.site.now c.command-done.new.self old c.requires.may c.in-Ok.change d.is d.done site new (Err stop)
     (subst (λ (r : Result ℕ Stop). IsWorkOfStore g.P.Plant.tells c.command-done.new.self site old new r) c.in_err-tracks-in-Ok.was c.log.ensures.works)))
 
+pub returns-in_err-tracks-in-Ok-clause-behind_end : goal.returns-in_err-tracks-in-Ok-clause-behind_end
+returns-in_err-tracks-in-Ok-clause-behind_end g c ended =
+    let d = was_done c.args.self.now.names c.args.line.now c.args.site.now c.command-done.new.self c.command-done.result c.answer_of.result c.in_ok-answer.answer c.in-Ok.change c.answer_of.ensures c.in_ok-answer.was c.in-Ok.is c.command-done.ensures.ok c.command-done.ensures.answer c.command-done.ensures.to_log in
+    let plant = g.P.Plant.state c.args.plant.now in
+    let from = done_from g.P.Plant.tells c.args.self.now.names c.args.line.now c.args.site.now c.command-done.new.self plant c.requires.may c.in-Ok.change d.is d.done in
+    absurd (true≢false (sym ended ∙ was_goes c.args.self.now.names c.args.line.now c.in-Ok.change c.args.site.now c.command-done.new.self plant from))
+
 pub returns-in_err-tracks-in-Ok-clause-answers : goal.returns-in_err-tracks-in-Ok-clause-answers
 returns-in_err-tracks-in-Ok-clause-answers g c told began =
     let d = was_done c.args.self.now.names c.args.line.now c.args.site.now c.command-done.new.self c.command-done.result c.answer_of.result c.in_ok-answer.answer c.in-Ok.change c.answer_of.ensures c.in_ok-answer.was c.in-Ok.is c.command-done.ensures.ok c.command-done.ensures.answer c.command-done.ensures.to_log in
@@ -109,6 +124,13 @@ returns-in_ok-tracks-in-Ok-clause-works g c =
     work_done_as g.P.Plant.tells c.args.site.now site old new c.in_ok-tracks-in-Ok.tracks (record { answer = Ok c.in-Ok.change; tracks = c.in_ok-tracks-in-Ok.tracks })
     (changed_work g.P.Plant.tells c.args.self.now.names c.args.line.now c.args.site.now c.command-done.new.self old c.requires.may c.in-Ok.change d.is d.done site new (Ok c.in_ok-tracks-in-Ok.tracks)
     (subst (λ (r : Result ℕ Stop). IsWorkOfStore g.P.Plant.tells c.command-done.new.self site old new r) c.in_ok-tracks-in-Ok.was c.log.ensures.works))
+
+pub returns-in_ok-tracks-in-Ok-clause-behind_end : goal.returns-in_ok-tracks-in-Ok-clause-behind_end
+returns-in_ok-tracks-in-Ok-clause-behind_end g c ended =
+    let d = was_done c.args.self.now.names c.args.line.now c.args.site.now c.command-done.new.self c.command-done.result c.answer_of.result c.in_ok-answer.answer c.in-Ok.change c.answer_of.ensures c.in_ok-answer.was c.in-Ok.is c.command-done.ensures.ok c.command-done.ensures.answer c.command-done.ensures.to_log in
+    let plant = g.P.Plant.state c.args.plant.now in
+    let from = done_from g.P.Plant.tells c.args.self.now.names c.args.line.now c.args.site.now c.command-done.new.self plant c.requires.may c.in-Ok.change d.is d.done in
+    absurd (true≢false (sym ended ∙ was_goes c.args.self.now.names c.args.line.now c.in-Ok.change c.args.site.now c.command-done.new.self plant from))
 
 pub returns-in_ok-tracks-in-Ok-clause-answers : goal.returns-in_ok-tracks-in-Ok-clause-answers
 returns-in_ok-tracks-in-Ok-clause-answers g c told began =

@@ -1,6 +1,6 @@
 -- A line is answered once the session has ended.
 use Rattle.std.proofs.Common.{arith}
-use Rattle.xrc_session.proofs.LinesOfEnd.{end_at, end_does_line, end_done, end_flag, end_hits, end_keeps, end_kept, end_may, end_same, end_silent}
+use Rattle.xrc_session.proofs.LinesOfEnd.{end_at, end_does_line, end_done, end_flag, end_hits, end_keeps, end_kept, end_may, end_same, end_silent, site_ended}
 use Rattle.xrc_session.proofs.LinesPlaces.{never_unstarted, session_at}
 use Rattle.xrc_session.proofs.run.SessionRun.answer_behind_end.Goals as goal
 
@@ -40,6 +40,11 @@ pub returns-clause-done : goal.returns-clause-done
 returns-clause-done g c =
     let same = session_at c.self.inside.session c.self.inside.controls c.self.inside.kept c.self.inside.place c.self.inside.ended c.args.self.now c.in-Started.site c.in-Started.is c.self.view_is in
     end_done g.P.Plant.tells c.self.inside.session c.self.inside.controls c.self.inside.kept c.in-Started.site c.self.inside.ended c.args.self.now same c.args.traces.now (g.P.Plant.state c.args.plant.now) c.requires.between c.args.line.now c.requires.time c.requires.ended (g.P.Plant.state c.answer.new.plant) c.answer.new.self c.answer.new.site c.answer.result c.answer.ensures.site c.answer.ensures.names c.answer.ensures.works c.answer.ensures.kept c.answer.ensures.taken
+
+pub returns-clause-untouched : goal.returns-clause-untouched
+returns-clause-untouched g c =
+    let same = session_at c.self.inside.session c.self.inside.controls c.self.inside.kept c.self.inside.place c.self.inside.ended c.args.self.now c.in-Started.site c.in-Started.is c.self.view_is in
+    c.answer.ensures.behind_end (site_ended g.P.Plant.tells c.self.inside.session c.self.inside.controls c.self.inside.kept c.in-Started.site c.self.inside.ended c.args.self.now same c.args.traces.now (g.P.Plant.state c.args.plant.now) c.requires.between c.args.line.now c.requires.time c.requires.ended)
 
 pub returns-clause-keeps : goal.returns-clause-keeps
 returns-clause-keeps g c =

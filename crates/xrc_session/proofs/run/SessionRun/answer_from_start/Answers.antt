@@ -1,5 +1,5 @@
 -- A line is answered from the start on: once the session has ended, or in time.
-use Rattle.std.proofs.Common.{◌∙◌, refl, sym, ap}
+use Rattle.std.proofs.Common.{◌∙◌, refl, sym, ap, true≢false}
 use Rattle.xrc_session.specs.States.{SessionState}
 use Rattle.xrc_session.proofs.LinesPlaces.{lanes_here, lanes_went}
 use Rattle.xrc_session.proofs.run.SessionRun.answer_from_start.Goals as goal
@@ -37,6 +37,9 @@ answer_in_time-requires-clause-goes_on g c κs within = sym (ap (λ (s : Session
 pub returns-then-self-clause-done : goal.returns-then-self-clause-done
 returns-then-self-clause-done g c = c.answer_behind_end.ensures.done
 
+pub returns-then-self-clause-behind_end : goal.returns-then-self-clause-behind_end
+returns-then-self-clause-behind_end g c ended = c.answer_behind_end.ensures.untouched
+
 pub returns-then-self-clause-keeps : goal.returns-then-self-clause-keeps
 returns-then-self-clause-keeps g c = c.answer_behind_end.ensures.keeps
 
@@ -66,6 +69,9 @@ returns-then-self-clause-does g c = c.answer_behind_end.ensures.does
 
 pub returns-else-self-clause-done : goal.returns-else-self-clause-done
 returns-else-self-clause-done g c = c.answer_in_time.ensures.done
+
+pub returns-else-self-clause-behind_end : goal.returns-else-self-clause-behind_end
+returns-else-self-clause-behind_end g c ended = absurd (true≢false (sym ended ∙ sym (ap (λ (s : SessionState). s.is_ended) c.self.view_is) ∙ c.if-self.false))
 
 pub returns-else-self-clause-keeps : goal.returns-else-self-clause-keeps
 returns-else-self-clause-keeps g c = c.answer_in_time.ensures.keeps

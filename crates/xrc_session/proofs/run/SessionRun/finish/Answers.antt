@@ -1,5 +1,6 @@
 -- A session is finished by a mark, or there is nothing to do.
-use Rattle.std.proofs.Common.{refl}
+use Rattle.std.proofs.Common.{◌∙◌, ap, refl, sym, true≢false}
+use Rattle.xrc_session.specs.States.{SessionState}
 use Rattle.xrc_session.proofs.FinishedRuns.{ended_at_end, mark_ends, mark_idle, mark_keeps, mark_told, still_counts, still_ends, still_keeps, still_silent, unstarted_at_end}
 use Rattle.xrc_session.proofs.LinesPlaces.{never_none, session_at}
 use Rattle.xrc_session.proofs.run.SessionRun.finish.Goals as goal
@@ -18,6 +19,11 @@ mark-requires-clause-told g c κs within =
     mark_told g.P.Plant.tells c.self.inside.session c.self.inside.controls c.self.inside.kept c.in-Started.site c.self.inside.ended c.args.self same (g.P.Plant.state c.args.plant.now) c.requires.may
 
 -- ---- a mark
+
+pub returns-clause-behind_end : goal.returns-clause-behind_end
+returns-clause-behind_end g c ended =
+    let same = session_at c.self.inside.session c.self.inside.controls c.self.inside.kept c.self.inside.place c.self.inside.ended c.args.self c.in-Started.site c.in-Started.is c.self.view_is in
+    absurd (true≢false (sym ended ∙ ap (λ (s : SessionState). s.is_ended) (sym same) ∙ c.if-ended.false))
 
 pub returns-clause-keeps : goal.returns-clause-keeps
 returns-clause-keeps g c =
@@ -48,6 +54,9 @@ returns-clause-counts g c = c.mark.ensures.works.counts
 
 -- ---- nothing to do
 
+pub returns-in_default-clause-behind_end : goal.returns-in_default-clause-behind_end
+returns-in_default-clause-behind_end g c ended = (refl, refl)
+
 pub returns-in_default-clause-keeps : goal.returns-in_default-clause-keeps
 returns-in_default-clause-keeps g c = still_keeps g.P.Plant.tells c.args.self (g.P.Plant.state c.args.plant.now) c.requires.may
 
@@ -68,6 +77,9 @@ returns-in_default-clause-unsaid g c is = cc
 
 pub returns-in_default-clause-counts : goal.returns-in_default-clause-counts
 returns-in_default-clause-counts g c = still_counts g.P.Plant.tells c.args.self (g.P.Plant.state c.args.plant.now) c.requires.may
+
+pub returns-then-ended-clause-behind_end : goal.returns-then-ended-clause-behind_end
+returns-then-ended-clause-behind_end g c ended = (refl, refl)
 
 pub returns-then-ended-clause-keeps : goal.returns-then-ended-clause-keeps
 returns-then-ended-clause-keeps g c = still_keeps g.P.Plant.tells c.args.self (g.P.Plant.state c.args.plant.now) c.requires.may
