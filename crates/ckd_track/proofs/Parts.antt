@@ -98,12 +98,23 @@ read_records count low bytes rest recs fits read =
 pub read_image : (bytes rest : List ℕ) → IsBytes bytes → rest_of_read (image_at bytes) ≡ Ok rest → IsRead bytes rest (track_of_image bytes)
 read_image bytes rest fits e = read_track bytes rest (track_of_image bytes) fits (left_ok (image_at bytes) rest e)
 
--- what stands before the rest is an image, and it is the one that was read
-pub read_is_image : (bytes rest : List ℕ) (track : List Rec) → IsRead bytes rest track → IsImage (take (length bytes - length rest) bytes)
-read_is_image bytes rest track is = subst IsImage (sym is.front) (image_is_image track is.is_track)
+-- The first n bytes are the image that was read.
+pub record BeginsImage (bytes : List ℕ) (n : ℕ) : Type 0 where
+  pub within : n ≤ length bytes
+  pub is_image : IsImage (take n bytes)
+  pub same : track_of_image (take n bytes) ≡ track_of_image bytes
 
-pub read_is_same : (bytes rest : List ℕ) (track : List Rec) → IsRead bytes rest track → track_of_image (take (length bytes - length rest) bytes) ≡ track
-read_is_same bytes rest track is = ap track_of_image is.front ∙ track_of-image track is.is_track
+pub begins_image : (bytes : List ℕ) (n : ℕ) → IsBytes bytes → image_at bytes ≡ Ok (track_of_image bytes, drop n bytes) → n ≡ length (image (track_of_image bytes)) → BeginsImage bytes n
+begins_image bytes n fits found size =
+    let track = track_of_image bytes in
+    let is = read_track bytes (drop n bytes) track fits found in
+    let len : length bytes - length (drop n bytes) ≡ n = is.size_is ∙ sym size in
+    let front : take n bytes ≡ image track = ap (λ k. take k bytes) (sym len) ∙ is.front in
+    record {
+      within = omega (arith, len, length-drop n bytes);
+      is_image = subst IsImage (sym front) (image_is_image track is.is_track);
+      same = ap track_of_image front ∙ track_of-image track is.is_track;
+    }
 
 -- ---- a slot's buffer
 

@@ -1,10 +1,10 @@
 -- An update of one record changes the bytes of its content, and no others.
-use Rattle.std.proofs.Common.{◌≡◌, ℕ, zero, suc, min, ◌-◌, ◌+◌, ◌≤◌, List, [], ◌∷◌, ◌++◌, Bool, true, false, cond, nat_le, refl, sym, ap, subst, ◌∙◌, length, take, drop, replicate, Option, Some, None, append_assoc, arith, length-append, length-take, inl, inr}
+use Rattle.std.proofs.Common.{◌≡◌, ℕ, ◌+◌, ◌≤◌, List, [], ◌∷◌, ◌++◌, Bool, true, false, cond, nat_le, refl, sym, ap, subst, ◌∙◌, length, take, drop, replicate, Option, Some, None, append_assoc, arith, length-append, length-take}
 use Rattle.std.specs.Prelude.{◌==◌}
 use Rattle.std.specs.List.{flat_map}
 use Rattle.std.specs.Int.{w16, to_be_bytes}
-use Rattle.std.proofs.lemmas.Bool.{cases_lt, eqb-true, ne_eqb}
-use Rattle.std.proofs.lemmas.List.{append-nil, take_at, drop_at, take-append-le, take-append-drop, take-replicate, length-replicate, length-map}
+use Rattle.std.proofs.lemmas.Bool.{eqb-true, ne_eqb}
+use Rattle.std.proofs.lemmas.List.{take_at, drop_at, take-append-drop, length-replicate, length-map}
 use Rattle.std.proofs.lemmas.List.Sums.{sum_by-cons}
 use Rattle.ckd_track.specs.declared.rec.Rec.{Rec}
 use Rattle.ckd_track.specs.Tracks.{record_size, track_size, capacity, rises_above, IsTrack}
@@ -21,24 +21,6 @@ use Rattle.ckd_track.proofs.ImageLaws.{both_true}
 
 pub length-fitted : (n : ℕ) (bytes : List ℕ) → length (fitted n bytes) ≡ n
 length-fitted n bytes = omega (arith, length-take n (bytes ++ replicate n 0), length-append bytes (replicate n 0), length-replicate {A = ℕ} n 0)
-
-take_past : (n : ℕ) (xs ys : List ℕ) → length xs ≤ n → take n (xs ++ ys) ≡ xs ++ take (n - length xs) ys
-take_past n [] ys le = ap (λ (k : ℕ). take k ys) (let e : n ≡ n - 0 = omega arith in e)
-take_past zero (x ∷ xs) ys le = absurd (omega (arith, le))
-take_past (suc n) (x ∷ xs) ys le = ap (λ (t : List ℕ). x ∷ t) (take_past n xs ys (omega (arith, le))) ∙ ap (λ (k : ℕ). x ∷ (xs ++ take k ys)) (let e : n - length xs ≡ suc n - suc (length xs) = omega arith in e)
-
-pub fitted_is : (n : ℕ) (bytes : List ℕ) → fitted n bytes ≡ take (min n (length bytes)) bytes ++ replicate (n - min n (length bytes)) 0
-fitted_is n bytes =
-    elim (cases_lt n (length bytes)) [
-      | inl lt ↦
-          let m : min n (length bytes) ≡ n = omega arith in
-          let z : n - n ≡ 0 = omega arith in
-          rw (m, z) (take-append-le n bytes (replicate n 0) (omega arith) ∙ sym (append-nil (take n bytes)))
-      | inr le ↦
-          let m : min n (length bytes) ≡ length bytes = omega arith in
-          let all : take (length bytes) bytes ≡ bytes = ap (take (length bytes)) (sym (append-nil bytes)) ∙ take_at bytes [] (length bytes) refl in
-          rw (m, all) (take_past n bytes (replicate n 0) le ∙ ap (λ (t : List ℕ). bytes ++ t) (take-replicate (n - length bytes) n 0 (omega arith)))
-    ]
 
 -- ---- records that aren't found stay
 

@@ -27,6 +27,7 @@ pub use layout::{
     BEFORE_IMAGE, BLOCKS_OF_ENTRY, BLOCKS_OF_QUEUE, CAPACITY, CYLINDER_LENGTH, FIRST_SLOT,
     LONGEST_ENTRY, LONGEST_IMAGE, LONGEST_UPDATE, SLOT_LENGTH, WRITES_OF_RUN,
 };
+pub use reading::image_length;
 pub use rec::{Rec, RecList};
 pub use slot::Slot;
 pub use slot_places::slot_place;

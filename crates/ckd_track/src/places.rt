@@ -47,7 +47,7 @@ pub fn content_place(image: &[u8], number: u8) -> Option<Place>
 }
 
 /// Fills a content with bytes, and with zeros behind them. What has no room is left out.
-fn fill_content(content: &mut [u8], bytes: &[u8])
+pub fn fill_content(content: &mut [u8], bytes: &[u8])
     ensures { content.new ≡ fitted (length content.old) bytes.now }
 {
     let kept = content.len().min(bytes.len());

@@ -1,10 +1,11 @@
 //! Reading an image: one pass over the heads of its records, without a look at keys and contents.
 
-ghost use Rattle.std.specs.Prelude.{◌≡◌, ◌≤◌, ◌+◌, length, drop, Err, IfOk, IfErr};
+ghost use Rattle.std.specs.Prelude.{◌≡◌, ◌≢◌, ◌≤◌, ◌+◌, length, drop, Ok, Err, IfOk, IfErr};
 ghost use Rattle.ckd_track.specs.Tracks.{capacity};
-ghost use Rattle.ckd_track.specs.Images.{record_at, records_at, image_at};
+ghost use Rattle.ckd_track.specs.Images.{image, record_at, records_at, image_at};
 ghost use Rattle.ckd_track.specs.Heads.{head_at, head_size, head_length, first_record, IsFirst};
 ghost use Rattle.ckd_track.specs.Reading.{GivesRead, rest_of_read};
+ghost use Rattle.ckd_track.specs.Slots.{track_of_image};
 
 use crate::fault::ImageError;
 use crate::head::Head;
@@ -71,9 +72,22 @@ pub fn count_and_records(bytes: &[u8]) -> Result<(u16, &[u8]), ImageError>
 }
 
 /// What follows the image that the bytes begin with.
-pub fn after_image(bytes: &[u8]) -> Result<&[u8], ImageError>
+fn after_image(bytes: &[u8]) -> Result<&[u8], ImageError>
     ensures { GivesRead (λ rest. rest.now) result (rest_of_read (image_at bytes.now)) }
 {
     let (count, records) = count_and_records(bytes)?;
     after_records(records, count)
+}
+
+/// The length of the image that the bytes begin with.
+pub fn image_length(bytes: &[u8]) -> Result<usize, ImageError>
+    ensures ok { IfOk result (λ count. image_at bytes.now ≡ Ok (track_of_image bytes.now, drop count bytes.now)) }
+    ensures length { IfOk result (λ count. count ≡ length (image (track_of_image bytes.now))) }
+    ensures err { IfErr result (λ error. image_at bytes.now ≡ Err error) }
+    ensures memory { result ≢ Err ImageError.NoMemory }
+{
+    match after_image(bytes) {
+        Ok(rest) => Ok(bytes.len() - rest.len()),
+        Err(error) => Err(error),
+    }
 }

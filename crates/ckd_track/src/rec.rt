@@ -1,8 +1,9 @@
 //! A record of a track, and copies of records.
 
-ghost use Rattle.std.specs.Prelude.{◌≡◌, replicate, IfOk};
+ghost use Rattle.std.specs.Prelude.{◌≡◌, length, IfOk};
 ghost use Rattle.ckd_track.specs.Effects.{fitted};
 
+use crate::places::fill_content;
 use std::alloc::Global;
 use xrc_edge::{Bytes, List, NoMemory};
 
@@ -26,21 +27,13 @@ pub fn copied_bytes(alloc: Global, bytes: &[u8]) -> Result<Bytes, NoMemory>
     Ok(copy)
 }
 
-fn zeros(alloc: Global, count: usize) -> Result<Vec<u8>, NoMemory>
-    ensures { IfOk result (λ zeros. zeros.items ≡ replicate count 0) }
+/// Fills a content with bytes, and with zeros behind them, in its own memory. What has no room is left out.
+pub fn refilled(content: Bytes, bytes: &[u8]) -> Bytes
+    ensures { result ≡ fitted (length content) bytes.now }
 {
-    Ok(vec![in alloc; 0u8; count]?)
-}
-
-/// A copy of bytes that is filled with zeros, or cut, to this length.
-pub fn fitted_bytes(alloc: Global, bytes: &[u8], len: usize) -> Result<Bytes, NoMemory>
-    ensures { IfOk result (λ copy. copy ≡ fitted len bytes.now) }
-{
-    let kept = len.min(bytes.len());
-    let mut copy = copied_bytes(alloc, &bytes[..kept])?;
-    let zeros = zeros(alloc, len - kept)?;
-    copy.extend_from_slice(alloc, zeros.as_slice())?;
-    Ok(copy)
+    let mut items = content.into_vec();
+    fill_content(items.as_mut_slice(), bytes);
+    Bytes::of(items)
 }
 
 fn copied_record(alloc: Global, rec: &Rec) -> Result<Rec, NoMemory>

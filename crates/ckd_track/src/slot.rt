@@ -10,7 +10,7 @@ ghost use Rattle.ckd_track.specs.Slots.{IsImage, track_of_image, SpellsRecords, 
 use crate::changes::{format_image, format_image_spelled, update_image};
 use crate::fault::ImageError;
 use crate::layout::{BEFORE_IMAGE, SLOT_LENGTH};
-use crate::reading::after_image;
+use crate::reading::image_length;
 use crate::rec::Rec;
 use crate::spelling::put_image;
 use crate::track::Track;
@@ -99,9 +99,8 @@ impl Slot {
         ensures empty { OnErr result (self.new ≡ []) }
         ensures memory { result ≢ Err ImageError.NoMemory }
     {
-        match after_image(bytes) {
-            Ok(rest) => {
-                let length = bytes.len() - rest.len();
+        match image_length(bytes) {
+            Ok(length) => {
                 self.put(&bytes[..length]);
                 Ok(length)
             }

@@ -5,7 +5,7 @@ ghost use Rattle.std.specs.Prelude.{◌≡◌, ◌≢◌, ◌+◌, ◌↔◌, []
 use crate::decoding::decoded;
 use crate::fault::ImageError;
 use crate::layout::CAPACITY;
-use crate::rec::{Rec, copied_records, fitted_bytes};
+use crate::rec::{Rec, copied_records, refilled};
 use crate::recs::{
     count_up_to, fitting_records, last_number, record_place, replace_behind, track_size,
 };
@@ -13,6 +13,7 @@ use crate::spelling::append_image;
 use crate::write::{Kind, Write};
 use std::alloc::Global;
 use std::marker::Model;
+use std::mem;
 use xrc_edge::{Bytes, NoMemory};
 
 /// A track. Contracts see it as the list of its records.
@@ -113,16 +114,15 @@ impl Track {
         })
     }
 
-    /// Fills the content of the record with this number.
-    fn update(&mut self, alloc: Global, number: u8, bytes: &[u8]) -> Result<(), NoMemory>
-        ensures ok { OnOk result (self.new ≡ updated number bytes.now self.old) }
-        ensures err { OnErr result (self.new ≡ self.old) }
+    /// Fills the content of the record with this number. It takes no memory.
+    fn update(&mut self, alloc: Global, number: u8, bytes: &[u8])
+        ensures { self.new ≡ updated number bytes.now self.old }
     {
         if let Some(place) = record_place(self.recs(), number) {
             let rec = &mut self.recs[place];
-            rec.content = fitted_bytes(alloc, bytes, rec.content.len())?;
+            let content = mem::replace(&mut rec.content, Bytes::make(alloc));
+            rec.content = refilled(content, bytes);
         }
-        Ok(())
     }
 
     /// Puts the given records in the place of those above `after`.
@@ -151,7 +151,10 @@ impl Track {
         ensures err { OnErr result (self.new ≡ self.old) }
     {
         match &write.kind {
-            Kind::Update { number, bytes } => self.update(alloc, *number, bytes.as_slice()),
+            Kind::Update { number, bytes } => {
+                self.update(alloc, *number, bytes.as_slice());
+                Ok(())
+            }
             Kind::Format { after, recs } => self.format(alloc, *after, recs.as_slice()),
             Kind::Whole { track } => {
                 *self = track.copied(alloc)?;
