@@ -1,12 +1,10 @@
 -- The first item of bytes, as it is told.
-use Rattle.std.proofs.Common.{◌≡◌, ◌≢◌, ℕ, ◌+◌, ◌-◌, ◌≤◌, true, List, [], ◌∷◌, ◌++◌, length, take, drop, slice_index, Some, Result, Ok, refl, sym, ap, subst, ◌∙◌, arith, length-append, length-drop, append_assoc}
-use Rattle.std.specs.Int.{w16, w32, to_be_bytes, from_be_bytes}
-use Rattle.std.proofs.lemmas.List.{take_at, take_all}
+use Rattle.std.proofs.Common.{◌≡◌, ◌≢◌, ℕ, ◌+◌, ◌-◌, ◌≤◌, true, List, [], ◌∷◌, length, take, drop, slice_index, Some, Ok, refl, sym, ap, subst, ◌∙◌, arith, length-append}
+use Rattle.std.specs.Int.{w16, w32, from_be_bytes}
+use Rattle.std.proofs.lemmas.List.{take_at}
 use Rattle.tod_stamp.proofs.FieldLaws.{wide16, wide32}
 use Rattle.ckd_track.specs.declared.rec.Rec.{Rec}
-use Rattle.ckd_track.specs.declared.fault.ImageError.{ImageError}
 use Rattle.ckd_track.specs.Images.{image, image_at}
-use Rattle.ckd_track.proofs.ImageLaws.{image_again}
 use Rattle.pair_table.specs.declared.row.PairRow.{PairRow}
 use Rattle.pair_table.specs.Rows.{row_at, row_spelling}
 use Rattle.pair_table.proofs.RowsAgain.{rows_back}
@@ -14,7 +12,7 @@ use Rattle.xrc_journal.specs.declared.reading.BodyItem.{BodyItem}
 use Rattle.xrc_journal.specs.Items.{Item, Earlier, anywhere, behind, is_item, are_items_behind, item_spelling, body_spelling}
 use Rattle.xrc_journal.specs.Items.Item.{Image, Delta, Pair, Gone}
 use Rattle.xrc_journal.specs.Bodies.{BeginsWith, BeginsWithItem}
-use Rattle.xrc_journal.specs.Views.{Tells, told, first_told}
+use Rattle.xrc_journal.specs.Views.{told, first_told}
 use Rattle.xrc_journal.proofs.Fields.{both_true, spelled_length}
 use Rattle.xrc_journal.proofs.ItemsAgain.{image_rules, some_bytes}
 use Rattle.xrc_journal.proofs.Scans.{tag_is, image_length}
@@ -33,16 +31,6 @@ pub row_here : (bytes : List ℕ) (row : PairRow) → BeginsWith bytes (Pair row
 row_here bytes row b =
     ap (λ (l : List ℕ). row_at (take 30 (drop 1 l))) b.parts
     ∙ ap row_at (take_at (row_spelling row) b.rest 30 (spelled_length row b.keeps)) ∙ rows_back row b.keeps
-
--- the image of an image's item is read
-pub image_here : (bytes : List ℕ) (device track : ℕ) (recs : List Rec) (b : BeginsWith bytes (Image device track recs)) → image_at (take (length bytes - 7) (drop 7 bytes)) ≡ Ok (recs, b.rest)
-image_here bytes device track recs b =
-    let front = 1 ∷ to_be_bytes w16 device ++ to_be_bytes w32 track in
-    ap (λ (l : List ℕ). image_at l) (take_all (length bytes - 7) (drop 7 bytes) (omega (arith, length-drop 7 bytes)) ∙ ap (λ (l : List ℕ). drop 7 l) (b.parts ∙ append_assoc front (image recs) b.rest))
-    ∙ image_again recs b.rest (image_rules anywhere b.earlier device track recs b.keeps).are
-
-read_is : (a b : List Rec × List ℕ) → (let x : Result (List Rec × List ℕ) ImageError = Ok a in let y : Result (List Rec × List ℕ) ImageError = Ok b in x ≡ y) → a ≡ b
-read_is a b e = cc
 
 -- ---- the first of some items
 
@@ -84,19 +72,15 @@ gone_of_tag bytes (Delta device track kind) image pair b = absurd (no_change byt
 gone_of_tag bytes (Pair row) image pair b = absurd (pair (tag_is bytes (Pair row) b))
 gone_of_tag bytes (Gone device) image pair b = (device, refl)
 
-pub image_told : (bytes : List ℕ) (item : Item) (device track n : ℕ) (recs : List Rec) (more : List ℕ) (old : List Rec) → slice_index bytes 0 ≡ 1 → BeginsWith bytes item → device ≡ from_be_bytes w16 (take 2 (drop 1 bytes)) → track ≡ from_be_bytes w32 (take 4 (drop 3 bytes))
-    → image_at (take (length bytes - 7) (drop 7 bytes)) ≡ Ok (recs, more) → n ≡ length (image recs) → Tells item (BodyItem.Image device track, 7 + n) old recs
-image_told bytes (Image d x r) device track n recs more old tag b device_is track_is read len =
+pub image_told : (bytes : List ℕ) (item : Item) (device track n : ℕ) (recs : List Rec) (more : List ℕ) → slice_index bytes 0 ≡ 1 → BeginsWith bytes item → device ≡ from_be_bytes w16 (take 2 (drop 1 bytes)) → track ≡ from_be_bytes w32 (take 4 (drop 3 bytes))
+    → image_at (take (length bytes - 7) (drop 7 bytes)) ≡ Ok (recs, more) → n ≡ length (image recs) → (let r : BodyItem × ℕ = (BodyItem.Image device track, 7 + n) in r ≡ (told item, length (item_spelling item)))
+image_told bytes (Image d x r) device track n recs more tag b device_is track_is read len =
     let fields = image_fields bytes d x r b in
-    let first = image_here bytes d x r b in
     let size = image_length bytes (Image d x r) recs more n tag b read len in
-    record {
-      is = (λ i. (BodyItem.Image ((device_is ∙ fields.0) i) ((track_is ∙ fields.1) i), size.0 i));
-      track = ap (λ (p : List Rec × List ℕ). p.0) (read_is (recs, more) (r, b.rest) (sym read ∙ first));
-    }
-image_told bytes (Delta d x kind) device track n recs more old tag b device_is track_is read len = absurd (omega (arith, tag, tag_is bytes (Delta d x kind) b))
-image_told bytes (Pair row) device track n recs more old tag b device_is track_is read len = absurd (omega (arith, tag, tag_is bytes (Pair row) b))
-image_told bytes (Gone d) device track n recs more old tag b device_is track_is read len = absurd (omega (arith, tag, tag_is bytes (Gone d) b))
+    (λ i. (BodyItem.Image ((device_is ∙ fields.0) i) ((track_is ∙ fields.1) i), size.0 i))
+image_told bytes (Delta d x kind) device track n recs more tag b device_is track_is read len = absurd (omega (arith, tag, tag_is bytes (Delta d x kind) b))
+image_told bytes (Pair row) device track n recs more tag b device_is track_is read len = absurd (omega (arith, tag, tag_is bytes (Pair row) b))
+image_told bytes (Gone d) device track n recs more tag b device_is track_is read len = absurd (omega (arith, tag, tag_is bytes (Gone d) b))
 
 pub pair_told : (bytes : List ℕ) (items : List Item) (f : First bytes items) (row found : PairRow) → f.item ≡ Pair row → found ≡ row → Some (BodyItem.Pair found, 31) ≡ first_told items
 pair_told bytes items f row found is same =

@@ -28,8 +28,6 @@ use xrc_edge::{Failed, NoMemory};
 pub struct Body {
     buffer: BoxedSlice<u8>,
     used: usize,
-    // For looking at images that are read.
-    slot: Slot,
 }
 
 impl Model for Body {
@@ -67,12 +65,7 @@ impl Body {
         ensures { IfOk result (λ body. body ≡ record { items = []; room = length }) }
     {
         let buffer = zeros(alloc, length as usize + 1)?;
-        let slot = Slot::make(alloc)?;
-        Ok(Body {
-            buffer,
-            used: 0,
-            slot,
-        })
+        Ok(Body { buffer, used: 0 })
     }
 
     /// The spelling of the items, one after another.
@@ -163,14 +156,7 @@ impl Body {
         ensures cause { HasCause ((P.state plant.old).faults device) ((P.state plant.new).faults device) result }
     {
         let count = count as usize;
-        match fill(
-            plant,
-            &mut self.slot,
-            device,
-            place,
-            self.buffer.as_mut_slice(),
-            count,
-        ) {
+        match fill(plant, device, place, self.buffer.as_mut_slice(), count) {
             Ok(good) => {
                 self.used = good;
                 Ok(bad_place(place, good, count))

@@ -10,7 +10,6 @@ ghost use Rattle.xrc_journal.specs.Records.{stretch};
 ghost use Rattle.xrc_journal.specs.Bodies.{HoldsItems, items_of};
 
 use crate::item::good_length;
-use ckd_track::Slot;
 use crash_plant::{Device, Plant};
 use xrc_edge::Failed;
 
@@ -18,7 +17,6 @@ use xrc_edge::Failed;
 /// length of these. Where it fails the gate is the first byte.
 pub(crate) fn fill<P: Plant>(
     plant: &mut P,
-    slot: &mut Slot,
     device: Device,
     place: u64,
     buffer: &mut [u8],
@@ -41,7 +39,7 @@ pub(crate) fn fill<P: Plant>(
 {
     match plant.read(device, place, &mut buffer[..count]) {
         Ok(()) => {
-            let good = good_length(plant, slot, &buffer[..count]);
+            let good = good_length(plant, &buffer[..count]);
             buffer[good] = 0;
             Ok(good)
         }

@@ -9,7 +9,7 @@ ghost use Rattle.xrc_journal.specs.Answers.{length_of};
 
 use crate::layout::{IMAGE_FRONT, ROW_ITEM, TRACK};
 use byteorder::{BigEndian, ByteOrder};
-use ckd_track::{SLOT_LENGTH, Slot, slot_place};
+use ckd_track::{SLOT_LENGTH, slot_place};
 use crash_plant::{Device, Plant};
 use pair_table::{ROW_LENGTH, decode_row};
 
@@ -50,13 +50,13 @@ pub(crate) fn gone_length(fields: &[u8]) -> Option<usize>
     if fields.len() < 2 { None } else { Some(3) }
 }
 
-/// The length of the item that the bytes begin with. The slot is for reading an image.
-fn first_length(slot: &mut Slot, bytes: &[u8]) -> usize
+/// The length of the item that the bytes begin with.
+fn first_length(bytes: &[u8]) -> usize
     requires { BeginsWithItem bytes.now }
     ensures { (item : Item) → BeginsWith bytes.now item → result ≡ length (item_spelling item) }
 {
     match bytes[0] {
-        1 => match slot.load(&bytes[IMAGE_FRONT..]) {
+        1 => match ckd_track::image_length(&bytes[IMAGE_FRONT..]) {
             Ok(length) => IMAGE_FRONT + length,
             Err(_) => unreachable!(),
         },
@@ -76,7 +76,7 @@ fn draws(bytes: &[u8], device: u16, track: u32) -> bool
 }
 
 /// Whether an image of a track is among the items of a body.
-pub(crate) fn has_image(slot: &mut Slot, body: &[u8], device: u16, track: u32) -> bool
+pub(crate) fn has_image(body: &[u8], device: u16, track: u32) -> bool
     requires { IsBody body.now }
     ensures { result ≡ have_image (items_of body.now) device track }
 {
@@ -85,23 +85,23 @@ pub(crate) fn has_image(slot: &mut Slot, body: &[u8], device: u16, track: u32) -
         if draws(rest, device, track) {
             return true;
         }
-        let (_, behind) = rest.split_at(first_length(slot, rest));
+        let (_, behind) = rest.split_at(first_length(rest));
         rest = behind;
     }
     false
 }
 
 /// Whether an image of a track may follow the items of a body.
-fn may_draw<P: Plant>(plant: &P, slot: &mut Slot, body: &[u8], device: u16, track: u32) -> bool
+fn may_draw<P: Plant>(plant: &P, body: &[u8], device: u16, track: u32) -> bool
     requires home { NoneLent (P.state plant.now) }
     requires body { IsBody body.now }
     ensures { result ≡ may_draw (form_of (P.state plant.now)) (earlier_of body.now) device track }
 {
-    has_slot(plant, device, track) && !has_image(slot, body, device, track)
+    has_slot(plant, device, track) && !has_image(body, device, track)
 }
 
 /// The length of an image's item with these fields behind its tag, which stands behind the items of a body.
-fn image_length<P: Plant>(plant: &P, slot: &mut Slot, body: &[u8], fields: &[u8]) -> Option<usize>
+fn image_length<P: Plant>(plant: &P, body: &[u8], fields: &[u8]) -> Option<usize>
     requires home { NoneLent (P.state plant.now) }
     requires body { IsBody body.now }
     ensures { (place : ℕ) → result ≡ length_of (image_item_at (form_of (P.state plant.now)) (earlier_of body.now) (record { place = place; bytes = fields.now })) }
@@ -111,10 +111,10 @@ fn image_length<P: Plant>(plant: &P, slot: &mut Slot, body: &[u8], fields: &[u8]
     }
     let device = BigEndian::read_u16(&fields[..2]);
     let track = BigEndian::read_u32(&fields[2..6]);
-    if !may_draw(plant, slot, body, device, track) {
+    if !may_draw(plant, body, device, track) {
         return None;
     }
-    match slot.load(&fields[TRACK..]) {
+    match ckd_track::image_length(&fields[TRACK..]) {
         Ok(length) => Some(IMAGE_FRONT + length),
         Err(_) => None,
     }
@@ -124,7 +124,6 @@ fn image_length<P: Plant>(plant: &P, slot: &mut Slot, body: &[u8], fields: &[u8]
 /// is of a row. None where it breaks a rule.
 pub(crate) fn item_length<P: Plant>(
     plant: &P,
-    slot: &mut Slot,
     body: &[u8],
     late: bool,
     bytes: &[u8],
@@ -138,7 +137,7 @@ pub(crate) fn item_length<P: Plant>(
     let (tag, fields) = bytes.split_at(1);
     match tag[0] {
         1 if late => None,
-        1 => image_length(plant, slot, body, fields),
+        1 => image_length(plant, body, fields),
         3 => pair_length(fields),
         4 => gone_length(fields),
         _ => None,
@@ -146,7 +145,7 @@ pub(crate) fn item_length<P: Plant>(
 }
 
 /// How many bytes at the front of a body are items that keep their rules, up to the first that doesn't.
-pub(crate) fn good_length<P: Plant>(plant: &P, slot: &mut Slot, bytes: &[u8]) -> usize
+pub(crate) fn good_length<P: Plant>(plant: &P, bytes: &[u8]) -> usize
     requires home { NoneLent (P.state plant.now) }
     ensures { GoodFront (form_of (P.state plant.now)) bytes.now result }
 {
@@ -154,7 +153,7 @@ pub(crate) fn good_length<P: Plant>(plant: &P, slot: &mut Slot, bytes: &[u8]) ->
     let mut late = false;
     while good < bytes.len() {
         let (body, rest) = bytes.split_at(good);
-        let Some(length) = item_length(plant, slot, body, late, rest) else {
+        let Some(length) = item_length(plant, body, late, rest) else {
             return good;
         };
         late = rest[0] != 1;

@@ -9,8 +9,8 @@ use xrc_edge::BLOCK;
 /// The bytes of a device and a track of it.
 pub(crate) const TRACK: usize = 6;
 
-/// The bytes of an image's item before the image.
-pub(crate) const IMAGE_FRONT: usize = 1 + TRACK;
+/// The bytes of an image's item before the image: the tag, the device and the track.
+pub const IMAGE_FRONT: usize = 1 + TRACK;
 
 /// The bytes of a row's item.
 pub const ROW_ITEM: usize = 1 + ROW_LENGTH;

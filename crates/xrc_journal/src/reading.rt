@@ -1,18 +1,18 @@
 //! The items of a body one after another, for those who go over them.
 
-ghost use Rattle.std.specs.Prelude.{◌≡◌, ◌≢◌, ℕ, List, slice_index, IsTrue};
-ghost use Rattle.xrc_journal.specs.Items.{Item, Earlier, anywhere, are_items_behind, body_spelling};
+ghost use Rattle.std.specs.Prelude.{◌≡◌, ◌≢◌, ℕ, List, length, slice_index, IsTrue};
+ghost use Rattle.xrc_journal.specs.Items.{Item, Earlier, anywhere, are_items_behind, item_spelling, body_spelling};
 ghost use Rattle.pair_table.specs.declared.row.PairRow.{PairRow as RowValue};
 ghost use Rattle.xrc_journal.specs.Items.Item.{Gone, Pair};
 ghost use Rattle.xrc_journal.specs.Bodies.{BeginsWith, BeginsWithItem};
-ghost use Rattle.xrc_journal.specs.Views.{AreItemBytes, Tells, first_told, first_track};
+ghost use Rattle.xrc_journal.specs.Views.{AreItemBytes, told, first_told};
 
 use crate::layout::{IMAGE_FRONT, ROW_ITEM};
 use byteorder::{BigEndian, ByteOrder};
-use ckd_track::Slot;
+use ckd_track::image_length;
 use pair_table::{PairRow, ROW_LENGTH, decode_row};
 
-/// An item of a body. The track of an image is read into a slot.
+/// An item of a body. The image of a track stands in the bytes behind `IMAGE_FRONT`, up to the item's end.
 #[derive(Clone, Copy, Debug, PartialEq, Eq)]
 pub enum BodyItem {
     /// A whole track of a device.
@@ -24,14 +24,14 @@ pub enum BodyItem {
 }
 
 /// The image that the bytes begin with.
-fn image(slot: &mut Slot, bytes: &[u8]) -> (BodyItem, usize)
+fn image(bytes: &[u8]) -> (BodyItem, usize)
     requires item { BeginsWithItem bytes.now }
     requires tag { slice_index bytes.now 0 ≡ 1 }
-    ensures { (item : Item) → BeginsWith bytes.now item → Tells item result slot.old slot.new }
+    ensures { (item : Item) → BeginsWith bytes.now item → result ≡ (told item, length (item_spelling item)) }
 {
     let device = BigEndian::read_u16(&bytes[1..3]);
     let track = BigEndian::read_u32(&bytes[3..7]);
-    match slot.load(&bytes[IMAGE_FRONT..]) {
+    match image_length(&bytes[IMAGE_FRONT..]) {
         Ok(length) => (BodyItem::Image { device, track }, IMAGE_FRONT + length),
         Err(_) => unreachable!(),
     }
@@ -61,18 +61,16 @@ fn gone(bytes: &[u8]) -> u16
     BigEndian::read_u16(&bytes[1..3])
 }
 
-/// The item that bytes of a body begin with, and its length. None exactly where there are no bytes. The track of an image is in
-/// the slot afterwards, which any other item leaves as it is.
-pub fn first_item(slot: &mut Slot, bytes: &[u8]) -> Option<(BodyItem, usize)>
+/// The item that bytes of a body begin with, and its length. None exactly where there are no bytes.
+pub fn first_item(bytes: &[u8]) -> Option<(BodyItem, usize)>
     requires { AreItemBytes bytes.now }
     ensures item { (earlier : Earlier) (items : List Item) → IsTrue (are_items_behind anywhere earlier items) → bytes.now ≡ body_spelling items → result ≡ first_told items }
-    ensures track { (earlier : Earlier) (items : List Item) → IsTrue (are_items_behind anywhere earlier items) → bytes.now ≡ body_spelling items → slot.new ≡ first_track items slot.old }
 {
     if bytes.is_empty() {
         return None;
     }
     match bytes[0] {
-        1 => Some(image(slot, bytes)),
+        1 => Some(image(bytes)),
         3 => Some((BodyItem::Pair(pair(bytes)), ROW_ITEM)),
         _ => Some((
             BodyItem::Gone {

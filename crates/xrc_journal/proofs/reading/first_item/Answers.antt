@@ -1,15 +1,12 @@
-use Rattle.std.proofs.Common.{rules, ◌≤◌, ◌≢◌, slice_index, List, length, sym, ap, subst}
+use Rattle.std.proofs.Common.{rules, ◌≤◌, ◌≢◌, slice_index, length, sym, ap, subst}
 use Rattle.xrc_journal.specs.Items.{Item}
 use Rattle.xrc_journal.specs.Bodies.{BeginsWith}
-use Rattle.xrc_journal.specs.Views.{first_told, first_track}
+use Rattle.xrc_journal.specs.Views.{first_told}
 use Rattle.xrc_journal.proofs.Told.{first_of, none_of, begins_item, row_of_tag, gone_of_tag, pair_told, gone_told}
 use Rattle.xrc_journal.proofs.reading.first_item.Goals as goal
 
-pub returns-then-is_empty-clause-item : goal.returns-then-is_empty-clause-item
-returns-then-is_empty-clause-item c = λ earlier items keep spelled. ap first_told (sym (none_of c.args.bytes.now items spelled (search rules)))
-
-pub returns-then-is_empty-clause-track : goal.returns-then-is_empty-clause-track
-returns-then-is_empty-clause-track c = λ earlier items keep spelled. ap (λ (l : List Item). first_track l c.args.slot.now) (sym (none_of c.args.bytes.now items spelled (search rules)))
+pub returns-then-is_empty : goal.returns-then-is_empty
+returns-then-is_empty c = record { item = λ earlier items keep spelled. ap first_told (sym (none_of c.args.bytes.now items spelled (search rules))) }
 
 pub image-requires-clause-item : goal.image-requires-clause-item
 image-requires-clause-item c =
@@ -26,18 +23,22 @@ gone-requires-clause-item c =
     let some : 1 ≤ length c.args.bytes.now = search rules in
     begins_item c.args.bytes.now c.requires.items (first_of c.args.bytes.now c.requires.earlier c.requires.items c.requires.keep c.requires.spelled some)
 
-pub returns-in-3-clause-item : goal.returns-in-3-clause-item
-returns-in-3-clause-item c = λ earlier items keep spelled.
-    let some : 1 ≤ length c.args.bytes.now = search rules in
-    let f = first_of c.args.bytes.now earlier items keep spelled some in
-    let row = row_of_tag c.args.bytes.now f.item c.in-3.is f.begins in
-    pair_told c.args.bytes.now items f row.0 c.pair.result row.1 (c.pair.ensures row.0 (subst (λ (i : Item). BeginsWith c.args.bytes.now i) row.1 f.begins))
+pub returns-in-3 : goal.returns-in-3
+returns-in-3 c = record {
+  item = λ earlier items keep spelled.
+      let some : 1 ≤ length c.args.bytes.now = search rules in
+      let f = first_of c.args.bytes.now earlier items keep spelled some in
+      let row = row_of_tag c.args.bytes.now f.item c.in-3.is f.begins in
+      pair_told c.args.bytes.now items f row.0 c.pair.result row.1 (c.pair.ensures row.0 (subst (λ (i : Item). BeginsWith c.args.bytes.now i) row.1 f.begins));
+}
 
-pub returns-in_default-clause-item : goal.returns-in_default-clause-item
-returns-in_default-clause-item c = λ earlier items keep spelled.
-    let some : 1 ≤ length c.args.bytes.now = search rules in
-    let f = first_of c.args.bytes.now earlier items keep spelled some in
-    let image : slice_index c.args.bytes.now 0 ≢ 1 = search rules in
-    let pair : slice_index c.args.bytes.now 0 ≢ 3 = search rules in
-    let gone = gone_of_tag c.args.bytes.now f.item image pair f.begins in
-    gone_told c.args.bytes.now items f gone.0 c.gone.result gone.1 (c.gone.ensures gone.0 (subst (λ (i : Item). BeginsWith c.args.bytes.now i) gone.1 f.begins))
+pub returns-in_default : goal.returns-in_default
+returns-in_default c = record {
+  item = λ earlier items keep spelled.
+      let some : 1 ≤ length c.args.bytes.now = search rules in
+      let f = first_of c.args.bytes.now earlier items keep spelled some in
+      let image : slice_index c.args.bytes.now 0 ≢ 1 = search rules in
+      let pair : slice_index c.args.bytes.now 0 ≢ 3 = search rules in
+      let gone = gone_of_tag c.args.bytes.now f.item image pair f.begins in
+      gone_told c.args.bytes.now items f gone.0 c.gone.result gone.1 (c.gone.ensures gone.0 (subst (λ (i : Item). BeginsWith c.args.bytes.now i) gone.1 f.begins));
+}

@@ -17,4 +17,4 @@ unreachable-requires c =
     image_bad c.args.bytes.now r.item c.in-Err.field-0 c.requires.tag (record { earlier = r.earlier; rest = r.rest; keeps = r.keeps; parts = r.parts }) c.in-Err.ensures.err
 
 pub returns : goal.returns
-returns c = λ item begins. image_told c.args.bytes.now item _ _ c.in-Ok.length c.load.new.self _ c.args.slot.now c.requires.tag begins (omega (arith, c.read_u16-device.ensures)) (omega (arith, c.read_u32-track.ensures)) c.in-Ok.ensures.ok c.in-Ok.ensures.length
+returns c = λ item begins. image_told c.args.bytes.now item _ _ c.in-Ok.length _ _ c.requires.tag begins (omega (arith, c.read_u16-device.ensures)) (omega (arith, c.read_u32-track.ensures)) c.in-Ok.ensures.ok c.in-Ok.ensures.length
