@@ -7,6 +7,7 @@ use Rattle.tod_stamp.specs.Fields.{◌>>=◌, Left, Bad, bytes_at, number_at, wi
 use Rattle.tod_stamp.specs.Fields.Bad.{Cut}
 use Rattle.tod_stamp.specs.Names.{before_spaces}
 use Rattle.write_trace.specs.declared.header.VolumeHead.{VolumeHead}
+use Rattle.write_trace.specs.declared.window.TheConstants.{WINDOW_LENGTH}
 use Rattle.write_trace.specs.Headers.{tracks_of, is_trace_mark, is_new_serial, version_at, volume_at, volumes_at, base_at}
 use Rattle.write_trace.specs.WholeTraces.{most_bytes}
 use Rattle.write_trace.proofs.FieldSteps.{both_true}
@@ -58,14 +59,14 @@ short_head =
 -- ---- a window with room
 
 -- Where a short part is cut and the trace's last byte isn't held, a window has room.
-pub has_room : {A : Type 0} (most : ℕ) (part : Left → Result (A × Left) Bad) (held : Left) (place : ℕ) → IsShort most part → most ≤ 65536 → part (seen held.place held.bytes) ≡ Err (Cut place)
-    → held.place + length held.bytes ≤ most_bytes → length held.bytes < 65536
+pub has_room : {A : Type 0} (most : ℕ) (part : Left → Result (A × Left) Bad) (held : Left) (place : ℕ) → IsShort most part → most ≤ WINDOW_LENGTH → part (seen held.place held.bytes) ≡ Err (Cut place)
+    → held.place + length held.bytes ≤ most_bytes → length held.bytes < WINDOW_LENGTH
 has_room most part held place short le cut unfilled =
     let few = cut_is_short most part (seen held.place held.bytes) place short cut in
     omega (arith, few, length-take (most_bytes - held.place) held.bytes)
 
-pub head_has_room : (held : Left) (place : ℕ) → header_front_at (seen held.place held.bytes) ≡ Err (Cut place) → held.place + length held.bytes ≤ most_bytes → length held.bytes < 65536
+pub head_has_room : (held : Left) (place : ℕ) → header_front_at (seen held.place held.bytes) ≡ Err (Cut place) → held.place + length held.bytes ≤ most_bytes → length held.bytes < WINDOW_LENGTH
 head_has_room held place = has_room 266 header_front_at held place short_head (omega arith)
 
-pub base_has_room : (volumes : List VolumeHead) (low : ℕ × ℕ) (held : Left) (place : ℕ) → base_at 1 volumes low (seen held.place held.bytes) ≡ Err (Cut place) → held.place + length held.bytes ≤ most_bytes → length held.bytes < 65536
+pub base_has_room : (volumes : List VolumeHead) (low : ℕ × ℕ) (held : Left) (place : ℕ) → base_at 1 volumes low (seen held.place held.bytes) ≡ Err (Cut place) → held.place + length held.bytes ≤ most_bytes → length held.bytes < WINDOW_LENGTH
 base_has_room volumes low held place = has_room 56672 (base_at 1 volumes low) held place (short_base 1 volumes low) (omega arith)

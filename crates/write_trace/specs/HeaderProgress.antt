@@ -5,6 +5,7 @@ use Rattle.xrc_edge.specs.Causes.{Rose}
 use Rattle.tod_stamp.specs.Fields.{◌>>=◌, Left, Bad}
 use Rattle.tod_stamp.specs.Fields.Bad.{Cut}
 use Rattle.write_trace.specs.declared.header.Header.{Header}
+use Rattle.write_trace.specs.declared.window.TheConstants.{WINDOW_LENGTH}
 use Rattle.write_trace.specs.declared.trace.HeaderError.{HeaderError}
 use Rattle.write_trace.specs.declared.trace.HeaderError.TheVariants.{BadHeader, HeaderFault, NoMemory}
 use Rattle.write_trace.specs.Headers.{header_at}
@@ -41,7 +42,7 @@ IsCutThere remains held place = remains (seen held.place held.bytes) ≡ Err (Cu
 
 -- What came of a call for one piece more, where the bytes held may end within the field that begins at the place.
 abbrev pub Gathers : (before now : Option (List ℕ)) → (faults risen : ℕ) → (place : ℕ) → (old new : Left) → {A : Type 0} → Result A HeaderError → Type 0
-Gathers before now faults risen place old new (Ok done) = StaysReached before now old new × (length old.bytes < length new.bytes) × (length new.bytes ≤ 65536) × (risen ≡ faults)
+Gathers before now faults risen place old new (Ok done) = StaysReached before now old new × (length old.bytes < length new.bytes) × (length new.bytes ≤ WINDOW_LENGTH) × (risen ≡ faults)
 Gathers before now faults risen place old new (Err (BadHeader bad)) =
     ((start : Option (List ℕ)) (remains : HeaderRest) → Reached start before remains old → IsCutThere remains old place → IsBadHeader start bad) × (risen ≡ faults)
 Gathers before now faults risen place old new (Err HeaderFault) =

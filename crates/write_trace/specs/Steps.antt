@@ -8,6 +8,7 @@ use Rattle.write_trace.specs.declared.entry.Entry.{Entry}
 use Rattle.write_trace.specs.declared.entry.Entry.TheVariants.{Written, Idle}
 use Rattle.write_trace.specs.declared.trace.TraceEnd.{TraceEnd}
 use Rattle.write_trace.specs.declared.trace.TraceEnd.TheVariants.{Ended, BadTrace, ReadFault}
+use Rattle.write_trace.specs.declared.window.TheConstants.{WINDOW_LENGTH}
 use Rattle.write_trace.specs.Entries.{entry_spelling, entry_at, is_entry, stamp_of}
 use Rattle.write_trace.specs.WholeTraces.{most_bytes}
 use Rattle.write_trace.specs.UnreadBytes.{unread, seen}
@@ -82,5 +83,5 @@ EndsTrace before now faults risen old new ReadFault = FailsThere before now old 
 
 -- A piece came, which the window has room for; or the trace ends, and the reader has still to be stopped.
 abbrev pub Continues : (before now : Option (List ℕ)) → (faults risen : ℕ) → (old new : ReaderState) → Option TraceEnd → Type 0
-Continues before now faults risen old new None = Waits before now faults risen old new × (length old.left.bytes < length new.left.bytes) × (length new.left.bytes ≤ 65536)
+Continues before now faults risen old new None = Waits before now faults risen old new × (length old.left.bytes < length new.left.bytes) × (length new.left.bytes ≤ WINDOW_LENGTH)
 Continues before now faults risen old new (Some end) = (new.volumes ≡ old.volumes) × (new.last ≡ old.last) × EndsTrace before now faults risen old new end

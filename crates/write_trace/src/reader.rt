@@ -1,6 +1,6 @@
 //! The reader of a trace's entries.
 
-ghost use Rattle.std.specs.Prelude.{◌≡◌, ◌≤◌, [], length, None, Some, Err, MatchResult, IsTrue};
+ghost use Rattle.std.specs.Prelude.{◌≡◌, ◌↔◌, ◌≤◌, [], length, false, None, Some, Err, MatchResult, IsTrue};
 ghost use Rattle.tod_stamp.specs.declared.limits.TheConstants.{MOST_VOLUMES};
 ghost use Rattle.write_trace.specs.Headers.{are_volumes};
 ghost use Rattle.write_trace.specs.Entries.{stamp_of};
@@ -111,6 +111,27 @@ impl TraceReader {
             Some(why) => Err(why),
             None => self.read_on(alloc, source),
         }
+    }
+
+    /// Whether it reads no further.
+    pub fn has_stopped(&self) -> bool
+        ensures { result ≡ false ↔ self.now.stopped ≡ None }
+    {
+        self.stopped.is_some()
+    }
+
+    /// How many bytes it holds of its source that are not read yet.
+    pub fn held(&self) -> usize
+        ensures { result ≡ length self.now.left.bytes }
+    {
+        self.window.held()
+    }
+
+    /// The place in the trace up to which its entries were read.
+    pub fn place(&self) -> u64
+        ensures { result ≡ self.now.left.place }
+    {
+        self.window.place()
     }
 
     fn read_on<S: Source>(&mut self, alloc: Global, source: &mut S) -> Result<Entry, Stopped>

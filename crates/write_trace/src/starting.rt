@@ -7,6 +7,7 @@ ghost use Rattle.ckd_track.specs.Tracks.{IsTrack};
 ghost use Rattle.write_trace.specs.Starts.{Starts};
 ghost use Rattle.write_trace.specs.HeaderProgress.{Gathers, ReadsPart};
 ghost use Rattle.write_trace.specs.HeaderParts.{header_front_at};
+ghost use Rattle.write_trace.specs.declared.window.TheConstants.{WINDOW_LENGTH};
 
 use crate::header::{BaseList, BaseTrack, Header, VolumeHead, VolumeList};
 use crate::header_fields::{base_in, head_in};
@@ -19,7 +20,7 @@ use xrc_edge::Source;
 
 /// Takes one piece more, where the bytes held end within the field that begins at the place.
 fn gather<S: Source>(window: &mut Window, source: &mut S, place: u64) -> Result<(), HeaderError>
-    requires { window.old.place + length window.old.bytes ≤ 2 ^ 40 → length window.old.bytes < 65536 }
+    requires { window.old.place + length window.old.bytes ≤ 2 ^ 40 → length window.old.bytes < WINDOW_LENGTH }
     ensures { Gathers (S.left source.old) (S.left source.new) (S.faults source.old) (S.faults source.new) place window.old window.new result }
 {
     if window.is_full_trace() {
