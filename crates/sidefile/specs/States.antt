@@ -1,5 +1,5 @@
 -- A sidefile, and what it keeps.
-use Rattle.std.specs.Prelude.{◌≡◌, ◌<◌, ◌≤◌, ◌⊎◌, ℕ, List, length, All, Option, Some, None}
+use Rattle.std.specs.Prelude.{◌≡◌, ◌<◌, ◌≤◌, ◌⊎◌, ◌||◌, ℕ, Bool, List, length, All, Option, Some, None, is_some, nat_lt}
 use Rattle.xrc_edge.specs.Causes.{Rose}
 use Rattle.ckd_track.specs.declared.write.Batch.{Batch}
 use Rattle.ckd_track.specs.declared.write.Cause.TheVariants.{ReadFault}
@@ -39,6 +39,17 @@ IsWaiting (Some e) reader upto = IsEntryTo reader.volumes e × (upto < stamp_of 
 abbrev pub IsSidefile : Option Halt → Option Entry → ReaderState → (upto : ℕ) → Type 0
 IsSidefile None waiting reader upto = IsWaiting waiting reader upto
 IsSidefile (Some halt) waiting reader upto = Unit {0}
+
+-- ---- how far it has come
+
+-- whether the next entry is known to lie above a limit, or none to be left
+abbrev pub is_next_above : (limit : ℕ) → Option Entry → ReaderState → Bool
+is_next_above limit None reader = is_some reader.stopped
+is_next_above limit (Some e) reader = nat_lt limit (stamp_of e)
+
+-- A sidefile is past a limit where it takes no further entry up to it, and asks its source for none.
+abbrev pub is_past : (limit : ℕ) → SidefileState → Bool
+is_past limit s = is_some s.halted || is_next_above limit s.waiting s.reader
 
 -- ---- what is true of each hand, also where the source tells no bytes
 

@@ -1,12 +1,13 @@
 //! Sidefiles.
 
-ghost use Rattle.std.specs.Prelude.{◌≡◌, ◌≤◌, ℕ, None, Some, IfOk};
+ghost use Rattle.std.specs.Prelude.{◌≡◌, ◌≤◌, ℕ, None, Some, IfOk, length};
 ghost use Rattle.sidefile.specs.declared.hand.Halt.{Halt};
 ghost use Rattle.sidefile.specs.ExactHands.{IsDue};
 ghost use Rattle.sidefile.specs.Halts.{hand_of, halt_of, broken_in, reached};
-ghost use Rattle.sidefile.specs.States.{IsSidefile, HoldsRun, HasFault, front_of};
+ghost use Rattle.sidefile.specs.States.{IsSidefile, HoldsRun, HasFault, front_of, is_next_above, is_past};
 
 use crate::hand::{Halt, Hand};
+use crate::run::stamp_of;
 use crate::turn::hand_over;
 use ckd_track::Cause;
 use std::alloc::Global;
@@ -89,6 +90,37 @@ impl Sidefile {
         self.halted = turn.hand.halt();
         self.waiting = turn.waiting;
         turn.hand
+    }
+
+    /// Whether the next entry is known to lie above a limit, or none to be left.
+    fn is_next_above(&self, limit: Stamp) -> bool
+        ensures { result ≡ is_next_above limit.0 self.now.waiting self.now.reader }
+    {
+        match &self.waiting {
+            Some(entry) => stamp_of(entry).0 > limit.0,
+            None => self.reader.has_stopped(),
+        }
+    }
+
+    /// Whether the next handover up to a limit takes no entry, and asks the source for none.
+    pub fn is_past(&self, limit: Stamp) -> bool
+        ensures { result ≡ is_past limit.0 self.now }
+    {
+        self.halted.is_some() || self.is_next_above(limit)
+    }
+
+    /// How many bytes it holds of its source that are not read yet.
+    pub fn held(&self) -> usize
+        ensures { result ≡ length self.now.reader.left.bytes }
+    {
+        self.reader.held()
+    }
+
+    /// The place in the trace up to which its entries were read.
+    pub fn place(&self) -> u64
+        ensures { result ≡ self.now.reader.left.place }
+    {
+        self.reader.place()
     }
 
     /// The `upto` and the cause of the break that was answered; None exactly where none was.
