@@ -1,9 +1,9 @@
 -- A lane's feed, and when it is sound.
-use Rattle.std.specs.Prelude.{◌≡◌, ℕ, List, [], ◌∷◌, Bool, Option, Some, None, if◌then◌else◌}
+use Rattle.std.specs.Prelude.{◌≡◌, ℕ, List, [], ◌∷◌, Bool, ◌&&◌, ◌||◌, Option, Some, None, is_none, is_some, if◌then◌else◌}
 use Rattle.ckd_track.specs.declared.write.Batch.{Batch}
 use Rattle.primary_ctl.specs.States.{PrimaryState}
 use Rattle.sidefile.specs.declared.hand.Halt.{Halt}
-use Rattle.sidefile.specs.States.{SidefileState, IsRunOf}
+use Rattle.sidefile.specs.States.{SidefileState, IsRunOf, is_past}
 use Rattle.group_state.specs.Calls.{telling_after}
 use Rattle.group_state.specs.Runs.{Answer}
 use Rattle.fed_logs.specs.ToldTracks.{has_changed}
@@ -33,6 +33,10 @@ pub record ReadsFurther (side : SidefileState) (primary : PrimaryState) (held : 
 abbrev pub IsFeedSound : Option Halt → SidefileState → PrimaryState → Option Batch → Type 0
 IsFeedSound None side primary held = ReadsFurther side primary held
 IsFeedSound (Some halt) side primary held = Unit {0}
+
+-- A feed has nothing up to a limit where it reads no further, or holds no batch and its sidefile is past the limit.
+abbrev pub has_nothing_to : (limit : ℕ) → FeedState → Bool
+has_nothing_to limit f = is_some f.halted || (is_none f.held && is_past limit f.side)
 
 -- the floor behind answered calls of a reader
 abbrev pub floor_behind_calls : (floor : ℕ) → List Answer → ℕ

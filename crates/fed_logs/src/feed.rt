@@ -1,12 +1,13 @@
 //! A lane's feed.
 
-ghost use Rattle.std.specs.Prelude.{◌≡◌, ◌≤◌, ◌<◌, ℕ, [], List, None, Some, Option, IfOk, IfSome, IsTrue};
+ghost use Rattle.std.specs.Prelude.{◌≡◌, ◌≤◌, ◌<◌, ℕ, [], List, None, Some, Option, IfOk, IfSome, IsTrue, length};
 ghost use Rattle.write_trace.specs.Headers.{is_track_of};
 ghost use Rattle.primary_ctl.specs.States.{track_of};
 ghost use Rattle.sidefile.specs.Halts.{broken_in};
 ghost use Rattle.sidefile.specs.declared.hand.Halt.{Halt as HaltIs};
 ghost use Rattle.sidefile.specs.declared.hand.Halt.TheVariants as halts;
 ghost use Rattle.fed_logs.specs.declared.reading.Reading.TheVariants as readings;
+ghost use Rattle.fed_logs.specs.LaneFeeds.{has_nothing_to};
 ghost use Rattle.fed_logs.specs.Steps.{IsIdle};
 ghost use Rattle.pending_queue.specs.declared.room.Room.{Room as RoomIs};
 ghost use Rattle.fed_logs.specs.Tellers.{IsToldBy, HoldsBatch, IsRefusedBy, StandsAs, StandsAsOrHolds, HasFaultBy, StepsOn, TellsOn, TellsUpTo, BreaksBelow, IsCopiedBy};
@@ -70,6 +71,27 @@ impl Feed {
             Some(Halt::Broken { cause, upto }) => Some((upto, cause)),
             Some(Halt::NoMemory) | None => None,
         }
+    }
+
+    /// Whether its next step up to a limit joins no batch, and asks the source for nothing.
+    pub fn is_past(&self, limit: Stamp) -> bool
+        ensures { result ≡ has_nothing_to limit.0 self.now }
+    {
+        self.halted.is_some() || (self.held.is_none() && self.side.is_past(limit))
+    }
+
+    /// How many bytes it holds of its source that are not read yet.
+    pub fn held(&self) -> usize
+        ensures { result ≡ length self.now.side.reader.left.bytes }
+    {
+        self.side.held()
+    }
+
+    /// The place in the trace up to which its entries were read.
+    pub fn place(&self) -> u64
+        ensures { result ≡ self.now.side.reader.left.place }
+    {
+        self.side.place()
     }
 
     /// Sets `out` to a track of the primary, and gives the primary's time.
