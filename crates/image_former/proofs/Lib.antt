@@ -2,6 +2,8 @@ pub mod Lists
 pub mod Entries
 pub mod Changing
 pub mod SlotFronts
+pub mod Linking
+pub mod Besides
 pub mod Reading
 pub mod Going
 pub mod Bodying

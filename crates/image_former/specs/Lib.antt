@@ -3,3 +3,4 @@ pub mod Changes
 pub mod Jobs
 pub mod Forms
 pub mod Steps
+pub mod Links

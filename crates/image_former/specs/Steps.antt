@@ -1,5 +1,5 @@
 -- What the steps of a call do, one after another.
-use Rattle.std.specs.Prelude.{◌≡◌, ◌≤◌, ◌+◌, ◌*◌, ℕ, ◌==◌, ◌&&◌, not, List, [], length, drop, Bool, true, false, Option, Some, None, Result, unwrap_or}
+use Rattle.std.specs.Prelude.{◌≡◌, ◌≤◌, ◌*◌, ℕ, ◌==◌, ◌&&◌, not, List, [], length, drop, Bool, true, false, Option, Some, None, Result, unwrap_or}
 use Rattle.std.specs.List.{All, list_any, list_all}
 use Rattle.xrc_edge.specs.Causes.{HasCause}
 use Rattle.xrc_edge.specs.declared.outcome.Failed.{Failed}

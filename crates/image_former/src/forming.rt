@@ -3,6 +3,7 @@
 ghost use Rattle.std.specs.Prelude.{◌≡◌, ◌<◌, ◌≤◌, ◌+◌, ◌*◌, ◌↔◌, ℕ, [], false, true, length, take, count_by, OnOk, OnErr};
 ghost use Rattle.std.specs.List.{All, AllZip, list_all};
 ghost use Rattle.crash_plant.specs.Moments.{Follows, SamePast, Same};
+ghost use Rattle.pending_queue.specs.Groups.{heads};
 ghost use Rattle.xrc_journal.specs.Items.{AreItems, anywhere, body_spelling, item_spelling};
 ghost use Rattle.xrc_journal.specs.Items.Item.{Image};
 ghost use Rattle.xrc_journal.specs.Bodies.{are_late, have_image, with_item};
@@ -11,8 +12,10 @@ ghost use Rattle.xrc_journal.specs.Jobs.{FailsByCount, OnVolume};
 ghost use Rattle.image_former.specs.Entries.{HasEntry};
 ghost use Rattle.image_former.specs.Jobs.{BeginsWhole, HasFailed, HasNoEntry, HasOneJob, HasSlotsOf, OnVolumes};
 ghost use Rattle.image_former.specs.Forms.{AreItemsWhereAllowed, StandFor, is_image};
+ghost use Rattle.image_former.specs.Links.{AreLinked};
 ghost use Rattle.image_former.specs.Steps.{AreFormed, AreReady, GoesBy, is_job_live};
 
+use crate::links::Links;
 use crate::places::{device_of, has_earlier, job_place};
 use crate::tracks::form_track;
 use crash_plant::Disk;
@@ -36,11 +39,13 @@ fn put_track<D>(job: &VolumeJob<D>, track: u32, body: &mut Body)
 /// Puts the image of the track of the entry at this place, unless an earlier one is on it or the volume has failed.
 fn form_image<D: Disk>(
     formed: &Formed,
+    links: &Links,
     table: &PairTable,
     jobs: &mut [VolumeJob<D>],
     body: &mut Body,
     place: u32,
 ) -> Result<(), Failed>
+    requires linked { AreLinked (heads formed.now) links.now }
     requires within { place < length formed.now.entries }
     requires ready { AreReady D.state table.now.rows formed.now.entries jobs.old }
     requires formed { AreFormed D.state D.tells table.now.rows formed.now.entries (take place formed.now.entries) jobs.old body.old.items }
@@ -54,10 +59,10 @@ fn form_image<D: Disk>(
 {
     let head = formed.head(place);
     let job = job_place(jobs, device_of(table, head));
-    if jobs[job].failed || has_earlier(formed, head, place) {
+    if jobs[job].failed || has_earlier(formed, links, head, place) {
         return Ok(());
     }
-    form_track(formed, head, place, &mut jobs[job])?;
+    form_track(formed, links, head, place, &mut jobs[job])?;
     put_track(&jobs[job], head.track, body);
     Ok(())
 }
@@ -65,10 +70,12 @@ fn form_image<D: Disk>(
 /// Puts the images of all entries into an empty body, up to the first read that fails.
 fn form_images<D: Disk>(
     formed: &Formed,
+    links: &Links,
     table: &PairTable,
     jobs: &mut [VolumeJob<D>],
     body: &mut Body,
 ) -> Result<(), Failed>
+    requires linked { AreLinked (heads formed.now) links.now }
     requires empty { body.old.items ≡ [] }
     requires ready { AreReady D.state table.now.rows formed.now.entries jobs.old }
     requires room { 56670 * length formed.now.entries ≤ body.old.room }
@@ -79,13 +86,20 @@ fn form_images<D: Disk>(
     ensures room { body.new.room ≡ body.old.room }
 {
     for place in 0..formed.count() {
-        form_image(formed, table, jobs, body, place)?;
+        form_image(formed, links, table, jobs, body, place)?;
     }
     Ok(())
 }
 
 /// The same, without the volumes whose reads fail.
-fn form_all<D: Disk>(formed: &Formed, table: &PairTable, jobs: &mut [VolumeJob<D>], body: &mut Body)
+fn form_all<D: Disk>(
+    formed: &Formed,
+    links: &Links,
+    table: &PairTable,
+    jobs: &mut [VolumeJob<D>],
+    body: &mut Body,
+)
+    requires linked { AreLinked (heads formed.now) links.now }
     requires empty { body.old.items ≡ [] }
     requires ready { AreReady D.state table.now.rows formed.now.entries jobs.old }
     requires room { 56670 * length formed.now.entries ≤ body.old.room }
@@ -94,7 +108,7 @@ fn form_all<D: Disk>(formed: &Formed, table: &PairTable, jobs: &mut [VolumeJob<D
     ensures keep { AreItems anywhere body.new.items }
     ensures room { body.new.room ≡ body.old.room }
 {
-    while form_images(formed, table, jobs, body).is_err() {
+    while form_images(formed, links, table, jobs, body).is_err() {
         body.clear();
     }
 }
@@ -130,5 +144,6 @@ pub fn form_body<D: Disk>(
     ensures moments { D.tells → OnVolumes D.state (Follows Same) jobs.old jobs.new }
     ensures bytes { D.tells → OnVolumes D.state (λ was is. is.bytes ≡ was.bytes) jobs.old jobs.new }
 {
-    form_all(formed, table, jobs, body);
+    let links = Links::of(formed);
+    form_all(formed, &links, table, jobs, body);
 }

@@ -2,6 +2,7 @@
 #![tactic(auto)]
 
 mod forming;
+mod links;
 mod places;
 mod tracks;
 

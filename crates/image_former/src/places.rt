@@ -5,8 +5,11 @@ ghost use Rattle.std.specs.List.{list_any};
 ghost use Rattle.pair_table.specs.Tables.{AreRowsSound};
 ghost use Rattle.image_former.specs.Entries.{is_row_of, row_device};
 ghost use Rattle.image_former.specs.Jobs.{is_job_of};
+ghost use Rattle.image_former.specs.Links.{AreLinked};
 ghost use Rattle.image_former.specs.Steps.{is_beside, same_track};
+ghost use Rattle.pending_queue.specs.Groups.{heads};
 
+use crate::links::{LINKED, Links};
 use pair_table::{PairRow, PairTable};
 use pending_queue::{EntryHead, Formed};
 use xrc_journal::VolumeJob;
@@ -56,8 +59,8 @@ pub(crate) fn is_same_track(head: EntryHead, other: EntryHead) -> bool
     head.control == other.control && head.volume == other.volume && head.track == other.track
 }
 
-/// Whether an entry before this place is on the track of a head.
-pub(crate) fn has_earlier(formed: &Formed, head: EntryHead, place: u32) -> bool
+/// Whether one of the entries before this place is on the track of a head, by going through all of them.
+fn has_any_before(formed: &Formed, head: EntryHead, place: u32) -> bool
     requires { place < length formed.now.entries }
     ensures { result ≡ list_any (is_beside head) (take place formed.now.entries) }
 {
@@ -67,4 +70,36 @@ pub(crate) fn has_earlier(formed: &Formed, head: EntryHead, place: u32) -> bool
         }
     }
     false
+}
+
+/// The same by the links from the place of the head back.
+fn has_linked_before(formed: &Formed, links: &Links, head: EntryHead, place: u32) -> bool
+    requires linked { AreLinked (heads formed.now) links.now }
+    requires head { slice_get (heads formed.now) place ≡ Some head }
+    requires within { place < length formed.now.entries }
+    requires low { place < LINKED }
+    ensures { result ≡ list_any (is_beside head) (take place formed.now.entries) }
+{
+    let mut at = place;
+    while let Some(earlier) = links.back(formed, at) {
+        if is_same_track(head, formed.head(earlier)) {
+            return true;
+        }
+        at = earlier;
+    }
+    false
+}
+
+/// Whether an entry before the place of a head is on its track.
+pub(crate) fn has_earlier(formed: &Formed, links: &Links, head: EntryHead, place: u32) -> bool
+    requires linked { AreLinked (heads formed.now) links.now }
+    requires head { slice_get (heads formed.now) place ≡ Some head }
+    requires within { place < length formed.now.entries }
+    ensures { result ≡ list_any (is_beside head) (take place formed.now.entries) }
+{
+    if place < LINKED as u32 {
+        has_linked_before(formed, links, head, place)
+    } else {
+        has_any_before(formed, head, place)
+    }
 }

@@ -4,8 +4,10 @@ ghost use Rattle.std.specs.Prelude.{◌≡◌, ◌<◌, ◌≤◌, ℕ, List, []
 ghost use Rattle.ckd_track.specs.declared.rec.Rec.{Rec};
 ghost use Rattle.ckd_track.specs.SlotPlaces.{slot_end, slot_track};
 ghost use Rattle.pending_queue.specs.Groups.{heads};
+ghost use Rattle.image_former.specs.Links.{AreLinked};
 ghost use Rattle.image_former.specs.Steps.{StartsFromTrack, DoesEntries, Goes, HoldsSlot, OfBytes, Reads};
 
+use crate::links::Links;
 use crate::places::is_same_track;
 use ckd_track::{SLOT_LENGTH, Slot, slot_place};
 use crash_plant::Disk;
@@ -62,17 +64,19 @@ fn read_job<D: Disk>(job: &mut VolumeJob<D>, track: u32) -> Result<(), Failed>
 }
 
 /// Does to a track what the entry of this head at this place does, and those behind it on the same track.
-fn apply_entries(formed: &Formed, head: EntryHead, place: u32, slot: &mut Slot)
+fn apply_entries(formed: &Formed, links: &Links, head: EntryHead, place: u32, slot: &mut Slot)
+    requires linked { AreLinked (heads formed.now) links.now }
     requires within { place < length formed.now.entries }
     requires head { slice_get (heads formed.now) place ≡ Some head }
     ensures { (old : Option (List Rec)) → StartsFromTrack head old slot.old → DoesEntries head place formed.now.entries old slot.new }
 {
-    let count = formed.count();
     slot.apply_entry(formed.entry(place));
-    for later in place + 1..count {
-        if is_same_track(head, formed.head(later)) {
-            slot.apply_entry(formed.entry(later));
+    let mut at = links.forth(formed, place);
+    while at < formed.count() {
+        if is_same_track(head, formed.head(at)) {
+            slot.apply_entry(formed.entry(at));
         }
+        at = links.forth(formed, at);
     }
 }
 
@@ -80,10 +84,12 @@ fn apply_entries(formed: &Formed, head: EntryHead, place: u32, slot: &mut Slot)
 /// track is read unless the entry replaces it.
 pub(crate) fn form_track<D: Disk>(
     formed: &Formed,
+    links: &Links,
     head: EntryHead,
     place: u32,
     job: &mut VolumeJob<D>,
 ) -> Result<(), Failed>
+    requires linked { AreLinked (heads formed.now) links.now }
     requires within { place < length formed.now.entries }
     requires head { slice_get (heads formed.now) place ≡ Some head }
     requires sound { job.old.failed ≡ false }
@@ -98,6 +104,6 @@ pub(crate) fn form_track<D: Disk>(
     if !head.whole {
         read_job(job, head.track)?;
     }
-    apply_entries(formed, head, place, &mut job.slot);
+    apply_entries(formed, links, head, place, &mut job.slot);
     Ok(())
 }

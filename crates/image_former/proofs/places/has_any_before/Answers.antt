@@ -5,7 +5,7 @@ use Rattle.std.proofs.lemmas.Option.{slice_get_within, get_or_from_slice_get}
 use Rattle.image_former.specs.Steps.{is_beside, same_track}
 use Rattle.image_former.proofs.Lists.{any_more}
 use Rattle.image_former.proofs.Entries.{entry_there}
-use Rattle.image_former.proofs.places.has_earlier.Goals as goal
+use Rattle.image_former.proofs.places.has_any_before.Goals as goal
 
 pub returns-then-is_same_track : goal.returns-then-is_same_track
 returns-then-is_same_track c =

@@ -1,0 +1,8 @@
+use Rattle.std.proofs.Common.{◌-◌}
+use Rattle.pending_queue.specs.Groups.{heads}
+use Rattle.image_former.proofs.Linking.{LinkedForth}
+use Rattle.image_former.proofs.links.link_forth.Given as goal
+
+-- the last entries are linked
+abbrev pub invariant-loop-behind : goal.invariant-loop-behind
+invariant-loop-behind l = LinkedForth (heads l.formed) (l.count - l.behind) l.forth l.next
