@@ -9,7 +9,7 @@ use Rattle.ckd_track.specs.Tracks.{is_track}
 use Rattle.xrc_journal.specs.Items.{Item, Form, Earlier, none_earlier, behind, behind_all, anywhere, may_draw, is_drawn, is_item, are_items_behind, item_spelling, body_spelling}
 use Rattle.xrc_journal.specs.Items.Item.{Image, Delta, Pair, Gone}
 use Rattle.xrc_journal.specs.Reading.{Items, item_at, no_items, first_and_rest, items_from, items_at}
-use Rattle.xrc_journal.specs.Bodies.{items_of, IsBody, GoodFront, are_late, earlier_of}
+use Rattle.xrc_journal.specs.Bodies.{items_of, BeginsWith, IsBody, GoodFront, are_late, earlier_of}
 use Rattle.xrc_journal.specs.Answers.{length_of}
 use Rattle.xrc_journal.proofs.Fields.{both_true, and_true, some_is}
 use Rattle.xrc_journal.proofs.ItemsAgain.{items_again, bodies_again, first_is, some_bytes, image_rules}
@@ -85,6 +85,15 @@ pub record ReadsTo (form : Form) (bytes : List ℕ) (n : ℕ) (late : Bool) : Ty
   pub spelled : take n bytes ≡ body_spelling (items_of (take n bytes))
   pub late_is : late ≡ are_late (items_of (take n bytes))
 
+-- the item behind the first n bytes, of that many bytes
+pub record OneMore (form : Form) (bytes : List ℕ) (n size : ℕ) : Type 0 where
+  pub reads : ReadsTo form bytes (n + size) (not (nat_eq (slice_index (drop n bytes) 0) 1))
+  pub some : 1 ≤ size
+  pub within : n + size ≤ length bytes
+  pub item : Item
+  pub begins : BeginsWith (drop n bytes) item
+  pub earlier_is : earlier_of (take (n + size) bytes) ≡ behind item (earlier_of (take n bytes))
+
 pub reads_none : (form : Form) (bytes : List ℕ) → ReadsTo form bytes 0 false
 unfolding items_from
 reads_none form bytes = record { within = omega arith; keep = refl; spelled = refl; late_is = refl }
@@ -136,7 +145,7 @@ module _ (form : Form) (no_deltas : form.deltas ≡ false) (bytes : List ℕ) (n
   late_by (Pair row) is parts = ap (λ (k : ℕ). not (nat_eq k 1)) (ap (λ (l : List ℕ). slice_index l 0) parts)
   late_by (Gone device) is parts = ap (λ (k : ℕ). not (nat_eq k 1)) (ap (λ (l : List ℕ). slice_index l 0) parts)
 
-  more_by : (item : Item) (next : Left) (size : ℕ) → IsBytes bytes → item_at form (earlier_of (take n bytes)) (at_place 0 (drop n bytes)) ≡ Ok (item, next) → size ≡ length (item_spelling item) → ReadsTo form bytes (n + size) (not (nat_eq (slice_index (drop n bytes) 0) 1)) × (1 ≤ size) × (n + size ≤ length bytes)
+  more_by : (item : Item) (next : Left) (size : ℕ) → IsBytes bytes → item_at form (earlier_of (take n bytes)) (at_place 0 (drop n bytes)) ≡ Ok (item, next) → size ≡ length (item_spelling item) → OneMore form bytes n size
   more_by item next size fits is len =
       let taken = item_takes form (earlier_of (take n bytes)) (at_place 0 (drop n bytes)) item next (IsBytes-drop n bytes fits) is in
       let parts : drop n bytes ≡ item_spelling item ++ next.bytes = taken.takes.parts in
@@ -146,21 +155,27 @@ module _ (form : Form) (no_deltas : form.deltas ≡ false) (bytes : List ℕ) (n
       take-add n size bytes ∙ (λ i. reads.spelled i ++ take (len i) (parts i)) ∙ ap (λ (l : List ℕ). body_spelling items ++ l) (take_at (item_spelling item) next.bytes (length (item_spelling item)) refl) ∙ sym (body_push items item) in
       let pushed = are_push form none_earlier items item reads.keep taken.kept in
       let read : items_of (take (n + size) bytes) ≡ items ++ item ∷ [] = items_are (items ++ item ∷ []) (take (n + size) bytes) (are_anywhere form none_earlier (items ++ item ∷ []) no_deltas pushed) front in
-      let tail : drop n bytes ≡ item_spelling item ++ drop (length (item_spelling item)) (drop n bytes) = parts ∙ ap (λ (l : List ℕ). item_spelling item ++ l) (sym (ap (λ (l : List ℕ). drop (length (item_spelling item)) l) parts ∙ drop_at (item_spelling item) next.bytes (length (item_spelling item)) refl)) in (
-        record {
+      let tail : drop n bytes ≡ item_spelling item ++ drop (length (item_spelling item)) (drop n bytes) = parts ∙ ap (λ (l : List ℕ). item_spelling item ++ l) (sym (ap (λ (l : List ℕ). drop (length (item_spelling item)) l) parts ∙ drop_at (item_spelling item) next.bytes (length (item_spelling item)) refl)) in
+      let earlier = earlier_of (take n bytes) in
+      let pushed_is = behind_push items item none_earlier in
+      record {
+        reads = record {
           within = size_le;
           keep = ap (λ (l : List Item). are_items_behind form none_earlier l) read ∙ pushed;
           spelled = front ∙ ap body_spelling (sym read);
-          late_is = late_by item taken.kept tail ∙ ap (λ (e : Earlier). e.late) (sym (behind_push items item none_earlier)) ∙ ap are_late (sym read);
-        },
-        omega (arith, len, some_bytes item),
-        size_le,
-      )
+          late_is = late_by item taken.kept tail ∙ ap (λ (e : Earlier). e.late) (sym pushed_is) ∙ ap are_late (sym read);
+        };
+        some = omega (arith, len, some_bytes item);
+        within = size_le;
+        item = item;
+        begins = record { earlier = earlier; rest = next.bytes; keeps = item_anywhere form earlier item no_deltas taken.kept; parts = parts };
+        earlier_is = ap (λ (l : List Item). behind_all l none_earlier) read ∙ pushed_is;
+      }
 
   -- one item more
-  pub reads_more : (size : ℕ) → IsBytes bytes → length_of (item_at form (earlier_of (take n bytes)) (at_place 0 (drop n bytes))) ≡ Some size → ReadsTo form bytes (n + size) (not (nat_eq (slice_index (drop n bytes) 0) 1)) × (1 ≤ size) × (n + size ≤ length bytes)
+  pub reads_more : (size : ℕ) → IsBytes bytes → length_of (item_at form (earlier_of (take n bytes)) (at_place 0 (drop n bytes))) ≡ Some size → OneMore form bytes n size
   reads_more size fits some = by_read (item_at form (earlier_of (take n bytes)) (at_place 0 (drop n bytes))) refl some
     where
-      by_read : (r : Result (Item × Left) Bad) → item_at form (earlier_of (take n bytes)) (at_place 0 (drop n bytes)) ≡ r → length_of r ≡ Some size → ReadsTo form bytes (n + size) (not (nat_eq (slice_index (drop n bytes) 0) 1)) × (1 ≤ size) × (n + size ≤ length bytes)
+      by_read : (r : Result (Item × Left) Bad) → item_at form (earlier_of (take n bytes)) (at_place 0 (drop n bytes)) ≡ r → length_of r ≡ Some size → OneMore form bytes n size
       by_read (Ok i) is some = more_by i.0 i.1 size fits is (sym (some_is (length (item_spelling i.0)) size some))
       by_read (Err bad) is some = absurd cc

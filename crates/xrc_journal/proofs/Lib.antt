@@ -16,6 +16,7 @@ pub mod Appends
 pub mod Steps
 pub mod Headers
 pub mod ItemSteps
+pub mod DrawnSets
 pub mod Scans
 pub mod Fronts
 pub mod Fills

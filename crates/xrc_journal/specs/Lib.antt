@@ -3,6 +3,7 @@ pub mod Deltas
 pub mod Reading
 pub mod Records
 pub mod Bodies
+pub mod Drawn
 pub mod Answers
 pub mod Walks
 pub mod Laws

@@ -28,6 +28,8 @@ use xrc_edge::{Failed, NoMemory};
 pub struct Body {
     buffer: BoxedSlice<u8>,
     used: usize,
+    // For the tracks that have an image among items that are read.
+    alloc: Global,
 }
 
 impl Model for Body {
@@ -65,7 +67,11 @@ impl Body {
         ensures { IfOk result (λ body. body ≡ record { items = []; room = length }) }
     {
         let buffer = zeros(alloc, length as usize + 1)?;
-        Ok(Body { buffer, used: 0 })
+        Ok(Body {
+            buffer,
+            used: 0,
+            alloc,
+        })
     }
 
     /// The spelling of the items, one after another.
@@ -156,7 +162,14 @@ impl Body {
         ensures cause { HasCause ((P.state plant.old).faults device) ((P.state plant.new).faults device) result }
     {
         let count = count as usize;
-        match fill(plant, device, place, self.buffer.as_mut_slice(), count) {
+        match fill(
+            plant,
+            self.alloc,
+            device,
+            place,
+            self.buffer.as_mut_slice(),
+            count,
+        ) {
             Ok(good) => {
                 self.used = good;
                 Ok(bad_place(place, good, count))

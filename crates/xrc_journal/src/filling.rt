@@ -11,12 +11,14 @@ ghost use Rattle.xrc_journal.specs.Bodies.{HoldsItems, items_of};
 
 use crate::item::good_length;
 use crash_plant::{Device, Plant};
+use std::alloc::Global;
 use xrc_edge::Failed;
 
 /// Reads bytes of a device into the front of a buffer, and closes the gate behind the good items at their front. Gives the
 /// length of these. Where it fails the gate is the first byte.
 pub(crate) fn fill<P: Plant>(
     plant: &mut P,
+    alloc: Global,
     device: Device,
     place: u64,
     buffer: &mut [u8],
@@ -39,7 +41,7 @@ pub(crate) fn fill<P: Plant>(
 {
     match plant.read(device, place, &mut buffer[..count]) {
         Ok(()) => {
-            let good = good_length(plant, &buffer[..count]);
+            let good = good_length(plant, alloc, &buffer[..count]);
             buffer[good] = 0;
             Ok(good)
         }

@@ -1,17 +1,20 @@
 //! Items of a body that is read.
 
-ghost use Rattle.std.specs.Prelude.{◌≡◌, ◌≤◌, ◌+◌, ℕ, length};
+ghost use Rattle.std.specs.Prelude.{◌≡◌, ◌≤◌, ◌+◌, ◌∷◌, ℕ, length, IfSome, IsTrue};
 ghost use Rattle.crash_plant.specs.Calls.{NoneLent};
-ghost use Rattle.xrc_journal.specs.Items.{Item, form_of, is_within, item_spelling, may_draw};
+ghost use Rattle.xrc_journal.specs.Items.{Item, behind, form_of, is_within, may_draw};
 ghost use Rattle.xrc_journal.specs.Reading.{gone_item_at, image_item_at, item_at, pair_item_at};
-ghost use Rattle.xrc_journal.specs.Bodies.{BeginsWith, BeginsWithItem, GoodFront, IsBody, are_late, draws, earlier_of, have_image, items_of};
+ghost use Rattle.xrc_journal.specs.Bodies.{BeginsWith, GoodFront, IsBody, are_late, earlier_of, items_of};
+ghost use Rattle.xrc_journal.specs.Drawn.{AreDrawn, track_in};
 ghost use Rattle.xrc_journal.specs.Answers.{length_of};
 
+use crate::drawn::DrawnTracks;
 use crate::layout::{IMAGE_FRONT, ROW_ITEM, TRACK};
 use byteorder::{BigEndian, ByteOrder};
 use ckd_track::{SLOT_LENGTH, slot_place};
 use crash_plant::{Device, Plant};
 use pair_table::{ROW_LENGTH, decode_row};
+use std::alloc::Global;
 
 /// Whether a device of that length has the whole slot of a track.
 fn is_within(length: u64, track: u32) -> bool
@@ -50,68 +53,42 @@ pub(crate) fn gone_length(fields: &[u8]) -> Option<usize>
     if fields.len() < 2 { None } else { Some(3) }
 }
 
-/// The length of the item that the bytes begin with.
-fn first_length(bytes: &[u8]) -> usize
-    requires { BeginsWithItem bytes.now }
-    ensures { (item : Item) → BeginsWith bytes.now item → result ≡ length (item_spelling item) }
-{
-    match bytes[0] {
-        1 => match ckd_track::image_length(&bytes[IMAGE_FRONT..]) {
-            Ok(length) => IMAGE_FRONT + length,
-            Err(_) => unreachable!(),
-        },
-        3 => ROW_ITEM,
-        _ => 3,
-    }
-}
-
-/// Whether the item that the bytes begin with is an image of a track.
-fn draws(bytes: &[u8], device: u16, track: u32) -> bool
-    requires { BeginsWithItem bytes.now }
-    ensures { (item : Item) → BeginsWith bytes.now item → result ≡ draws device track item }
-{
-    bytes[0] == 1
-        && BigEndian::read_u16(&bytes[1..3]) == device
-        && BigEndian::read_u32(&bytes[3..7]) == track
-}
-
-/// Whether an image of a track is among the items of a body.
-pub(crate) fn has_image(body: &[u8], device: u16, track: u32) -> bool
-    requires { IsBody body.now }
-    ensures { result ≡ have_image (items_of body.now) device track }
-{
-    let mut rest = body;
-    while !rest.is_empty() {
-        if draws(rest, device, track) {
-            return true;
-        }
-        let (_, behind) = rest.split_at(first_length(rest));
-        rest = behind;
-    }
-    false
-}
-
-/// Whether an image of a track may follow the items of a body.
-fn may_draw<P: Plant>(plant: &P, body: &[u8], device: u16, track: u32) -> bool
+/// Whether an image of a track may follow the items of a body. If so, the track is drawn from then on.
+fn may_draw<P: Plant>(
+    plant: &P,
+    drawn: &mut DrawnTracks,
+    body: &[u8],
+    device: u16,
+    track: u32,
+) -> bool
     requires home { NoneLent (P.state plant.now) }
     requires body { IsBody body.now }
-    ensures { result ≡ may_draw (form_of (P.state plant.now)) (earlier_of body.now) device track }
+    requires known { AreDrawn drawn.old (earlier_of body.now).drawn }
+    ensures may { result ≡ may_draw (form_of (P.state plant.now)) (earlier_of body.now) device track }
+    ensures known { IsTrue result → AreDrawn drawn.new ((device, track) ∷ (earlier_of body.now).drawn) }
 {
-    has_slot(plant, device, track) && !has_image(body, device, track)
+    has_slot(plant, device, track) && drawn.take(body, device, track)
 }
 
 /// The length of an image's item with these fields behind its tag, which stands behind the items of a body.
-fn image_length<P: Plant>(plant: &P, body: &[u8], fields: &[u8]) -> Option<usize>
+fn image_length<P: Plant>(
+    plant: &P,
+    drawn: &mut DrawnTracks,
+    body: &[u8],
+    fields: &[u8],
+) -> Option<usize>
     requires home { NoneLent (P.state plant.now) }
     requires body { IsBody body.now }
-    ensures { (place : ℕ) → result ≡ length_of (image_item_at (form_of (P.state plant.now)) (earlier_of body.now) (record { place = place; bytes = fields.now })) }
+    requires known { AreDrawn drawn.old (earlier_of body.now).drawn }
+    ensures length { (place : ℕ) → result ≡ length_of (image_item_at (form_of (P.state plant.now)) (earlier_of body.now) (record { place = place; bytes = fields.now })) }
+    ensures known { IfSome result (λ length. AreDrawn drawn.new (track_in fields.now ∷ (earlier_of body.now).drawn)) }
 {
     if fields.len() < TRACK {
         return None;
     }
     let device = BigEndian::read_u16(&fields[..2]);
     let track = BigEndian::read_u32(&fields[2..6]);
-    if !may_draw(plant, body, device, track) {
+    if !may_draw(plant, drawn, body, device, track) {
         return None;
     }
     match ckd_track::image_length(&fields[TRACK..]) {
@@ -121,23 +98,26 @@ fn image_length<P: Plant>(plant: &P, body: &[u8], fields: &[u8]) -> Option<usize
 }
 
 /// The length of the item that the bytes begin with, which stands behind the items of a body. `late` says whether one of those
-/// is of a row. None where it breaks a rule.
+/// is of a row, and `drawn` which tracks have an image there. None where it breaks a rule.
 pub(crate) fn item_length<P: Plant>(
     plant: &P,
+    drawn: &mut DrawnTracks,
     body: &[u8],
     late: bool,
     bytes: &[u8],
 ) -> Option<usize>
     requires home { NoneLent (P.state plant.now) }
     requires body { IsBody body.now }
+    requires known { AreDrawn drawn.old (earlier_of body.now).drawn }
     requires late { late ≡ are_late (items_of body.now) }
     requires some { 1 ≤ length bytes.now }
-    ensures { (place : ℕ) → result ≡ length_of (item_at (form_of (P.state plant.now)) (earlier_of body.now) (record { place = place; bytes = bytes.now })) }
+    ensures length { (place : ℕ) → result ≡ length_of (item_at (form_of (P.state plant.now)) (earlier_of body.now) (record { place = place; bytes = bytes.now })) }
+    ensures known { IfSome result (λ length. (item : Item) → BeginsWith bytes.now item → AreDrawn drawn.new (behind item (earlier_of body.now)).drawn) }
 {
     let (tag, fields) = bytes.split_at(1);
     match tag[0] {
         1 if late => None,
-        1 => image_length(plant, body, fields),
+        1 => image_length(plant, drawn, body, fields),
         3 => pair_length(fields),
         4 => gone_length(fields),
         _ => None,
@@ -145,15 +125,16 @@ pub(crate) fn item_length<P: Plant>(
 }
 
 /// How many bytes at the front of a body are items that keep their rules, up to the first that doesn't.
-pub(crate) fn good_length<P: Plant>(plant: &P, bytes: &[u8]) -> usize
+pub(crate) fn good_length<P: Plant>(plant: &P, alloc: Global, bytes: &[u8]) -> usize
     requires home { NoneLent (P.state plant.now) }
     ensures { GoodFront (form_of (P.state plant.now)) bytes.now result }
 {
+    let mut drawn = DrawnTracks::make(alloc);
     let mut good = 0;
     let mut late = false;
     while good < bytes.len() {
         let (body, rest) = bytes.split_at(good);
-        let Some(length) = item_length(plant, body, late, rest) else {
+        let Some(length) = item_length(plant, &mut drawn, body, late, rest) else {
             return good;
         };
         late = rest[0] != 1;

@@ -3,6 +3,7 @@
 
 mod body;
 mod buffer;
+mod drawn;
 mod filling;
 mod header;
 mod item;

@@ -1,13 +1,14 @@
-use Rattle.std.proofs.Common.{rules, ◌+◌, ◌≢◌, List, ℕ, refl, slice_index, sym, ap, ◌∙◌}
+use Rattle.std.proofs.Common.{rules, ◌+◌, ◌≢◌, List, ℕ, refl, slice_index, sym, ap, ◌∙◌, arith}
 use Rattle.xrc_journal.specs.Items.{form_of}
 use Rattle.xrc_journal.specs.Reading.{item_at}
 use Rattle.xrc_journal.specs.Bodies.{earlier_of}
 use Rattle.xrc_journal.specs.Answers.{length_of}
 use Rattle.xrc_journal.proofs.ItemSteps.{split_tag, tag_late, tag_image, tag_pair, tag_gone, tag_none}
+use Rattle.xrc_journal.proofs.DrawnSets.{behind_image, behind_other, then_there, there}
 use Rattle.xrc_journal.proofs.item.item_length.Goals as goal
 
-pub returns-in-1 : goal.returns-in-1
-returns-in-1 g c = λ place.
+pub returns-in-1-clause-length : goal.returns-in-1-clause-length
+returns-in-1-clause-length g c = λ place.
     let form = form_of (g.P.Plant.state c.args.plant.now) in
     let earlier = earlier_of c.args.body.now in
     let fields = c.split_at.result.1.now in
@@ -15,17 +16,17 @@ returns-in-1 g c = λ place.
     sym (tag_late form earlier refl place fields (sym c.requires.late ∙ c.if-late.true))
     ∙ ap (λ (l : List ℕ). length_of (item_at form earlier (record { place = place; bytes = l }))) (sym whole)
 
-pub returns-in-1-2 : goal.returns-in-1-2
-returns-in-1-2 g c = λ place.
+pub returns-in-1-2-clause-length : goal.returns-in-1-2-clause-length
+returns-in-1-2-clause-length g c = λ place.
     let form = form_of (g.P.Plant.state c.args.plant.now) in
     let earlier = earlier_of c.args.body.now in
     let fields = c.split_at.result.1.now in
     let whole = split_tag c.args.bytes.now c.split_at.result.0.now fields 1 c.requires.some c.split_at.ensures.front c.split_at.ensures.back c.in-1.is in
-    c.image_length.ensures (place + 1) ∙ sym (tag_image form earlier refl place fields (sym c.requires.late ∙ c.if-late.false))
+    c.image_length.ensures.length (place + 1) ∙ sym (tag_image form earlier refl place fields (sym c.requires.late ∙ c.if-late.false))
     ∙ ap (λ (l : List ℕ). length_of (item_at form earlier (record { place = place; bytes = l }))) (sym whole)
 
-pub returns-in-3 : goal.returns-in-3
-returns-in-3 g c = λ place.
+pub returns-in-3-clause-length : goal.returns-in-3-clause-length
+returns-in-3-clause-length g c = λ place.
     let form = form_of (g.P.Plant.state c.args.plant.now) in
     let earlier = earlier_of c.args.body.now in
     let fields = c.split_at.result.1.now in
@@ -33,8 +34,8 @@ returns-in-3 g c = λ place.
     c.pair_length.ensures (place + 1) ∙ sym (tag_pair form earlier refl place fields)
     ∙ ap (λ (l : List ℕ). length_of (item_at form earlier (record { place = place; bytes = l }))) (sym whole)
 
-pub returns-in-4 : goal.returns-in-4
-returns-in-4 g c = λ place.
+pub returns-in-4-clause-length : goal.returns-in-4-clause-length
+returns-in-4-clause-length g c = λ place.
     let form = form_of (g.P.Plant.state c.args.plant.now) in
     let earlier = earlier_of c.args.body.now in
     let fields = c.split_at.result.1.now in
@@ -42,8 +43,8 @@ returns-in-4 g c = λ place.
     c.gone_length.ensures (place + 1) ∙ sym (tag_gone form earlier refl place fields)
     ∙ ap (λ (l : List ℕ). length_of (item_at form earlier (record { place = place; bytes = l }))) (sym whole)
 
-pub returns-in_default : goal.returns-in_default
-returns-in_default g c = λ place.
+pub returns-in_default-clause-length : goal.returns-in_default-clause-length
+returns-in_default-clause-length g c = λ place.
     let form = form_of (g.P.Plant.state c.args.plant.now) in
     let earlier = earlier_of c.args.body.now in
     let fields = c.split_at.result.1.now in
@@ -53,3 +54,21 @@ returns-in_default g c = λ place.
     let four : tag ≢ 4 = search rules in
     let whole = split_tag c.args.bytes.now c.split_at.result.0.now fields tag c.requires.some c.split_at.ensures.front c.split_at.ensures.back refl in
     sym (tag_none form earlier refl place fields tag one three four) ∙ ap (λ (l : List ℕ). length_of (item_at form earlier (record { place = place; bytes = l }))) (sym whole)
+
+pub returns-in-1-2-clause-known : goal.returns-in-1-2-clause-known
+returns-in-1-2-clause-known g c =
+    let fields = c.split_at.result.1.now in
+    let whole = split_tag c.args.bytes.now c.split_at.result.0.now fields 1 c.requires.some c.split_at.ensures.front c.split_at.ensures.back c.in-1.is in
+    then_there c.image_length.result c.image_length.ensures.known (λ known item begins. behind_image c.args.bytes.now fields (earlier_of c.args.body.now) c.image_length.new.drawn item whole begins known)
+
+pub returns-in-3-clause-known : goal.returns-in-3-clause-known
+returns-in-3-clause-known g c =
+    let fields = c.split_at.result.1.now in
+    let whole = split_tag c.args.bytes.now c.split_at.result.0.now fields 3 c.requires.some c.split_at.ensures.front c.split_at.ensures.back c.in-3.is in
+    there c.pair_length.result (λ item begins. behind_other c.args.bytes.now fields 3 (earlier_of c.args.body.now) c.args.drawn.now item (λ e. absurd (omega (arith, e))) whole begins c.requires.known)
+
+pub returns-in-4-clause-known : goal.returns-in-4-clause-known
+returns-in-4-clause-known g c =
+    let fields = c.split_at.result.1.now in
+    let whole = split_tag c.args.bytes.now c.split_at.result.0.now fields 4 c.requires.some c.split_at.ensures.front c.split_at.ensures.back c.in-4.is in
+    there c.gone_length.result (λ item begins. behind_other c.args.bytes.now fields 4 (earlier_of c.args.body.now) c.args.drawn.now item (λ e. absurd (omega (arith, e))) whole begins c.requires.known)

@@ -1,6 +1,6 @@
 use Rattle.std.proofs.Common.{length}
 use Rattle.xrc_journal.proofs.Scans.{Scan}
-use Rattle.xrc_journal.proofs.item.has_image.Given as goal
+use Rattle.xrc_journal.proofs.drawn.has_image.Given as goal
 
 -- no item before what is left is an image of the track
 abbrev pub invariant-loop-rest : goal.invariant-loop-rest

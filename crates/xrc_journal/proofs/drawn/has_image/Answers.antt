@@ -1,6 +1,6 @@
 use Rattle.std.proofs.Common.{rules, ◌≡◌, ◌≤◌, List, ℕ, length, drop, sym, subst, ◌∙◌, ap, arith, length-drop}
 use Rattle.xrc_journal.proofs.Scans.{Scan, scan_start, scan_first, scan_end, begins_with}
-use Rattle.xrc_journal.proofs.item.has_image.Goals as goal
+use Rattle.xrc_journal.proofs.drawn.has_image.Goals as goal
 
 pub draws-requires : goal.draws-requires
 draws-requires c =

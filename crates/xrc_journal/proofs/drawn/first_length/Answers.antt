@@ -1,7 +1,7 @@
 use Rattle.std.proofs.Common.{arith}
 use Rattle.xrc_journal.specs.Bodies.{BeginsWith}
 use Rattle.xrc_journal.proofs.Scans.{image_length, image_bad}
-use Rattle.xrc_journal.proofs.item.first_length.Goals as goal
+use Rattle.xrc_journal.proofs.drawn.first_length.Goals as goal
 
 pub overflow_add-result : goal.overflow_add-result
 overflow_add-result c =
