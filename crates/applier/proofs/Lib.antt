@@ -4,6 +4,8 @@ pub mod Writing
 pub mod Contents
 pub mod Going
 pub mod Volumes
+pub mod InTurn
+pub mod Places
 pub mod Others
 pub mod LentVolumes
 pub mod Lending

@@ -1,24 +1,31 @@
--- What holds of each job of the parts of a list holds of each job of the list.
-use Rattle.std.proofs.Common.{◌≡◌, ℕ, ◌+◌, ◌-◌, ◌<◌, inl, inr, List, ◌++◌, length, get_or, set, refl, sym, ◌∙◌, ap, subst, arith, length-set, length-append}
-use Rattle.std.specs.Prelude.{All}
+-- What holds of jobs one after another, and of each job of the parts of a list.
+use Rattle.std.proofs.Common.{◌≡◌, ◌⊎◌, ℕ, ◌+◌, ◌-◌, ◌<◌, ◌≤◌, inl, inr, List, ◌++◌, length, get_or, set, refl, sym, ◌∙◌, subst, arith, length-set, length-append}
 use Rattle.std.proofs.lemmas.Bool.{cases_lt}
-use Rattle.std.proofs.lemmas.List.{get_or_default, get_or-set_same, get_or_append_left, get_or-append_right}
+use Rattle.std.proofs.lemmas.List.{get_or_default, get_or-set_other, get_or-set_same, get_or_append_left, get_or-append_right}
 use Rattle.xrc_journal.specs.declared.job.VolumeJob.{VolumeJob}
 use Rattle.applier.specs.Sides.{HoldsOfEach}
 
-module _ {D : Type 0} (holds : VolumeJob D → VolumeJob D → Type 0) where
-  -- one job alone
-  pub of_one : (jobs : List (VolumeJob D)) (d new : VolumeJob D) → length jobs ≡ 1 → holds (get_or jobs 0 d) new → HoldsOfEach holds jobs (set jobs 0 new)
-  of_one jobs d new one held = record { same = length-set jobs 0 new; each = λ i e less. at i e (omega (arith, less, one)) }
-    where
-      some : 0 < length jobs
-      some = omega (arith, one)
+-- This holds of the jobs before a place, and the others are as they were.
+pub record HoldsBefore {D : Type 0} (holds : VolumeJob D → VolumeJob D → Type 0) (place : ℕ) (old now : List (VolumeJob D)) : Type 0 where
+  pub same : length now ≡ length old
+  pub done : (i : ℕ) (d : VolumeJob D) → i < place → holds (get_or old i d) (get_or now i d)
+  pub rest : (i : ℕ) (d : VolumeJob D) → place ≤ i → get_or now i d ≡ get_or old i d
 
-      at : (i : ℕ) (e : VolumeJob D) → i ≡ 0 → holds (get_or jobs i e) (get_or (set jobs 0 new) i e)
-      at i e first =
-          subst (λ (n : ℕ). holds (get_or jobs n e) (get_or (set jobs 0 new) n e)) (sym first)
-          (subst (λ (j : VolumeJob D). holds (get_or jobs 0 e) j) (sym (get_or-set_same jobs 0 new e some))
-          (subst (λ (j : VolumeJob D). holds j new) (get_or_default jobs 0 d e some) held))
+module _ {D : Type 0} (holds : VolumeJob D → VolumeJob D → Type 0) where
+  -- one job more
+  pub before_more : (place : ℕ) (old now : List (VolumeJob D)) (d new : VolumeJob D) → place < length now → holds (get_or now place d) new → HoldsBefore holds place old now → HoldsBefore holds (place + 1) old (set now place new)
+  before_more place old now d new there held b = record {
+    same = length-set now place new ∙ b.same;
+    done = λ i e less. by_place i e (cases_lt i place) less;
+    rest = λ i e from. get_or-set_other now place i new e (λ is. omega (arith, from, is)) ∙ b.rest i e (omega (arith, from));
+  }
+    where
+      by_place : (i : ℕ) (e : VolumeJob D) → (i < place) ⊎ (place ≤ i) → i < place + 1 → holds (get_or old i e) (get_or (set now place new) i e)
+      by_place i e (inl before) less = subst (λ (j : VolumeJob D). holds (get_or old i e) j) (sym (get_or-set_other now place i new e (λ is. omega (arith, before, is)))) (b.done i e before)
+      by_place i e (inr from) less =
+          subst (λ (n : ℕ). holds (get_or old n e) (get_or (set now place new) n e)) (omega (arith, from, less))
+          (subst (λ (j : VolumeJob D). holds (get_or old place e) j) (sym (get_or-set_same now place new e there))
+          (subst (λ (j : VolumeJob D). holds j new) (get_or_default now place d e there ∙ b.rest place e (omega arith)) held))
 
   module _ (old front back front' back' : List (VolumeJob D)) (parts : old ≡ front ++ back) (first : HoldsOfEach holds front front') (second : HoldsOfEach holds back back') where
     -- both parts
@@ -36,9 +43,3 @@ module _ {D : Type 0} (holds : VolumeJob D → VolumeJob D → Type 0) where
               (subst (λ (j : VolumeJob D). holds (get_or back (i - length front) d) j) (sym (get_or-append_right front' back' (length front) i d first.same behind))
               (second.each (i - length front) d (omega (arith, less, behind, length-append front back))))
         ]
-
--- what holds of each of the list holds of each of its last part
-pub all_behind : {X : Type 0} (P : X → Type 0) (all front back : List X) → all ≡ front ++ back → All P all → All P back
-all_behind P all front back parts each k d less =
-    subst P (ap (λ (l : List _). get_or l (length front + k) d) parts ∙ get_or-append_right front back (length front) (length front + k) d refl (omega arith) ∙ ap (λ (n : ℕ). get_or back n d) (omega arith))
-    (each (length front + k) d (omega (arith, less, ap length parts, length-append front back)))

@@ -1,41 +1,62 @@
 -- One item's write.
-use Rattle.std.proofs.Common.{◌≡◌, ◌==◌, ◌&&◌, ◌||◌, ℕ, true, false, cond, List, [], ◌∷◌, length, refl, sym, subst, arith, Result, OnOk}
-use Rattle.std.proofs.lemmas.Bool.{eq-eqb}
+use Rattle.std.proofs.Common.{◌≡◌, ◌==◌, ◌&&◌, ◌||◌, ◌+◌, ◌≤◌, ℕ, true, false, cond, List, [], ◌∷◌, ◌++◌, length, drop, refl, sym, ◌∙◌, ap, subst, arith, Result, OnOk}
+use Rattle.std.specs.Int.{w16, w32, to_be_bytes}
+use Rattle.std.specs.Prelude.{slice_range}
+use Rattle.std.proofs.lemmas.Bool.{eq-eqb, eqb-true}
+use Rattle.std.proofs.lemmas.List.{take_rest}
 use Rattle.xrc_edge.specs.declared.outcome.Failed.{Failed}
 use Rattle.xrc_edge.specs.Causes.{HasCause}
 use Rattle.ckd_track.specs.declared.rec.Rec.{Rec}
 use Rattle.ckd_track.specs.Tracks.{IsTrack}
 use Rattle.ckd_track.specs.Images.{image}
-use Rattle.ckd_track.specs.SlotPlaces.{slot_place}
+use Rattle.ckd_track.specs.SlotPlaces.{slot_place, slot_end}
 use Rattle.ckd_track.proofs.Parts.{length-image}
 use Rattle.crash_plant.specs.Bytes.{patched, Torn}
 use Rattle.crash_plant.specs.Moments.{Standing, Follows, SamePast}
 use Rattle.xrc_journal.specs.declared.reading.BodyItem.{BodyItem}
-use Rattle.xrc_journal.specs.Items.{Item, Earlier, anywhere, is_item}
+use Rattle.xrc_journal.specs.Items.{Item, anywhere, is_item, item_spelling}
 use Rattle.xrc_journal.specs.Items.Item.{Image, Delta, Pair, Gone}
-use Rattle.xrc_journal.specs.Views.{told, track_behind}
+use Rattle.xrc_journal.specs.Views.{told}
 use Rattle.xrc_journal.specs.Contents.{HasItem}
 use Rattle.xrc_journal.proofs.ItemsAgain.{image_rules}
 use Rattle.applier.specs.Slots.{DiffersInSlots}
-use Rattle.applier.specs.Writes.{written_by, Writes}
+use Rattle.applier.specs.Writes.{written_by, IsTold, Writes}
 use Rattle.applier.proofs.InSlots.{torn_differs}
 
 -- an image that is told
-pub record IsImageOf (of track : ℕ) (recs : List Rec) (i : Item) : Type 0 where
+pub record IsImageOf (of track : ℕ) (bytes : List ℕ) (i : Item) : Type 0 where
+  pub recs : List Rec
   pub is : i ≡ Image of track recs
   pub are : IsTrack recs
+  pub spelled : bytes ≡ 1 ∷ to_be_bytes w16 of ++ to_be_bytes w32 track ++ image recs
+  pub bytes_are : slice_range bytes 7 (length bytes) ≡ image recs
 
-pub told_image : (of track : ℕ) (earlier : Earlier) (i : Item) (old recs : List Rec) → is_item anywhere earlier i ≡ true → BodyItem.Image of track ≡ told i → recs ≡ track_behind i old → IsImageOf of track recs i
-told_image of track earlier (Image d x r) old recs keeps e slot =
-    let device : of ≡ d = cc in
-    let place : track ≡ x = cc in
-    record {
-      is = λ i. Image (sym device i) (sym place i) (sym slot i);
-      are = subst (λ (l : List Rec). IsTrack l) (sym slot) (image_rules anywhere earlier d x r keeps).are;
-    }
-told_image of track earlier (Delta d x kind) old recs keeps e slot = absurd cc
-told_image of track earlier (Pair row) old recs keeps e slot = absurd cc
-told_image of track earlier (Gone d) old recs keeps e slot = absurd cc
+image_behind : (of track : ℕ) (recs : List Rec) → drop 7 (1 ∷ to_be_bytes w16 of ++ to_be_bytes w32 track ++ image recs) ≡ image recs
+image_behind of track recs = refl
+
+pub told_image : (of track : ℕ) (bytes : List ℕ) (i : Item) → IsTold (BodyItem.Image of track) bytes i → IsImageOf of track bytes i
+told_image of track bytes i t = go i t.keeps t.told_is t.spelled
+  where
+    go : (i : Item) → is_item anywhere t.earlier i ≡ true → BodyItem.Image of track ≡ told i → bytes ≡ item_spelling i → IsImageOf of track bytes i
+    go (Image d x r) keeps e spelled =
+        let device : of ≡ d = cc in
+        let place : track ≡ x = cc in
+        record {
+          recs = r;
+          is = λ i. Image (sym device i) (sym place i) r;
+          are = (image_rules anywhere t.earlier d x r keeps).are;
+          spelled = spelled ∙ (λ i. 1 ∷ to_be_bytes w16 (sym device i) ++ to_be_bytes w32 (sym place i) ++ image r);
+          bytes_are = take_rest bytes 7 ∙ ap (λ (l : List ℕ). drop 7 l) spelled ∙ image_behind d x r;
+        }
+    go (Delta d x kind) keeps e spelled = absurd cc
+    go (Pair row) keeps e spelled = absurd cc
+    go (Gone d) keeps e spelled = absurd cc
+
+-- The image fits where the slot of its track lies in the device.
+pub room_for : (item : BodyItem) (device of track : ℕ) (bytes : List ℕ) (i : Item) → IsImageOf of track bytes i → (of == device) ≡ true → item ≡ BodyItem.Image of track → (size : ℕ) → ((x : ℕ) → item ≡ BodyItem.Image device x → slot_end x ≤ size)
+    → (place : ℕ) → place ≡ slot_place track → place + length (slice_range bytes 7 (length bytes)) ≤ size
+room_for item device of track bytes i is here told size room place place_is =
+    omega (arith, room track (told ∙ (λ i. BodyItem.Image (eqb-true of device here i) track)), place_is, ap length is.bytes_are, length-image is.recs is.are)
 
 pub own_track : (device of track : ℕ) (recs : List Rec) → (of == device) ≡ true → HasItem device track (Image of track recs ∷ [])
 own_track device of track recs here = λ i. (here i && eq-eqb track track refl i) || false

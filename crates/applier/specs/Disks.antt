@@ -26,3 +26,7 @@ AreApart {D} jobs = (i j : ℕ) (d : VolumeJob D) → i < j → j < length jobs 
 -- the device is the volume of a job that has its disk
 abbrev pub IsLentTo : {D : Type 0} → List (VolumeJob D) → Device → Type 0
 IsLentTo {D} jobs device = (job : VolumeJob D) × IsAmong jobs job × IsSome job.disk × (device ≡ Volume job.device)
+
+-- Each job's device is above those of the jobs before.
+abbrev pub AreRising : {D : Type 0} → List (VolumeJob D) → Type 0
+AreRising {D} jobs = (i j : ℕ) (d : VolumeJob D) → i < j → j < length jobs → (slice_index_or jobs i d).device < (slice_index_or jobs j d).device

@@ -1,7 +1,5 @@
 -- What work on jobs, side by side, leaves of each of them.
 use Rattle.std.specs.Prelude.{◌≡◌, ℕ, ◌&&◌, ◌<◌, not, Bool, true, false, List, length, slice_index_or, None, is_some}
-use denote.Ref.{MutBor}
-use denote.Param.Members.{Shared}
 use Rattle.crash_plant.specs.Moments.{Standing, Follows, SamePast, Same, IsDurable, Raises}
 use Rattle.xrc_journal.specs.declared.job.VolumeJob.{VolumeJob}
 use Rattle.xrc_journal.specs.Items.{Item}
@@ -49,19 +47,6 @@ pub record SyncsJob {D : Type 0} (state : D → Standing) (tells : Type 0) (old 
   pub left_alone : old.failed ≡ true → new ≡ old
   pub without_disk : old.disk ≡ None → new ≡ old
   pub synced : old.failed ≡ false → OnVolume state (SyncsVolume tells new.failed) old.disk new.disk
-
-module _ {F D : Type 0} (g : Shared F (MutBor (VolumeJob D) × Unit {0}) (Unit {0} × (MutBor (VolumeJob D) × Unit {0}))) (work : F) where
-  -- The work may be done on the job.
-  abbrev pub MayWork : VolumeJob D → Type 0
-  MayWork job = (p : MutBor (VolumeJob D)) → p.now ≡ job → g.pre work (p, tt)
-
-  -- The work on one job may leave the other in its place.
-  pub record Leaves (old new : VolumeJob D) : Type 0 where
-    pub shown : MutBor (VolumeJob D)
-    pub shows : shown.now ≡ old
-    pub left : MutBor (VolumeJob D)
-    pub met : g.post work (shown, tt) (tt, (left, tt))
-    pub leaves : left.now ≡ new
 
 -- This holds of each job before and after, and there are no others.
 pub record HoldsOfEach {D : Type 0} (holds : VolumeJob D → VolumeJob D → Type 0) (old new : List (VolumeJob D)) : Type 0 where

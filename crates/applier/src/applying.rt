@@ -1,58 +1,66 @@
 //! The images of a body, written into the slots of one volume.
 
-ghost use Rattle.std.specs.Prelude.{◌≡◌, ◌≤◌, ℕ, List, true, false, IsTrue, OnErr, OnOk};
+ghost use Rattle.std.specs.Prelude.{◌≡◌, ◌≤◌, ℕ, false, true};
 ghost use Rattle.crash_plant.specs.Moments.{Follows, SamePast};
-ghost use Rattle.ckd_track.specs.declared.rec.Rec.{Rec};
 ghost use Rattle.ckd_track.specs.SlotPlaces.{slot_end};
-ghost use Rattle.xrc_edge.specs.Causes.{HasCause};
-ghost use Rattle.xrc_journal.specs.Items.{AreItems, Earlier, Item, anywhere, is_item};
-ghost use Rattle.xrc_journal.specs.Views.{told, track_behind};
+ghost use Rattle.xrc_journal.specs.Items.{Item};
 ghost use Rattle.xrc_journal.specs.declared.reading.BodyItem.TheVariants.{Image as ImageTold};
 ghost use Rattle.xrc_journal.specs.Contents.{HasItem};
 ghost use Rattle.xrc_journal.specs.Jobs.{FailsByCount, OnVolume};
 ghost use Rattle.applier.specs.Slots.{DiffersInSlots, HoldsContent};
 ghost use Rattle.applier.specs.Jobs.{HasSlots, StopsAtItem};
-ghost use Rattle.applier.specs.Writes.{StopsAt, Writes, WritesAll};
+ghost use Rattle.applier.specs.Sides.{AppliesToJob, HasItsSlots};
+ghost use Rattle.applier.specs.Writes.{HasRoom, IsTold, Writes, WritesToJob};
 
-use ckd_track::{Slot, slot_place};
+use ckd_track::slot_place;
 use crash_plant::Disk;
 use xrc_edge::Failed;
-use xrc_journal::{Body, BodyItem, VolumeJob, first_item};
+use xrc_journal::{Body, BodyItem, IMAGE_FRONT, VolumeJob, first_item};
 
 /// Writes the image in the slot where the item is one of the device.
-fn apply_item<D: Disk>(disk: &mut D, device: u16, item: BodyItem, slot: &Slot) -> Result<(), Failed>
-    requires { (x : ℕ) → item ≡ ImageTold device x → slot_end x ≤ (D.state disk.old).length_is }
-    ensures { (earlier : Earlier) (i : Item) (recs : List Rec) → IsTrue (is_item anywhere earlier i) → item ≡ told i → slot.now ≡ track_behind i recs → Writes D.state D.tells device i disk.old disk.new result }
+fn write_item<D: Disk>(
+    disk: &mut D,
+    device: u16,
+    item: BodyItem,
+    bytes: &[u8],
+) -> Result<(), Failed>
+    requires item { (i : Item) × IsTold item bytes.now i }
+    requires room { (x : ℕ) → item ≡ ImageTold device x → slot_end x ≤ (D.state disk.old).length_is }
+    ensures { (i : Item) → IsTold item bytes.now i → Writes D.state D.tells device i disk.old disk.new result }
 {
     match item {
         BodyItem::Image { device: of, track } if of == device => {
-            disk.write(slot_place(track), slot.bytes())
+            disk.write(slot_place(track), &bytes[IMAGE_FRONT..])
         }
         _ => Ok(()),
     }
 }
 
-/// Writes the images of the device among the items of a body, in order, up to the first write that fails. The slot is for
-/// reading them.
-fn apply_items<D: Disk>(
-    slot: &mut Slot,
-    disk: &mut D,
-    device: u16,
-    body: &Body,
-) -> Result<(), Failed>
-    requires { (x : ℕ) → HasItem device x body.now.items → slot_end x ≤ (D.state disk.old).length_is }
-    ensures items { AreItems anywhere body.now.items }
-    ensures all { OnOk result (WritesAll D.state D.tells device body.now.items disk.old disk.new) }
-    ensures stops { OnErr result (StopsAt D.state D.tells device body.now.items disk.old disk.new) }
-    ensures cause { HasCause (D.state disk.old).faults (D.state disk.new).faults result }
+/// Does this on the job's volume. If the write fails, the job is marked failed. A failed job is left alone.
+pub(crate) fn apply_item<D: Disk>(job: &mut VolumeJob<D>, item: BodyItem, bytes: &[u8])
+    requires item { (i : Item) × IsTold item bytes.now i }
+    requires room { HasRoom D.state item job.old }
+    ensures { (i : Item) → IsTold item bytes.now i → WritesToJob D.state D.tells i job.old job.new }
+{
+    if job.failed {
+        return;
+    }
+    if let Some(disk) = &mut job.disk {
+        job.failed = write_item(disk, job.device, item, bytes).is_err();
+    }
+}
+
+/// Writes the images that a body has of the job's volume, in order, up to the first write that fails.
+pub(crate) fn apply_one<D: Disk>(body: &Body, job: &mut VolumeJob<D>)
+    requires { HasItsSlots D.state body.now.items job.old }
+    ensures { AppliesToJob D.state D.tells body.now.items job.old job.new }
 {
     let bytes = body.bytes();
     let mut at = 0;
-    while let Some((item, length)) = first_item(slot, &bytes[at..]) {
-        apply_item(disk, device, item, slot)?;
+    while let Some((item, length)) = first_item(&bytes[at..]) {
+        apply_item(job, item, &bytes[at..at + length]);
         at += length;
     }
-    Ok(())
 }
 
 /// Writes each image that a body has of the job's volume at the front of its track's slot, in order. At the first write that
@@ -71,10 +79,5 @@ pub fn apply_volume<D: Disk>(body: &Body, job: &mut VolumeJob<D>)
     ensures content { D.tells → job.new.failed ≡ false → OnVolume D.state (λ old new. HoldsContent job.old.device body.now.items old.bytes new.bytes) job.old.disk job.new.disk }
     ensures stops { D.tells → job.old.failed ≡ false → job.new.failed ≡ true → OnVolume D.state (StopsAtItem job.old.device body.now.items) job.old.disk job.new.disk }
 {
-    if job.failed {
-        return;
-    }
-    if let Some(disk) = &mut job.disk {
-        job.failed = apply_items(&mut job.slot, disk, job.device, body).is_err();
-    }
+    apply_one(body, job);
 }

@@ -2,10 +2,14 @@
 #![tactic(auto)]
 
 mod applying;
+mod cuts;
 mod loans;
+mod pace;
+mod rising;
 mod sides;
 
 pub use applying::apply_volume;
 pub use loans::{give_back_all, lend_all};
-pub use sides::{apply_all, sync_all};
+pub use pace::{SyncPace, sync_some};
+pub use sides::{apply_all, apply_body, sync_all};
 pub use xrc_journal::VolumeJob;

@@ -1,37 +1,44 @@
 //! Work on volumes, side by side.
 
-ghost use Rattle.std.specs.Prelude.{◌≡◌, ◌<◌, ◌≤◌, ℕ, All, length, slice_index_or};
-ghost use Rattle.std.specs.List.{list_any};
-ghost use denote.Param.Send.{IsSend, IsSync};
-ghost use Rattle.xrc_journal.specs.declared.job.VolumeJob.{VolumeJob};
-ghost use Rattle.applier.specs.Sides.{AppliesToJob, HasItsSlots, HoldsOfEach, Leaves, MayWork, SyncsJob, has_work};
+ghost use Rattle.std.specs.Prelude.{◌≡◌, ◌<◌, ℕ, All, length, slice_index_or};
+ghost use Rattle.applier.specs.Sides.{AppliesToJob, HasItsSlots, HoldsOfEach, SyncsJob};
 
-use crate::apply_volume;
+use crate::cuts::{Work, work_on_each};
+use crate::rising::apply_part;
 use crash_plant::Disk;
-use std::thread::{Threads, join_mut};
+use std::thread::Threads;
 use xrc_journal::{Body, VolumeJob};
 
-/// Whether there is work on a job: it has its disk and hasn't failed.
-fn has_work<D>(job: &VolumeJob<D>) -> bool
-    ensures { result ≡ has_work job.now }
-{
-    job.disk.is_some() && !job.failed
+/// From so many bytes of a body on its volumes are written side by side. Fewer are written sooner than a thread starts.
+const MANY_BYTES: usize = 131_072;
+
+/// A body that is applied.
+#[derive(Drop)]
+struct Applying<'a> {
+    body: &'a Body,
 }
 
-/// Whether there is work on one of the jobs.
-fn have_work<D>(jobs: &[VolumeJob<D>]) -> bool
-    ensures { result ≡ list_any has_work jobs.now }
-{
-    jobs.iter().any(|job| has_work(job))
+impl<'a, D: Disk> Work<D> for Applying<'a> {
+    ghost may = { λ work. HasItsSlots D.state work.body.now.items };
+
+    ghost leaves = { λ work. AppliesToJob D.state D.tells work.body.now.items };
+
+    fn work_on(&self, jobs: &mut [VolumeJob<D>]) {
+        apply_part(self.body, jobs);
+    }
 }
 
-/// Applies a body to a job's volume, where it is lent.
-fn apply_lent<D: Disk>(body: &Body, job: &mut VolumeJob<D>)
-    requires { HasItsSlots D.state body.now.items job.old }
-    ensures { AppliesToJob D.state D.tells body.now.items job.old job.new }
-{
-    if job.disk.is_some() {
-        apply_volume(body, job);
+/// Syncs.
+#[derive(Drop)]
+struct Syncing;
+
+impl<D: Disk> Work<D> for Syncing {
+    ghost may = { λ work job. Unit {0} };
+
+    ghost leaves = { λ work. SyncsJob D.state D.tells };
+
+    fn work_on(&self, jobs: &mut [VolumeJob<D>]) {
+        sync_each(jobs);
     }
 }
 
@@ -47,76 +54,38 @@ fn sync_lent<D: Disk>(job: &mut VolumeJob<D>)
     }
 }
 
-/// Does the work on one job.
-fn work_on_one<D, F: Fn(&mut VolumeJob<D>)>(work: &F, job: &mut VolumeJob<D>)
-    requires { MayWork F.Fn work.now job.old }
-    ensures { Leaves F.Fn work.now job.old job.new }
+/// Does what `sync_all` does, one volume after another in this thread.
+pub(crate) fn sync_each<D: Disk>(jobs: &mut [VolumeJob<D>])
+    ensures { HoldsOfEach (SyncsJob D.state D.tells) jobs.old jobs.new }
 {
-    work(job);
-}
-
-/// Does the work on each job. Jobs that have work run side by side: one in this thread, each other in a thread of its own.
-#[cycle(parts)]
-fn work_on_each<R: Threads + Sync, D: Send, F: Fn(&mut VolumeJob<D>) + Sync>(
-    rt: &R,
-    work: &F,
-    jobs: &mut [VolumeJob<D>],
-)
-    requires { All (MayWork F.Fn work.now) jobs.old }
-    ensures { HoldsOfEach (Leaves F.Fn work.now) jobs.old jobs.new }
-{
-    if jobs.is_empty() {
-        return;
+    for place in 0..jobs.len() {
+        sync_lent(&mut jobs[place]);
     }
-    if jobs.len() == 1 {
-        work_on_one(work, &mut jobs[0]);
-        return;
-    }
-    let (front, back) = jobs.split_at_mut(jobs.len() / 2);
-    work_on_parts(rt, work, front, back);
-}
-
-/// The same of two parts. A thread is started only where both have work.
-#[cycle(parts)]
-fn work_on_parts<R: Threads + Sync, D: Send, F: Fn(&mut VolumeJob<D>) + Sync>(
-    rt: &R,
-    work: &F,
-    front: &mut [VolumeJob<D>],
-    back: &mut [VolumeJob<D>],
-)
-    requires some_front { 0 < length front.old }
-    requires some_back { 0 < length back.old }
-    requires front { All (MayWork F.Fn work.now) front.old }
-    requires back { All (MayWork F.Fn work.now) back.old }
-    ensures front { HoldsOfEach (Leaves F.Fn work.now) front.old front.new }
-    ensures back { HoldsOfEach (Leaves F.Fn work.now) back.old back.new }
-{
-    if !have_work(front) || !have_work(back) {
-        work_on_each(rt, work, front);
-        work_on_each(rt, work, back);
-        return;
-    }
-    let mut first = ||
-        requires { IsSync R.row × IsSync F.row × IsSend D.row × All (MayWork F.Fn work.now) front.now }
-        ensures { HoldsOfEach (Leaves F.Fn work.entry.now) front.entry.now front.exit.now }
-    { work_on_each(rt, work, front) };
-    let mut second = ||
-        requires { IsSync R.row × IsSync F.row × IsSend D.row × All (MayWork F.Fn work.now) back.now }
-        ensures { HoldsOfEach (Leaves F.Fn work.entry.now) back.entry.now back.exit.now }
-    { work_on_each(rt, work, back) };
-    join_mut(rt, &mut first, &mut second);
 }
 
 /// Applies a body to the volume of each job that has its disk and hasn't failed, as `apply_volume` does. These volumes are worked
-/// on side by side: one in this thread, each other in a thread of its own. Every other job is left as it is, and takes no thread.
-/// A volume that is lent takes one even if the body has no item of it. If no thread can be started, one volume is worked on after
-/// another. A crash may still take what was written, until the volumes are synced.
+/// on side by side, in at most four threads with the caller's: of two such volumes each has one, and a thread goes through the body
+/// once for all of its volumes where the jobs stand in order of their devices. Every other job is left as it is. If no thread can
+/// be started, one part is worked on after another. A crash may still take what was written, until the volumes are synced.
 pub fn apply_all<R: Threads + Sync, D: Disk + Send>(rt: &R, body: &Body, jobs: &mut [VolumeJob<D>])
     requires { All (HasItsSlots D.state body.now.items) jobs.old }
     ensures same { length jobs.new ≡ length jobs.old }
     ensures each { (i : ℕ) (d : _) → i < length jobs.old → AppliesToJob D.state D.tells body.now.items (slice_index_or jobs.old i d) (slice_index_or jobs.new i d) }
 {
-    work_on_each(rt, &|job: &mut VolumeJob<D>| apply_lent(body, job), jobs);
+    work_on_each(rt, &Applying { body }, jobs);
+}
+
+/// Does the same, side by side only where the body has so many bytes that threads pay: less than 131,072 are written in this thread.
+pub fn apply_body<R: Threads + Sync, D: Disk + Send>(rt: &R, body: &Body, jobs: &mut [VolumeJob<D>])
+    requires { All (HasItsSlots D.state body.now.items) jobs.old }
+    ensures same { length jobs.new ≡ length jobs.old }
+    ensures each { (i : ℕ) (d : _) → i < length jobs.old → AppliesToJob D.state D.tells body.now.items (slice_index_or jobs.old i d) (slice_index_or jobs.new i d) }
+{
+    if body.bytes().len() < MANY_BYTES {
+        apply_part(body, jobs);
+    } else {
+        apply_all(rt, body, jobs);
+    }
 }
 
 /// Syncs the volume of each job that has its disk and hasn't failed, side by side as `apply_all` works on them. If the sync fails,
@@ -125,5 +94,5 @@ pub fn sync_all<R: Threads + Sync, D: Disk + Send>(rt: &R, jobs: &mut [VolumeJob
     ensures same { length jobs.new ≡ length jobs.old }
     ensures each { (i : ℕ) (d : _) → i < length jobs.old → SyncsJob D.state D.tells (slice_index_or jobs.old i d) (slice_index_or jobs.new i d) }
 {
-    work_on_each(rt, &|job: &mut VolumeJob<D>| sync_lent(job), jobs);
+    work_on_each(rt, &Syncing, jobs);
 }
