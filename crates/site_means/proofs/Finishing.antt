@@ -1,8 +1,8 @@
 -- The walk in the code, from step to step.
-use Rattle.std.proofs.Common.{◌≡◌, ℕ, ◌^◌, ◌<◌, true, List, [], ◌∷◌, ◌++◌, Option, Some, None, Result, Ok, Err, OnOk, refl, sym, ap, subst, ◌∙◌, arith}
+use Rattle.std.proofs.Common.{◌≡◌, ◌⊎◌, inl, inr, ℕ, ◌^◌, ◌<◌, true, List, [], ◌∷◌, ◌++◌, length, Option, Some, None, Result, Ok, Err, OnOk, refl, sym, ap, subst, ◌∙◌, arith}
 use Rattle.crash_plant.specs.declared.device.Device.TheVariants.{Journal}
 use Rattle.crash_plant.specs.declared.spot.Spot.{Spot}
-use Rattle.crash_plant.specs.Moments.{PlantState}
+use Rattle.crash_plant.specs.Moments.{PlantState, IsDurable, on}
 use Rattle.crash_plant.specs.Calls.{SameSite}
 use Rattle.pair_table.specs.declared.row.PairRow.{PairRow}
 use Rattle.pair_table.specs.Tables.{Table, with_rows, are_below}
@@ -15,8 +15,10 @@ use Rattle.site_means.specs.declared.walking.Walking.{Walking}
 use Rattle.site_means.specs.Images.{Images, Shape}
 use Rattle.site_means.specs.Walk.{Walk, body_place, first_unfit, group_step, has_entered, last_time, rows_through, step, with_before}
 use Rattle.site_means.specs.Walk.WalkStep.{Ends, GoesOn, Breaks}
-use Rattle.site_means.specs.Steps.{Finishes, WentOn, AnswersStep, AnswersWalk, WalkStands, StandsBehind, TakesRows, moved_on, standing_of, walk_of}
-use Rattle.site_means.proofs.Goes.{before_both, entered_stays, rest_breaks, rest_ends, rest_goes}
+use Rattle.site_means.specs.Steps.{AreDurable, Finishes, HasEnteredOne, WentOn, AnswersStep, AnswersWalk, WalkStands, StandsBehind, TakesRows, moved_on, standing_of, walk_of}
+use Rattle.site_means.specs.Answers.{ReadsAll, WhereTold}
+use Rattle.site_means.proofs.ReadAll.{durable_later}
+use Rattle.site_means.proofs.Goes.{before_both, entered_more, entered_one, entered_stays, rest_breaks, rest_ends, rest_goes}
 
 -- how far the walk has come
 pub record Going (shape : Shape) (images : Images) (first now : Walking) : Type 0 where
@@ -89,6 +91,47 @@ going_fails shape images first now new (Fault d) lt g here p = (now.at.set, p, g
 going_fails shape images first now new NoMemory lt g here p = tt
 going_fails shape images first now new NoSession lt g here p = p
 going_fails shape images first now new (TooSmall d needed) lt g here p = p
+
+-- ---- what is durable
+
+-- Of the journals of data sets that the walk has entered each is durable, or it is the last, where that is still to be synced.
+abbrev pub AreSettled : PlantState → (settled : ℕ) → Walking → Type 0
+AreSettled plant settled w = (j : ℕ) → has_entered j w.entered.items ≡ true → IsDurable (on plant (Journal j)) ⊎ ((settled < length w.entered.items) × (j ≡ w.at.set))
+
+pub settled_first : (plant : PlantState) (w : Walking) → HasEnteredOne w → AreSettled plant 0 w
+settled_first plant w one j is =
+    let same = entered_one j w.at.set (ap (λ (l : List ℕ). has_entered j l) (sym one) ∙ is) in
+    inr (omega (arith, ap length one), same)
+
+-- behind a sync of the last
+pub settled_all : (tells : Type 0) (told : tells) (a b : PlantState) (settled : ℕ) (w : Walking) → ReadsAll tells a b → AreSettled a settled w → (settled < length w.entered.items → IsDurable (on b (Journal w.at.set))) → AreDurable b w.entered.items
+settled_all tells told a b settled w reads are last j is = elim (are j is) [
+  | inl durable ↦ durable_later tells a b (Journal j) told reads durable
+  | inr fresh ↦ subst (λ (k : ℕ). IsDurable (on b (Journal k))) (sym fresh.1) (last fresh.0)
+]
+
+-- behind a record
+pub settled_next : (tells : Type 0) (told : tells) (a b : PlantState) (shape : Shape) (images : Images) (now next : Walking) → ReadsAll tells a b → AreDurable a now.entered.items → WentOn (step shape images (standing_of now)) now next → AreSettled b (length now.entered.items) next
+settled_next tells told a b shape images now next reads are m j is = elim (entered_more shape images (standing_of now) (standing_of next) m.groups j m.is is) [
+  | inl before ↦ inl (durable_later tells a b (Journal j) told reads (are j before))
+  | inr fresh ↦ inr fresh
+]
+
+-- at the end of the walk
+pub ends_entered : (shape : Shape) (images : Images) (first new : Walking) → Finishes (walk_of shape images first) first new → (walk_of shape images first).entered ≡ new.entered.items
+ends_entered shape images first new f = ap (λ (w : Walk). w.entered) f.is
+
+pub breaks_entered : (shape : Shape) (images : Images) (first now : Walking) (place : ℕ) → now.at.number < 2 ^ 64 → Going shape images first now → step shape images (standing_of now) ≡ Breaks place → (walk_of shape images first).entered ≡ now.entered.items
+breaks_entered shape images first now place lt g e = ap (λ (w : Walk). w.entered) g.is ∙ ap (λ (w : Walk). w.entered) (rest_breaks shape images (standing_of now) place lt e)
+
+-- Whatever an error of a step tells lasts.
+pub told_durable : (plant : PlantState) (shape : Shape) (images : Images) (first now new : Walking) (e : SiteError) → now.at.number < 2 ^ 64 → Going shape images first now → AreDurable plant now.entered.items
+    → AnswersStep (step shape images (standing_of now)) now new (Err e) → (let r : Result (Unit {0}) SiteError = Err e in WhereTold r (AreDurable plant (walk_of shape images first).entered))
+told_durable plant shape images first now new (Damaged d place) lt g are p = subst (λ (l : List ℕ). AreDurable plant l) (sym (breaks_entered shape images first now place lt g p.1)) are
+told_durable plant shape images first now new (Fault d) lt g are p = tt
+told_durable plant shape images first now new NoMemory lt g are p = tt
+told_durable plant shape images first now new NoSession lt g are p = absurd p
+told_durable plant shape images first now new (TooSmall d needed) lt g are p = absurd p
 
 -- ---- a group
 

@@ -1,6 +1,7 @@
 -- How a walk goes on from step to step.
 use Rattle.std.proofs.Common.{◌≡◌, ◌⊎◌, inl, inr, ℕ, zero, suc, ◌+◌, ◌-◌, ◌^◌, ◌<◌, Bool, true, false, cond, ◌||◌, nat_eq, List, [], ◌∷◌, ◌++◌, length, Option, Some, None, refl, sym, ap, ◌∙◌, append_assoc, arith}
-use Rattle.std.proofs.lemmas.Bool.{eq-eqb}
+use Rattle.std.proofs.lemmas.Bool.{eq-eqb, eqb-true}
+use Rattle.std.proofs.lemmas.List.{length-append}
 use Rattle.crash_plant.specs.declared.device.Device.TheVariants.{Journal}
 use Rattle.crash_plant.specs.declared.spot.Spot.{Spot}
 use Rattle.crash_plant.specs.Moments.{PlantState}
@@ -114,6 +115,34 @@ entered_here shape images s n groups e is = elim (goes_by shape images s groups 
       let ends = group_ends shape.form shape.sets (images (Journal s.at.set)) s.at s.last g.time g.items g.after g.found in
       ap (λ (m : WalkState). has_entered m.at.set m.entered) g.next_is ∙ ap (λ (k : ℕ). has_entered k s.entered) ends.set ∙ is
   | inr w ↦ ap (λ (m : WalkState). has_entered m.at.set m.entered) w.next_is ∙ entered_last w.after.set s.entered
+]
+
+pub entered_one : (k set : ℕ) → has_entered k (set ∷ []) ≡ true → k ≡ set
+entered_one k set is = by_test (nat_eq set k) refl is
+  where
+    by_test : (b : Bool) → nat_eq set k ≡ b → (b || false) ≡ true → k ≡ set
+    by_test true same here = sym (eqb-true set k same)
+    by_test false same here = absurd cc
+
+entered_split : (k : ℕ) (xs : List ℕ) (set : ℕ) → has_entered k (xs ++ set ∷ []) ≡ true → (has_entered k xs ≡ true) ⊎ (k ≡ set)
+entered_split k [] set is = inr (entered_one k set is)
+entered_split k (x ∷ xs) set is = by_first (nat_eq x k) is (entered_split k xs set)
+  where
+    by_first : (here : Bool) → (here || has_entered k (xs ++ set ∷ [])) ≡ true → (has_entered k (xs ++ set ∷ []) ≡ true → (has_entered k xs ≡ true) ⊎ (k ≡ set)) → ((here || has_entered k xs) ≡ true) ⊎ (k ≡ set)
+    by_first true e more = inl refl
+    by_first false e more = more e
+
+-- What is entered behind a record was entered before, or the walk stands there and has entered one more.
+pub entered_more : (shape : Shape) (images : Images) (s n : WalkState) (groups : List Logged) (k : ℕ) → step shape images s ≡ GoesOn groups n → has_entered k n.entered ≡ true → (has_entered k s.entered ≡ true) ⊎ ((length s.entered < length n.entered) × (k ≡ n.at.set))
+entered_more shape images s n groups k e is = elim (goes_by shape images s groups n e) [
+  | inl g ↦ inl (sym (ap (λ (m : WalkState). has_entered k m.entered) g.next_is) ∙ is)
+  | inr w ↦
+      let entered : n.entered ≡ s.entered ++ w.after.set ∷ [] = ap (λ (m : WalkState). m.entered) w.next_is in
+      let longer : length n.entered ≡ length s.entered + 1 = ap length entered ∙ length-append s.entered (w.after.set ∷ []) in
+      elim (entered_split k s.entered w.after.set (ap (λ (l : List ℕ). has_entered k l) (sym entered) ∙ is)) [
+        | inl before ↦ inl before
+        | inr here ↦ inr (omega (arith, longer), here ∙ sym (ap (λ (m : WalkState). m.at.set) w.next_is))
+      ]
 ]
 
 pub entered_stays : (turns : ℕ) (shape : Shape) (images : Images) (s : WalkState) (k : ℕ) → has_entered k s.entered ≡ true → has_entered k (walk_from turns shape images s).entered ≡ true

@@ -1,31 +1,32 @@
 -- What a finished walk says of the meaning.
-use Rattle.std.proofs.Common.{◌≡◌, ℕ, ◌≤◌, ◌<◌, ◌^◌, true, List, [], slice_index, Option, Some, None, Result, Ok, Err, sym, ap, subst, ◌∙◌, append-nil, arith}
+use Rattle.std.proofs.Common.{◌≡◌, refl, ℕ, ◌≤◌, ◌<◌, ◌^◌, true, List, [], ◌∷◌, slice_index, Option, Some, None, Result, Ok, Err, IfOk, sym, ap, subst, ◌∙◌, append-nil, arith}
 use Rattle.crash_plant.specs.declared.device.Device.{Device}
-use Rattle.crash_plant.specs.declared.device.Device.TheVariants.{Journal}
+use Rattle.crash_plant.specs.declared.device.Device.TheVariants.{Control, State, Journal, Volume}
 use Rattle.crash_plant.specs.declared.spot.Spot.{Spot}
 use Rattle.tod_stamp.specs.declared.stamp.Stamp.{Stamp}
 use Rattle.crash_plant.specs.Calls.{SameSite}
-use Rattle.crash_plant.specs.Moments.{PlantState}
+use Rattle.crash_plant.specs.Moments.{PlantState, IsDurable, on}
 use Rattle.control_set.specs.declared.value.Mark.{Mark}
 use Rattle.control_set.specs.Slots.{lengths_of}
 use Rattle.control_set.proofs.Lengths.{at_is, count_is}
+use Rattle.pair_table.specs.declared.level.Level.{Level}
 use Rattle.pair_table.specs.declared.row.PairRow.{PairRow}
 use Rattle.pair_table.specs.Tables.{Table, with_rows, are_below}
 use Rattle.state_set.specs.Slots.{Stored, started_table}
 use Rattle.xrc_journal.specs.Walks.{Logged}
-use Rattle.site_means.specs.declared.means.Means.{Means}
 use Rattle.site_means.specs.declared.site_error.SiteError.{SiteError}
 use Rattle.site_means.specs.declared.site_error.SiteError.TheVariants.{NoSession, Damaged, Fault, TooSmall, NoMemory}
 use Rattle.site_means.specs.declared.walking.Walking.{Walking}
 use Rattle.site_means.specs.Images.{Images, Shape, shape_of}
 use Rattle.site_means.specs.Walk.{WalkState, Walk, ends_at, has_entered, last_time, rows_through, start, turns_at, walk_in, walk_items, with_before}
-use Rattle.site_means.specs.Meaning.{chosen_in, meaning_by_mark, meaning_by_state, meaning_by_walk, meaning_in, stored_in}
+use Rattle.site_means.specs.Meaning.{Meaning, chosen_in, meaning_by_mark, meaning_by_state, meaning_by_walk, meaning_in, stored_in}
 use Rattle.site_means.specs.Meaning.Meaning.{DamagedAt, Meant}
-use Rattle.site_means.specs.Answers.{IsReached, Mean, ReadsAll, AnswersMeaning}
-use Rattle.site_means.specs.Steps.{BeginsAt, Finishes, AnswersWalk, WalkStands, standing_of, walk_of}
+use Rattle.site_means.specs.declared.reading.SiteReading.{SiteReading}
+use Rattle.site_means.specs.Answers.{AnswersMeaning, Enters, HasSpot, IsChosen, IsInTurn, IsOfState, IsReached, IsRead, IsStored, ReadsAll, RestDurable, WhereTold}
+use Rattle.site_means.specs.Steps.{BeginsAt, Finishes, HasEnteredOne, AnswersWalk, WalkStands, standing_of, walk_of}
+use Rattle.site_means.proofs.ReadAll.{durable_later}
 use Rattle.site_means.proofs.Goes.{entered_last, rest_of, rows_of_walk, shape_same}
 use Rattle.control_set.specs.Marks.{IsMark}
-use Rattle.site_means.specs.Answers.{HasSpot}
 
 -- ---- where a walk begins
 
@@ -43,6 +44,15 @@ stands_first plant m table w long spot number below b =
 
 pub spot_later : (old new : PlantState) (at : Spot) → SameSite old new → HasSpot old at → HasSpot new at
 spot_later old new at site spot = record { set = omega (arith, spot.set, site.journals); room = omega (arith, spot.room, site.lengths (Journal at.set)) }
+
+-- The spot of a mark, and the devices of rows, are the plant's before calls that keep its numbers.
+pub spot_before : (old new : PlantState) (r : Result Mark SiteError) → SameSite old new → IfOk r (λ m. HasSpot new m.at) → IfOk r (λ m. HasSpot old m.at)
+spot_before old new (Ok m) site spot = record { set = omega (arith, spot.set, site.journals); room = omega (arith, spot.room, site.lengths (Journal m.at.set)) }
+spot_before old new (Err e) site spot = tt
+
+pub below_before : (old new : PlantState) (r : Result (Level × Table) SiteError) → SameSite old new → IfOk r (λ f. are_below new.volumes f.1.rows ≡ true) → IfOk r (λ f. are_below old.volumes f.1.rows ≡ true)
+below_before old new (Ok f) site below = ap (λ (n : ℕ). are_below n f.1.rows) (sym site.volumes) ∙ below
+below_before old new (Err e) site below = tt
 
 -- a mark that keeps the table has its spot in a journal
 pub has_spot : (plant : PlantState) (m : Mark) → IsMark (lengths_of plant) m → HasSpot plant m.at
@@ -68,7 +78,7 @@ module _ (shape : Shape) (images : Images) (m : Mark) (s : Stored) (chosen : cho
 
       -- It ended well.
       pub finish_means : (new : Walking) → table ≡ started_table m.session table.rows → Finishes (walk_of shape images first) first new
-          → Mean (meaning_in shape images) (record { session = m.session; level = s.level; time = new.time; table = new.table; from = m.at; ended = m.ended })
+          → (w : Walk) × (meaning_in shape images ≡ Meant (record { session = m.session; level = s.level; time = new.time; table = new.table; from = m.at; ended = m.ended }) w) × (new.at ≡ w.at)
       finish_means new started f =
           let w = walk_in shape images m s.rows in
           let is : w ≡ with_before f.groups (ends_at (standing_of new) None) = sym walk_is ∙ f.is in
@@ -80,6 +90,7 @@ module _ (shape : Shape) (images : Images) (m : Mark) (s : Stored) (chosen : cho
             w,
             by_walk None (ap (λ (k : Walk). k.bad) is)
                 ∙ (λ i. Meant (record { session = m.session; level = s.level; time = record { 0 = time i }; table = table_is i; from = m.at; ended = m.ended }) w),
+            sym (ap (λ (k : Walk). k.at) is),
           )
 
       -- It ended with an error.
@@ -98,6 +109,31 @@ module _ (shape : Shape) (images : Images) (m : Mark) (s : Stored) (chosen : cho
         holds = stored;
         entered = ap (λ (k : Walk). has_entered p.0 k.entered) (sym walk_is) ∙ p.2;
       })
+
+-- Behind a chosen mark the state is damaged, or the walk.
+module _ (shape : Shape) (images : Images) where
+  by_bad : (m : Mark) (s : Stored) (w : Walk) (bad : Option (ℕ × ℕ)) (place : ℕ) → ¬ (meaning_by_walk m s w bad ≡ DamagedAt State place)
+  by_bad m s w None place is = absurd cc
+  by_bad m s w (Some bad) place is = absurd cc
+
+  -- Where the state is damaged no journal is entered.
+  pub none_entered : (place : ℕ) (j : ℕ) → meaning_in shape images ≡ DamagedAt State place → ¬ Enters shape images j
+  none_entered place j is e = by_bad e.mark e.stored (walk_in shape images e.mark e.stored.rows) _ place (sym (by_walk shape images e.mark e.stored e.chosen e.holds _ refl) ∙ is)
+
+  -- A mark and its slot are those by which a journal is entered.
+  pub entered_by : (m : Mark) (s : Stored) (j : ℕ) → chosen_in shape images ≡ Ok (Some m) → stored_in shape images m ≡ Ok s → Enters shape images j → has_entered j (walk_in shape images m s.rows).entered ≡ true
+  entered_by m s j chosen holds e =
+      let mark : e.mark ≡ m = let both = sym e.chosen ∙ chosen in cc in
+      let stored : e.stored ≡ s = let both = sym e.holds ∙ ap (λ (k : Mark). stored_in shape images k) mark ∙ holds in cc in
+      (λ i. has_entered j (walk_in shape images (sym mark i) (sym stored i).rows).entered) ∙ e.entered
+
+-- The walk in the code enters what the walk from the mark does.
+module _ (shape : Shape) (images : Images) (m : Mark) (s : Stored) (chosen : chosen_in shape images ≡ Ok (Some m)) (stored : stored_in shape images m ≡ Ok s) (table : Table) (first : Walking) (rows : table.rows ≡ s.rows) (b : BeginsAt m table first) where
+  pub walk_enters : (j : ℕ) → Enters shape images j → has_entered j (walk_of shape images first).entered ≡ true
+  walk_enters j e = ap (λ (k : Walk). has_entered j k.entered) (walk_is shape images m s chosen stored table first rows b) ∙ entered_by shape images m s j chosen stored e
+
+pub begins_one : (m : Mark) (table : Table) (first : Walking) → BeginsAt m table first → HasEnteredOne first
+begins_one m table first b = ap (λ (k : WalkState). k.entered) b.standing ∙ ap (λ (k : WalkState). k.at.set ∷ []) (sym b.standing)
 
 -- ---- the same by a plant that was read
 
@@ -130,6 +166,69 @@ module _ (old new : PlantState) (seen : SameSeen old new) where
   seen_error good other (TooSmall d needed) s = tt
   seen_error good other NoMemory s = tt
 
-  pub seen_answer : (r : Result Means SiteError) → AnswersMeaning (λ means. Mean (meaning_in (shape_of new) new.bytes) means) (meaning_in (shape_of new) new.bytes) r → AnswersMeaning (λ means. Mean (meaning_in (shape_of old) old.bytes) means) (meaning_in (shape_of old) old.bytes) r
-  seen_answer (Ok means) s = (s.0, sym seen_meaning ∙ s.1)
-  seen_answer (Err e) s = seen_error {X = Means} {Y = Means} (λ means. Mean (meaning_in (shape_of new) new.bytes) means) (λ means. Mean (meaning_in (shape_of old) old.bytes) means) e s
+  -- so does an answer whose good case says the same
+  pub seen_told : {X : Type 0} (good other : X → Type 0) → ((x : X) → good x → other x) → (r : Result X SiteError) → AnswersMeaning good (meaning_in (shape_of new) new.bytes) r → AnswersMeaning other (meaning_in (shape_of old) old.bytes) r
+  seen_told good other f (Ok x) s = f x s
+  seen_told {X = X} good other f (Err e) s = seen_error {X = X} {Y = X} good other e s
+
+  pub seen_mark : (m : Mark) → IsChosen new m → IsChosen old m
+  seen_mark m is = sym (λ i. chosen_in (seen.shape i) (seen.bytes i)) ∙ is
+
+  pub seen_slot : (m : Mark) (level : Level) (rows : List PairRow) → IsStored new m level rows → IsStored old m level rows
+  seen_slot m level rows is = sym (λ i. stored_in (seen.shape i) (seen.bytes i) m) ∙ is
+
+  pub seen_read : (r : SiteReading) → IsRead new r → IsRead old r
+  seen_read r is = record { chosen = seen_mark r.mark is.chosen; walk = is.walk; meant = sym seen_meaning ∙ is.meant; end = is.end }
+
+  pub seen_back : SameSeen new old
+  seen_back = record { shape = sym seen.shape; bytes = sym seen.bytes }
+
+-- An error says the same, whatever else would be good.
+pub says_as : {X Y : Type 0} (good : X → Type 0) (other : Y → Type 0) (m : Meaning) (e : SiteError) → AnswersMeaning good m (Err e) → AnswersMeaning other m (Err e)
+says_as good other m NoSession s = s
+says_as good other m (Damaged d place) s = s
+says_as good other m (Fault d) s = tt
+says_as good other m (TooSmall d needed) s = tt
+says_as good other m NoMemory s = tt
+
+-- ---- what lasts
+
+where_more : {X : Type 0} (p q : Type 0) → (p → q) → (r : Result X SiteError) → WhereTold r p → WhereTold r q
+where_more p q f (Ok x) w = f w
+where_more p q f (Err NoSession) w = f w
+where_more p q f (Err (Damaged d place)) w = f w
+where_more p q f (Err (Fault d)) w = tt
+where_more p q f (Err (TooSmall d needed)) w = tt
+where_more p q f (Err NoMemory) w = tt
+
+pub where_as : (X Y : Type 0) (p q : Type 0) → (p → q) → (e : SiteError) → (let r : Result X SiteError = Err e in WhereTold r p) → (let r : Result Y SiteError = Err e in WhereTold r q)
+where_as X Y p q f NoSession w = f w
+where_as X Y p q f (Damaged d place) w = f w
+where_as X Y p q f (Fault d) w = tt
+where_as X Y p q f (TooSmall d needed) w = tt
+where_as X Y p q f NoMemory w = tt
+
+-- The walk's journals last, and the state.
+module _ (tells : Type 0) (told : tells) (old one new : PlantState) (first : ReadsAll tells old one) (then : ReadsAll tells one new) (state : IsDurable (on one State)) where
+  pub rest_durable : ((j : ℕ) → IsInTurn one (Journal j) → IsDurable (on new (Journal j))) → RestDurable old new
+  rest_durable journals Control other turn = absurd (other refl)
+  rest_durable journals State other turn = durable_later tells one new State told then state
+  rest_durable journals (Journal j) other turn = journals j (seen_reached one old (seen_back old one (same_seen tells old one first told)) (Journal j) turn)
+  rest_durable journals (Volume v) other turn = absurd turn
+
+  pub rest_told : {X : Type 0} (r : Result X SiteError) → WhereTold r ((j : ℕ) → IsInTurn one (Journal j) → IsDurable (on new (Journal j))) → WhereTold r (RestDurable old new)
+  rest_told r w = where_more _ _ rest_durable r w
+
+-- The state is damaged, and it lasts.
+pub state_told : (Y : Type 0) (old one : PlantState) (e : SiteError) → IsOfState e → (¬ (e ≡ Fault State) → IsDurable (on one State)) → (let r : Result Y SiteError = Err e in AnswersMeaning (λ y. Unit {0}) (meaning_in (shape_of old) old.bytes) r) → (let r : Result Y SiteError = Err e in WhereTold r (RestDurable old one))
+state_told Y old one NoSession wrong state says = absurd wrong
+state_told Y old one (Damaged d place) wrong state says = all
+  where
+    all : RestDurable old one
+    all Control other turn = absurd (other refl)
+    all State other turn = state (λ is. cc)
+    all (Journal j) other turn = absurd (none_entered (shape_of old) old.bytes place j (says ∙ ap (λ (k : Device). DamagedAt k place) wrong) turn)
+    all (Volume v) other turn = absurd turn
+state_told Y old one (Fault d) wrong state says = tt
+state_told Y old one (TooSmall d needed) wrong state says = tt
+state_told Y old one NoMemory wrong state says = tt

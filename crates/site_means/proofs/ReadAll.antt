@@ -1,12 +1,12 @@
 -- Calls that change nothing, one after another.
-use Rattle.std.proofs.Common.{◌≡◌, inl, inr, ℕ, Result, Err, sym, ap, ◌∙◌, subst}
+use Rattle.std.proofs.Common.{◌≡◌, inl, inr, ℕ, Result, Err, sym, ap, ◌∙◌, subst, arith}
 use Rattle.xrc_edge.specs.Causes.{Rose}
 use Rattle.xrc_journal.specs.Answers.{ReadsOnly}
 use Rattle.site_means.specs.declared.site_error.SiteError.{SiteError}
 use Rattle.site_means.specs.declared.site_error.SiteError.TheVariants.{Fault}
 use Rattle.crash_plant.specs.declared.device.Device.TheVariants.{Journal}
 use Rattle.crash_plant.specs.declared.device.Device.{Device}
-use Rattle.crash_plant.specs.Moments.{PlantState, on, Follows, Same}
+use Rattle.crash_plant.specs.Moments.{PlantState, on, Follows, IsDurable, Same}
 use Rattle.crash_plant.specs.Calls.{WorksOn}
 use Rattle.crash_plant.proofs.Choices.{device_cases}
 use Rattle.crash_plant.proofs.Steps.{follows_here, follows_then, works_on_here, works_on_more, works_on_trans}
@@ -39,6 +39,12 @@ reads_then tells a b c x y = record {
   moments = λ told d. follows_then (on a d) (on b d) (on c d) Same Same Same ((x.only.elapses told).kept d).later (x.moments told d) ((y.only.elapses told).kept d) (y.moments told d) (λ p q here e. e) (λ p q r here there e f. f ∙ e);
   only = works_on_trans tells IsExamined a b c x.only y.only;
 }
+
+-- What is durable stays so.
+pub durable_later : (tells : Type 0) (a b : PlantState) (d : Device) → tells → ReadsAll tells a b → IsDurable (on a d) → IsDurable (on b d)
+durable_later tells a b d told reads durable c left =
+    let came = reads.moments told d b.clock ((reads.only.elapses told).kept d).later (omega arith) c left in
+    came.2 ∙ durable came.0 came.1 ∙ sym (reads.same told d)
 
 pub reads_journal : (tells : Type 0) (j : ℕ) (old new : PlantState) → ReadsOnly tells (Journal j) old new → ReadsAll tells old new
 reads_journal tells j old new r = reads_one tells (Journal j) old new tt r.same r.moments r.only

@@ -1,18 +1,19 @@
 -- What the examination of a site answers: lengths, the meaning, and faults.
-use Rattle.std.specs.Prelude.{◌≡◌, ◌+◌, ◌<◌, ◌≤◌, ℕ, suc, zero, true, List, [], ◌∷◌, find, nat_lt, Bool, Option, Some, Result, Ok, Err, IsErrOf}
+use Rattle.std.specs.Prelude.{◌≡◌, ◌≢◌, ◌+◌, ◌<◌, ◌≤◌, ℕ, suc, zero, true, List, [], ◌∷◌, find, nat_lt, Bool, Option, Some, Result, Ok, Err, IsErrOf}
 use Rattle.xrc_journal.specs.Lengths.{journal_length}
 use Rattle.crash_plant.specs.declared.layout.TheConstants.{CONTROL_LENGTH, STATE_LENGTH, SWITCH}
 use Rattle.xrc_edge.specs.Causes.{Rose}
 use Rattle.crash_plant.specs.declared.device.Device.{Device}
 use Rattle.crash_plant.specs.declared.device.Device.TheVariants.{Control, State, Journal, Volume}
 use Rattle.crash_plant.specs.declared.spot.Spot.{Spot}
-use Rattle.crash_plant.specs.Moments.{PlantState, on, Follows, Same}
+use Rattle.crash_plant.specs.Moments.{PlantState, on, Follows, IsDurable, Same}
 use Rattle.crash_plant.specs.Calls.{WorksOn}
 use Rattle.control_set.specs.declared.value.Mark.{Mark}
 use Rattle.pair_table.specs.declared.level.Level.{Level}
 use Rattle.pair_table.specs.declared.row.PairRow.{PairRow}
 use Rattle.state_set.specs.Slots.{Stored}
 use Rattle.site_means.specs.declared.means.Means.{Means}
+use Rattle.site_means.specs.declared.reading.SiteReading.{SiteReading}
 use Rattle.site_means.specs.declared.site_error.SiteError.{SiteError}
 use Rattle.site_means.specs.declared.site_error.SiteError.TheVariants.{NoSession, Damaged, Fault, TooSmall, NoMemory}
 use Rattle.site_means.specs.Images.{Images, Shape, shape_of}
@@ -78,12 +79,40 @@ IsChosen plant m = chosen_in (shape_of plant) plant.bytes ≡ Ok (Some m)
 abbrev pub IsStored : PlantState → Mark → Level → List PairRow → Type 0
 IsStored plant m level rows = stored_in (shape_of plant) plant.bytes m ≡ Ok (record { level = level; rows = rows })
 
+-- The reading is of the chosen mark, and of what the devices mean by a walk that ends at its end.
+pub record IsRead (plant : PlantState) (r : SiteReading) : Type 0 where
+  pub chosen : IsChosen plant r.mark
+  pub walk : Walk
+  pub meant : meaning plant plant.bytes ≡ Meant r.means walk
+  pub end : r.end ≡ walk.at
+
+-- whatever reads gave
+pub record IsOfMark (m : Mark) (r : SiteReading) : Type 0 where
+  pub same : r.mark ≡ m
+  pub from : r.means.from ≡ m.at
+
 -- ---- faults
 
 -- A fault is answered only of a device whose count rose, and the count of each other device stays.
 pub record FaultsAreCounted {X : Type 0} (old new : Device → ℕ) (result : Result X SiteError) : Type 0 where
   pub rose : (d : Device) → IsErrOf result (Fault d) → Rose (old d) (new d)
   pub others : (d : Device) → ¬ IsErrOf result (Fault d) → new d ≡ old d
+
+-- what may be wrong with the control
+abbrev pub IsOfControl : SiteError → Type 0
+IsOfControl NoSession = Unit {0}
+IsOfControl (Damaged d place) = d ≡ Control
+IsOfControl (Fault d) = d ≡ Control
+IsOfControl (TooSmall d needed) = ⊥
+IsOfControl NoMemory = ⊥
+
+-- what may be wrong with the state, or want of memory for its rows
+abbrev pub IsOfState : SiteError → Type 0
+IsOfState NoSession = ⊥
+IsOfState (Damaged d place) = d ≡ State
+IsOfState (Fault d) = d ≡ State
+IsOfState (TooSmall d needed) = ⊥
+IsOfState NoMemory = Unit {0}
 
 -- The walk over these images enters a journal, behind a chosen mark and a good state slot.
 pub record Enters (shape : Shape) (images : Images) (j : ℕ) : Type 0 where
@@ -104,6 +133,25 @@ IsReached shape images (Volume v) = ⊥
 -- A device is read in its turn by what they give.
 abbrev pub IsInTurn : PlantState → Device → Type 0
 IsInTurn plant d = IsReached (shape_of plant) plant.bytes d
+
+-- ---- what lasts
+
+-- A crash leaves of each device what reads give, if what they give calls for reading it.
+abbrev pub AllDurable : (old new : PlantState) → Type 0
+AllDurable old new = (d : Device) → IsInTurn old d → IsDurable (on new d)
+
+-- The same of the devices behind the control.
+abbrev pub RestDurable : (old new : PlantState) → Type 0
+RestDurable old new = (d : Device) → d ≢ Control → IsInTurn old d → IsDurable (on new d)
+
+-- This is so where the answer tells what the devices mean, or why they mean nothing.
+abbrev pub WhereTold : {X : Type 0} → Result X SiteError → Type 0 → Type 0
+WhereTold (Ok x) so = so
+WhereTold (Err NoSession) so = so
+WhereTold (Err (Damaged d place)) so = so
+WhereTold (Err (Fault d)) so = Unit {0}
+WhereTold (Err (TooSmall d needed)) so = Unit {0}
+WhereTold (Err NoMemory) so = Unit {0}
 
 -- the control, the state and the journals
 abbrev pub IsExamined : Device → Type 0

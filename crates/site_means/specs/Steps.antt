@@ -1,10 +1,10 @@
 -- The walk in the code: how it goes on, and what it says at its end.
-use Rattle.std.specs.Prelude.{◌≡◌, ◌⊎◌, ◌^◌, ℕ, min, ◌<◌, ◌≤◌, ◌+◌, List, [], length, Bool, true, false, Option, Some, None, Result, Ok, Err}
+use Rattle.std.specs.Prelude.{◌≡◌, ◌⊎◌, ◌^◌, ℕ, min, ◌<◌, ◌≤◌, ◌+◌, List, [], ◌∷◌, length, Bool, true, false, Option, Some, None, Result, Ok, Err}
 use Rattle.crash_plant.specs.declared.layout.TheConstants.{FRONT}
 use Rattle.crash_plant.specs.declared.device.Device.TheVariants.{Journal}
 use Rattle.crash_plant.specs.declared.spot.Spot.{Spot}
 use Rattle.tod_stamp.specs.declared.stamp.Stamp.{Stamp}
-use Rattle.crash_plant.specs.Moments.{PlantState}
+use Rattle.crash_plant.specs.Moments.{PlantState, IsDurable, on}
 use Rattle.control_set.specs.declared.value.Mark.{Mark}
 use Rattle.pair_table.specs.declared.row.PairRow.{PairRow}
 use Rattle.pair_table.specs.Tables.{Table, with_rows, are_below}
@@ -69,6 +69,14 @@ pub record WalkStands (plant : PlantState) (w : Walking) : Type 0 where
   pub below : are_below plant.volumes w.table.rows ≡ true
   pub long : (j : ℕ) → j < plant.journals → 1 ≤ plant.lengths (Journal j)
   pub here : has_entered w.at.set w.entered.items ≡ true
+
+-- The walk has entered the data set in which it stands, and no other.
+abbrev pub HasEnteredOne : Walking → Type 0
+HasEnteredOne w = w.entered.items ≡ w.at.set ∷ []
+
+-- A crash leaves of these data sets' journals what reads give.
+abbrev pub AreDurable : PlantState → (entered : List ℕ) → Type 0
+AreDurable plant entered = (j : ℕ) → has_entered j entered ≡ true → IsDurable (on plant (Journal j))
 
 -- A walk stands at this spot, whose data set was entered, with these rows.
 pub record StandsBehind (after : Spot) (rows : List PairRow) (w : Walking) : Type 0 where

@@ -1,17 +1,21 @@
 //! The walk over a site's journals.
 
-ghost use Rattle.std.specs.Prelude.{◌≡◌, ◌<◌, ◌↔◌, ℕ, unwrap_or, IfOk, OnOk, IsErrOf, IsTrue, Ok, Err, None, true};
+ghost use Rattle.std.specs.Prelude.{◌≡◌, ◌<◌, ◌↔◌, ℕ, unwrap_or, vec_len, IfOk, OnOk, IsErrOf, IsTrue, Ok, Err, None, true};
 ghost use Rattle.crash_plant.specs.declared.device.Device.{Device as AnyDevice};
 ghost use Rattle.crash_plant.specs.declared.device.Device.TheVariants.{Journal};
+ghost use Rattle.crash_plant.specs.Moments.{IsDurable, on};
 ghost use Rattle.crash_plant.specs.Calls.{NoneLent};
 ghost use Rattle.pair_table.specs.Tables.{are_below};
+ghost use Rattle.site_means.specs.declared.reading.FirstRead.TheVariants.{Synced};
+ghost use Rattle.site_means.specs.declared.site_error.SiteError.{SiteError as SiteErrorValue};
 ghost use Rattle.site_means.specs.declared.site_error.SiteError.TheVariants.{Damaged, Fault, TooSmall};
 ghost use Rattle.site_means.specs.Images.{shape_of};
 ghost use Rattle.site_means.specs.Walk.WalkStep.{Breaks};
 ghost use Rattle.site_means.specs.Walk.{body_place, first_unfit, group_step, has_entered, step, switch_step};
-ghost use Rattle.site_means.specs.Answers.{FaultsAreCounted, IsExamined, ReadsAll};
-ghost use Rattle.site_means.specs.Steps.{BeginsAt, HoldsEveryBody, HavePlaces, IsDamage, OnlyDamage, AnswersStep, AnswersWalk, WalkStands, StandsBehind, TakesRows, moved_on, standing_of, walk_of};
+ghost use Rattle.site_means.specs.Answers.{FaultsAreCounted, IsExamined, ReadsAll, WhereTold};
+ghost use Rattle.site_means.specs.Steps.{AreDurable, BeginsAt, HasEnteredOne, HoldsEveryBody, HavePlaces, IsDamage, OnlyDamage, AnswersStep, AnswersWalk, WalkStands, StandsBehind, TakesRows, moved_on, standing_of, walk_of};
 
+use crate::reading::{FirstRead, SiteReading, settle};
 use crate::rows::take_rows;
 use crate::{Means, SiteError};
 use ckd_track::Slot;
@@ -216,12 +220,35 @@ impl Walking {
         }
     }
 
+    /// Syncs the journal at the spot where this is asked for, if it isn't among the first data sets that the walk has entered. Gives
+    /// how many these are.
+    fn settle_here<P: Plant>(
+        &self,
+        plant: &mut P,
+        settled: usize,
+        first: FirstRead,
+    ) -> Result<usize, SiteError>
+        requires set { self.now.at.set < (P.state plant.old).journals }
+        ensures all { IfOk result (λ settled. settled ≡ vec_len self.now.entered) }
+        ensures durable { P.tells → first ≡ Synced → settled < vec_len self.now.entered → OnOk result (IsDurable (on (P.state plant.new) (Journal self.now.at.set))) }
+        ensures fault { (e : SiteErrorValue) → IsErrOf result e → e ≡ Fault (Journal self.now.at.set) }
+        ensures fails { FaultsAreCounted (P.state plant.old).faults (P.state plant.new).faults result }
+        ensures reads { ReadsAll P.tells (P.state plant.old) (P.state plant.new) }
+    {
+        let count = self.entered.len();
+        if settled < count {
+            settle(plant, Device::Journal(self.at.set), first)?;
+        }
+        Ok(count)
+    }
+
     /// Goes on to the end of the walk.
     pub(crate) fn finish<P: Plant>(
         &mut self,
         alloc: Global,
         plant: &mut P,
         buffers: &mut Buffers,
+        first: FirstRead,
     ) -> Result<(), SiteError>
         requires home { NoneLent (P.state plant.old) }
         requires room { HoldsEveryBody (P.state plant.old) buffers.old.body.room }
@@ -229,11 +256,14 @@ impl Walking {
         ensures below { OnOk result (IsTrue (are_below (P.state plant.old).volumes self.new.table.rows)) }
         ensures reports { P.tells → AnswersWalk (walk_of (shape_of (P.state plant.old)) (P.state plant.old).bytes self.old) self.old self.new result }
         ensures short { (d : AnyDevice) (needed : ℕ) → ¬ IsErrOf result (TooSmall d needed) }
+        ensures durable { P.tells → first ≡ Synced → HasEnteredOne self.old → WhereTold result (AreDurable (P.state plant.new) (walk_of (shape_of (P.state plant.old)) (P.state plant.old).bytes self.old).entered) }
         ensures examined { (d : AnyDevice) → IsErrOf result (Fault d) → IsExamined d }
         ensures fails { FaultsAreCounted (P.state plant.old).faults (P.state plant.new).faults result }
         ensures reads { ReadsAll P.tells (P.state plant.old) (P.state plant.new) }
     {
+        let mut settled = 0;
         loop {
+            settled = self.settle_here(plant, settled, first)?;
             match self.step(alloc, plant, buffers) {
                 Ok(true) => {}
                 Ok(false) => return Ok(()),
@@ -243,16 +273,22 @@ impl Walking {
     }
 
     /// What a walk that has ended means, from a mark and with the level of its state slot.
-    pub(crate) fn means(self, mark: &Mark, level: Level) -> Means
-        ensures { result ≡ record { session = mark.now.session; level = level; time = self.time; table = self.table; from = mark.now.at; ended = mark.now.ended } }
+    pub(crate) fn reading(self, mark: &Mark, level: Level) -> SiteReading
+        ensures mark { result.mark ≡ mark.now }
+        ensures means { result.means ≡ record { session = mark.now.session; level = level; time = self.time; table = self.table; from = mark.now.at; ended = mark.now.ended } }
+        ensures end { result.end ≡ self.at }
     {
-        Means {
-            session: mark.session,
-            level,
-            time: self.time,
-            table: self.table,
-            from: mark.at,
-            ended: mark.ended,
+        SiteReading {
+            mark: *mark,
+            means: Means {
+                session: mark.session,
+                level,
+                time: self.time,
+                table: self.table,
+                from: mark.at,
+                ended: mark.ended,
+            },
+            end: self.at,
         }
     }
 }
