@@ -31,6 +31,16 @@ so_good {X = X} a b x f d = f.others d (λ is. no_error x (Site (Fault d)) is)
     no_error : (x : X) (e : RecoverError) → (let a : Result X RecoverError = Ok x in let b : Result X RecoverError = Err e in a ≡ b) → ⊥
     no_error x e is = cc
 
+-- the same error of a site
+pub so_counted : (X Y : Type 0) (a b : Device → ℕ) (e : SiteError) → (let r : Result X SiteError = Err e in FaultsAreCounted a b r) → (let r : Result Y RecoverError = Err (Site e) in FailsSo a b r)
+so_counted X Y a b e f = record {
+  rose = λ d is. f.rose d (ap (λ (k : SiteError). Err k) (own_error d is));
+  others = λ d other. f.others d (λ is. other (ap (λ (k : SiteError). Err (Site k)) (error_is {Y = X} e (Fault d) is)));
+}
+  where
+    own_error : (d : Device) → (let r : Result Y RecoverError = Err (Site e) in IsErrOf r (Site (Fault d))) → e ≡ Fault d
+    own_error d is = cc
+
 -- ---- the count of one volume
 
 -- behind calls that left it

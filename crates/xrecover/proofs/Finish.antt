@@ -1,10 +1,11 @@
 -- A recovery by its steps: what was read first, and the pairs that were redone then.
-use Rattle.std.proofs.Common.{◌≡◌, ◌≤◌, ◌+◌, arith, ℕ, List, Result, Err, sym, ap, subst}
+use Rattle.std.proofs.Common.{inl, inr, ◌≡◌, ◌≤◌, ◌+◌, arith, ℕ, List, Result, Err, sym, ap, subst}
 use Rattle.std.specs.Prelude.{slice_index_or}
 use Rattle.crash_plant.specs.declared.device.Device.{Device}
-use Rattle.crash_plant.specs.declared.device.Device.TheVariants.{Control, State, Journal, Volume}
+use Rattle.crash_plant.specs.declared.device.Device.TheVariants.{Control, Journal, Volume}
+use Rattle.crash_plant.specs.Choices.{AtNow}
 use Rattle.crash_plant.specs.Moments.{PlantState}
-use Rattle.control_set.specs.declared.value.Mark.{Mark}
+use Rattle.control_set.specs.Slots.{chosen_mark, lengths_of}
 use Rattle.pair_table.specs.declared.row.PairRow.{PairRow}
 use Rattle.site_means.specs.declared.means.Means.{Means}
 use Rattle.site_means.specs.Answers.{ReadsAll}
@@ -13,13 +14,16 @@ use Rattle.site_means.specs.Sight.{meant_by, walked, walked_by}
 use Rattle.site_means.proofs.Meanings.{same_seen, seen_meaning, seen_reached}
 use Rattle.xrc_journal.specs.Items.{Item}
 use Rattle.xrecover.specs.declared.recover_error.RecoverError.{RecoverError}
-use Rattle.xrecover.specs.Answers.{EndsLate, HasWalk, IsLate, IsOf, IsRecoverable, IsGoodOrCalledFor}
+use Rattle.xrecover.specs.declared.recover_error.RecoverError.TheVariants.{Site, Other}
+use Rattle.site_means.specs.declared.site_error.SiteError.TheVariants.{NoSession, Damaged, Fault, TooSmall, NoMemory}
+use Rattle.xrecover.specs.Sights.{MeansAsRead, TellsDurable, TellsLasting}
+use Rattle.xrecover.proofs.Seen.{now_means, read_lasts}
+use Rattle.xrecover.specs.Answers.{EndsLate, IsLate, IsOf, IsRecoverable, IsGoodOrCalledFor}
 use Rattle.xrecover.specs.declared.labelling.Labelling.{Labelling}
 use Rattle.xrecover.specs.RedoneVolumes.{BearsLabel, Draws, Recovers, Redone, meant_rows, rows_of}
 use Rattle.xrecover.specs.Works.{Nothing, Works}
 use Rattle.xrecover.specs.Labels.{TreatsLabels}
 use Rattle.xrecover.proofs.Labels.{treats_behind}
-use Rattle.xrecover.proofs.Later.{walk_later}
 use Rattle.xrecover.proofs.Relations.{recovers_same}
 use Rattle.xrecover.proofs.Works.{works_more, works_reads, works_trans}
 
@@ -36,9 +40,6 @@ module _ (tells : Type 0) (old one : PlantState) (reads : ReadsAll tells old one
   -- only reads so far
   pub read_works : (rows : List PairRow) (items : List Item) → Works tells (Recovers rows items) old one
   read_works rows items = works_more tells Nothing (Recovers rows items) old one (λ told d x y e. recovers_same rows items d x y e) (works_reads tells old one reads)
-
-  pub walk_now : (m : Mark) → tells → HasWalk old m → HasWalk one m
-  walk_now m told walk = (walk_later old one m reads.only.site (reads.same told Control) (reads.same told State) (λ j. reads.same told (Journal j)) walk).has
 
   -- a late error, after the mark was the session's
   pub late_says : {X : Type 0} (session : List ℕ) (good : X → Type 0) → tells → IsOf old session → (e : RecoverError) → IsLate one e → (let r : Result X RecoverError = Err e in IsGoodOrCalledFor old session good r)
@@ -81,3 +82,17 @@ module _ (tells : Type 0) (old one : PlantState) (reads : ReadsAll tells old one
 module _ (old one new : Device → ℕ) (same : (d : Device) → one d ≡ old d) where
   pub once_since : ((v : ℕ) → new (Volume v) ≤ one (Volume v) + 1) → (v : ℕ) → new (Volume v) ≤ old (Volume v) + 1
   once_since once v = omega (arith, once v, same (Volume v))
+
+-- ---- what lasts
+
+-- what an error tells that was read
+pub lasting_read : (X Y : Type 0) (tells : Type 0) (told : tells) (old one : PlantState) (reads : ReadsAll tells old one) (e : RecoverError) → (let r : Result X RecoverError = Err e in TellsDurable old one r) → (let r : Result Y RecoverError = Err e in TellsLasting tells old one r)
+lasting_read X Y tells told old one reads (Other name) t = λ c is. ap (λ (l : List ℕ). chosen_mark (lengths_of old) l) (read_lasts tells told old one reads c is Control tt t)
+lasting_read X Y tells told old one reads (Site NoSession) t = now_means tells told old one reads t
+lasting_read X Y tells told old one reads (Site (Damaged d place)) t = now_means tells told old one reads t
+lasting_read X Y tells told old one reads (Site (Fault d)) t = inl (works_reads tells old one reads)
+lasting_read X Y tells told old one reads (Site (TooSmall d needed)) t = tt
+lasting_read X Y tells told old one reads (Site NoMemory) t = tt
+
+pub lasting_late : (Y : Type 0) (tells : Type 0) (old one new : PlantState) (e : RecoverError) → IsLate one e → AtNow (MeansAsRead old) new → (let r : Result Y RecoverError = Err e in TellsLasting tells old new r)
+lasting_late Y tells old one new e late means = subst (λ (k : RecoverError). let r : Result Y RecoverError = Err k in TellsLasting tells old new r) (sym late.1) (inr means)

@@ -2,33 +2,31 @@
 
 ghost use Rattle.std.specs.Prelude.{◌≡◌, ◌≢◌, ◌≤◌, ◌<◌, ◌⊎◌, ℕ, IfOk, IsErrOf, IsTrue, OnOk, None, Some, Err};
 ghost use Rattle.crash_plant.specs.declared.device.Device.{Device as AnyDevice};
-ghost use Rattle.crash_plant.specs.declared.device.Device.TheVariants.{Journal, State, Volume};
+ghost use Rattle.crash_plant.specs.declared.device.Device.TheVariants.{Control, Volume};
+ghost use Rattle.crash_plant.specs.Moments.{IsDurable, on};
 ghost use Rattle.crash_plant.specs.Calls.{NoneLent};
 ghost use Rattle.pair_table.specs.Tables.{are_below};
+ghost use Rattle.site_means.specs.declared.reading.FirstRead.TheVariants.{Synced};
 ghost use Rattle.site_means.specs.declared.site_error.SiteError.{SiteError as SiteErrorValue};
 ghost use Rattle.site_means.specs.declared.site_error.SiteError.TheVariants.{Fault, TooSmall};
-ghost use Rattle.site_means.specs.Answers.{FaultsAreCounted, HasSpot, IsChosen, IsExamined, IsInTurn, ReadsAll, TellsMeaning, first_short, need as site_need};
+ghost use Rattle.site_means.specs.Answers.{HasSpot, IsChosen, IsExamined, IsOfControl, IsRead, ReadsAll, first_short, need as site_need};
 ghost use Rattle.volume_label.specs.Labels.{volume_need as volume_need};
 ghost use Rattle.xrecover.specs.declared.recover_error.RecoverError.{RecoverError as RecoverErrorValue};
 ghost use Rattle.xrecover.specs.declared.recover_error.RecoverError.TheVariants.{Other, Site};
 ghost use Rattle.xrecover.specs.Pairs.{first_small, is_duplex, is_small};
-ghost use Rattle.xrecover.specs.Answers.{FailsSo, HasWalk, IsGoodOrCalledFor, IsMeant, IsRecoverable};
+ghost use Rattle.xrecover.specs.Answers.{FailsSo, IsGoodOrCalledFor, IsMeant, IsRecoverable};
+ghost use Rattle.xrecover.specs.Sights.{TellsDurable};
 
 use crate::RecoverError;
-use control_set::{ChooseError, Mark, choose};
+use control_set::Mark;
 use crash_plant::{Device, Plant};
 use pair_table::{PairRow, PairState, PairTable};
-use site_means::{Means, SiteError, check_lengths, read_journals, read_state};
+use site_means::{
+    FirstRead, Means, SiteError, SiteReading, check_lengths, read_from_mark, read_mark,
+};
 use std::alloc::Global;
 use tod_stamp::Session;
 use volume_label::need;
-
-/// A mark, and what the devices mean by it.
-#[derive(Drop)]
-pub(crate) struct Meant {
-    pub(crate) mark: Mark,
-    pub(crate) means: Means,
-}
 
 pub(crate) fn is_duplex(state: PairState) -> bool
     ensures { result ≡ is_duplex state }
@@ -88,91 +86,81 @@ fn check_volumes<P: Plant>(plant: &P, table: &PairTable) -> Result<(), SiteError
     }
 }
 
-/// Reads the state of a mark, and walks from it.
-fn read_means<P: Plant>(alloc: Global, plant: &mut P, mark: &Mark) -> Result<Means, SiteError>
-    requires home { NoneLent (P.state plant.old) }
-    requires short { first_short (P.state plant.old) ≡ None }
-    requires slot { mark.now.state_slot ≤ 1 }
-    requires spot { HasSpot (P.state plant.old) mark.now.at }
-    ensures says { P.tells → IsChosen (P.state plant.old) mark.now → TellsMeaning (P.state plant.old) result }
-    ensures below { IfOk result (λ means. IsTrue (are_below (P.state plant.old).volumes means.table.rows)) }
-    ensures reached { P.tells → IsChosen (P.state plant.old) mark.now → (d : AnyDevice) → IsErrOf result (Fault d) → IsInTurn (P.state plant.old) d }
-    ensures examined { (d : AnyDevice) → IsErrOf result (Fault d) → IsExamined d }
-    ensures short { (d : AnyDevice) (needed : ℕ) → ¬ IsErrOf result (TooSmall d needed) }
-    ensures fails { FaultsAreCounted (P.state plant.old).faults (P.state plant.new).faults result }
-    ensures reads { ReadsAll P.tells (P.state plant.old) (P.state plant.new) }
-{
-    let (level, table) = read_state(alloc, plant, mark)?;
-    read_journals(alloc, plant, mark, level, table)
-}
-
-/// The mark that counts, where it is this session's.
-fn read_own_mark<P: Plant>(plant: &mut P, session: Session) -> Result<Mark, RecoverError>
+/// The mark that counts, if it is this session's. Another session is told by its name, whatever the state holds.
+pub fn read_own_mark<P: Plant>(
+    plant: &mut P,
+    session: Session,
+    first: FirstRead,
+) -> Result<Mark, RecoverError>
     requires { first_short (P.state plant.old) ≡ None }
     ensures says { P.tells → IsGoodOrCalledFor (P.state plant.old) session (λ mark. IsChosen (P.state plant.old) mark) result }
     ensures same { IfOk result (λ mark. mark.session ≡ session) }
+    // Whatever a read gave, the mark names state slot 0 or 1, and its spot lies in a journal.
     ensures slot { IfOk result (λ mark. mark.state_slot ≤ 1) }
     ensures spot { IfOk result (λ mark. HasSpot (P.state plant.old) mark.at) }
-    ensures small { (d : AnyDevice) (needed : ℕ) → ¬ IsErrOf result (Site (TooSmall d needed)) }
-    ensures examined { (d : AnyDevice) → IsErrOf result (Site (Fault d)) → IsExamined d }
+    ensures wrong { (e : SiteErrorValue) → IsErrOf result (Site e) → IsOfControl e }
+    // Behind a sync, whatever is told of the control lasts.
+    ensures durable { P.tells → first ≡ Synced → ¬ IsErrOf result (Site (Fault Control)) → IsDurable (on (P.state plant.new) Control) }
     ensures fails { FailsSo (P.state plant.old).faults (P.state plant.new).faults result }
     ensures reads { ReadsAll P.tells (P.state plant.old) (P.state plant.new) }
 {
-    match choose(plant) {
-        Ok(Some(mark)) => {
-            check_session(&mark, session)?;
-            Ok(mark)
-        }
-        Ok(None) => Err(RecoverError::Site(SiteError::NoSession)),
-        Err(ChooseError::Damaged(place)) => {
-            Err(RecoverError::Site(SiteError::Damaged(Device::Control, place)))
-        }
-        Err(ChooseError::Fault) => Err(RecoverError::Site(SiteError::Fault(Device::Control))),
-    }
+    let mark = read_mark(plant, first)?;
+    check_session(&mark, session)?;
+    Ok(mark)
 }
 
-/// What the devices of a session mean, and by which mark.
-fn read_session<P: Plant>(
+/// What was read of the devices of a session.
+///
+/// What they don't mean is answered in this order: lengths, the control, the session, the state, and the journals in the order of the
+/// walk. Nothing is written.
+pub fn read_session<P: Plant>(
     alloc: Global,
     plant: &mut P,
     session: Session,
-) -> Result<Meant, RecoverError>
+    first: FirstRead,
+) -> Result<SiteReading, RecoverError>
     requires home { NoneLent (P.state plant.old) }
-    ensures says { P.tells → IsGoodOrCalledFor (P.state plant.old) session (λ meant. IsMeant (P.state plant.old) session meant.means × HasWalk (P.state plant.old) meant.mark) result }
+    // What the devices mean, or the first of what is wrong with them.
+    ensures says { P.tells → IsGoodOrCalledFor (P.state plant.old) session (λ reading. IsMeant (P.state plant.old) session reading.means × IsRead (P.state plant.old) reading) result }
+    // A device is too small exactly where it is the first one.
     ensures short { (d : AnyDevice) → first_short (P.state plant.old) ≡ Some d → result ≡ Err (Site (TooSmall d (site_need d))) }
     ensures small { (d : AnyDevice) (needed : ℕ) → IsErrOf result (Site (TooSmall d needed)) → first_short (P.state plant.old) ≡ Some d }
     ensures lengths { OnOk result (first_short (P.state plant.old) ≡ None) }
-    ensures spot { IfOk result (λ meant. HasSpot (P.state plant.old) meant.mark.at) }
-    ensures below { IfOk result (λ meant. IsTrue (are_below (P.state plant.old).volumes meant.means.table.rows)) }
+    // Whatever reads gave, the spot lies in a journal, and the devices of the rows are the plant's.
+    ensures spot { IfOk result (λ reading. HasSpot (P.state plant.old) reading.mark.at) }
+    ensures below { IfOk result (λ reading. IsTrue (are_below (P.state plant.old).volumes reading.means.table.rows)) }
+    // Behind syncs, whatever is told of the devices lasts.
+    ensures durable { P.tells → first ≡ Synced → TellsDurable (P.state plant.old) (P.state plant.new) result }
     ensures examined { (d : AnyDevice) → IsErrOf result (Site (Fault d)) → IsExamined d }
     ensures fails { FailsSo (P.state plant.old).faults (P.state plant.new).faults result }
     ensures reads { ReadsAll P.tells (P.state plant.old) (P.state plant.new) }
 {
     check_lengths(plant)?;
-    let mark = read_own_mark(plant, session)?;
-    let means = read_means(alloc, plant, &mark)?;
-    Ok(Meant { mark, means })
+    let mark = read_own_mark(plant, session, first)?;
+    let reading = read_from_mark(alloc, plant, &mark, first)?;
+    Ok(reading)
 }
 
-/// What the devices of a session mean, where the volumes of the duplex pairs are long enough. Nothing is written.
-pub(crate) fn read_meant<P: Plant>(
+/// What was read of the devices of a session behind syncs, if the volumes of the duplex pairs are long enough. Nothing is written.
+pub(crate) fn read_recoverable<P: Plant>(
     alloc: Global,
     plant: &mut P,
     session: Session,
-) -> Result<Meant, RecoverError>
+) -> Result<SiteReading, RecoverError>
     requires home { NoneLent (P.state plant.old) }
-    ensures says { P.tells → IsGoodOrCalledFor (P.state plant.old) session (λ meant. IsRecoverable (P.state plant.old) session meant.means × HasWalk (P.state plant.old) meant.mark) result }
+    ensures says { P.tells → IsGoodOrCalledFor (P.state plant.old) session (λ reading. IsRecoverable (P.state plant.old) session reading.means × IsRead (P.state plant.old) reading) result }
     ensures short { (d : AnyDevice) → first_short (P.state plant.old) ≡ Some d → result ≡ Err (Site (TooSmall d (site_need d))) }
     ensures lengths { OnOk result (first_short (P.state plant.old) ≡ None) }
-    ensures spot { IfOk result (λ meant. HasSpot (P.state plant.old) meant.mark.at) }
-    ensures below { IfOk result (λ meant. IsTrue (are_below (P.state plant.old).volumes meant.means.table.rows)) }
-    ensures long { IfOk result (λ meant. first_small (P.state plant.old) meant.means.table.rows ≡ None) }
+    ensures spot { IfOk result (λ reading. HasSpot (P.state plant.old) reading.mark.at) }
+    ensures below { IfOk result (λ reading. IsTrue (are_below (P.state plant.old).volumes reading.means.table.rows)) }
+    ensures long { IfOk result (λ reading. first_small (P.state plant.old) reading.means.table.rows ≡ None) }
+    ensures durable { P.tells → TellsDurable (P.state plant.old) (P.state plant.new) result }
     ensures fails { FailsSo (P.state plant.old).faults (P.state plant.new).faults result }
     ensures reads { ReadsAll P.tells (P.state plant.old) (P.state plant.new) }
 {
-    let meant = read_session(alloc, plant, session)?;
-    check_volumes(plant, &meant.means.table)?;
-    Ok(meant)
+    let reading = read_session(alloc, plant, session, FirstRead::Synced)?;
+    check_volumes(plant, &reading.means.table)?;
+    Ok(reading)
 }
 
 /// What the devices of a session mean, whatever the lengths of volumes are. The control, the state and the journals are read, and nothing
@@ -197,6 +185,6 @@ pub fn examine_session<P: Plant>(
     // What reads give stays, and a crash leaves nothing that it couldn't leave before.
     ensures reads { ReadsAll P.tells (P.state plant.old) (P.state plant.new) }
 {
-    let meant = read_session(alloc, plant, session)?;
-    Ok(meant.means)
+    let reading = read_session(alloc, plant, session, FirstRead::AsItIs)?;
+    Ok(reading.means)
 }

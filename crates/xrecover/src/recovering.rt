@@ -9,26 +9,26 @@ ghost use Rattle.crash_plant.specs.Choices.{AllFollow};
 ghost use Rattle.pair_table.specs.Tables.{are_below};
 ghost use Rattle.site_means.specs.declared.site_error.SiteError.{SiteError as SiteErrorValue};
 ghost use Rattle.site_means.specs.declared.site_error.SiteError.TheVariants.{Fault, TooSmall};
-ghost use Rattle.site_means.specs.Answers.{HasSpot, first_short, need};
+ghost use Rattle.site_means.specs.Answers.{HasSpot, IsRead, first_short, need};
 ghost use Rattle.site_means.specs.Sight.{walked};
 ghost use Rattle.site_means.specs.Steps.{HoldsEveryBody};
 ghost use Rattle.xrecover.specs.declared.recover_error.RecoverError.{RecoverError as RecoverErrorValue};
 ghost use Rattle.xrecover.specs.declared.recover_error.RecoverError.TheVariants.{Site};
 ghost use Rattle.xrecover.specs.Pairs.{AreFaulty, first_small};
-ghost use Rattle.xrecover.specs.Answers.{HasWalk, IsEarly, IsLate, IsRecoverable, IsGoodOrCalledFor, TellsFaults};
+ghost use Rattle.xrecover.specs.Answers.{IsEarly, IsLate, IsRecoverable, IsGoodOrCalledFor, TellsFaults};
 ghost use Rattle.xrecover.specs.Works.{Nothing, Works};
 ghost use Rattle.xrecover.specs.declared.labelling.Labelling.TheVariants.{AsItIs, AsPrimary};
 ghost use Rattle.xrecover.specs.RedoneVolumes.{Recovers, Redone, meant_rows};
 ghost use Rattle.xrecover.specs.Labels.{AreNamed, KeepsLabels, LabelsLast, TreatsLabels};
-ghost use Rattle.xrecover.specs.Sights.{IsSettled, SeesSame};
+ghost use Rattle.xrecover.specs.Sights.{SeesSame, TellsLasting};
 
-use crate::meaning::{Meant, is_duplex, read_meant};
+use crate::meaning::{is_duplex, read_recoverable};
 use crate::redoing::redo_pair;
 use crate::volumes::Tools;
 use crate::{Labelling, Outcome, RecoverError};
 use crash_plant::Plant;
 use pair_table::DeviceList;
-use site_means::longest_body;
+use site_means::{SiteReading, longest_body};
 use std::alloc::Global;
 use std::thread::Threads;
 use tod_stamp::Session;
@@ -45,34 +45,34 @@ fn make_room(alloc: Global, devices: u16) -> Result<Vec<u16>, NoMemory>
 /// Redoes the duplex pairs in the order of their rows, and puts the devices that failed into the list. It takes no memory.
 fn redo_pairs<P: Plant>(
     plant: &mut P,
-    meant: &Meant,
+    reading: &SiteReading,
     tools: Tools,
     failed: Vec<u16>,
     labelling: Labelling,
 ) -> Result<DeviceList, RecoverError>
     requires home { NoneLent (P.state plant.old) }
-    requires below { IsTrue (are_below (P.state plant.old).volumes meant.now.means.table.rows) }
-    requires big { first_small (P.state plant.old) meant.now.means.table.rows ≡ None }
-    requires spot { HasSpot (P.state plant.old) meant.now.mark.at }
+    requires below { IsTrue (are_below (P.state plant.old).volumes reading.now.means.table.rows) }
+    requires big { first_small (P.state plant.old) reading.now.means.table.rows ≡ None }
+    requires spot { HasSpot (P.state plant.old) reading.now.mark.at }
     requires long { (j : ℕ) → j < (P.state plant.old).journals → 1 ≤ (P.state plant.old).lengths (Journal j) }
     requires room { HoldsEveryBody (P.state plant.old) tools.body.room }
-    requires walk { P.tells → HasWalk (P.state plant.old) meant.now.mark }
+    requires read { P.tells → IsRead (P.state plant.old) reading.now }
     requires empty { failed.items ≡ [] }
-    requires places { length meant.now.means.table.rows ≤ vec_capacity failed }
-    ensures works { Works P.tells (Recovers meant.now.means.table.rows (walked (P.state plant.old) (P.state plant.old).bytes)) (P.state plant.old) (P.state plant.new) }
-    ensures failed { IfOk result (AreFaulty meant.now.means.table.rows (P.state plant.old).faults (P.state plant.new).faults) }
-    ensures redone { P.tells → IfOk result (λ failed. Redone labelling meant.now.means.table.rows (walked (P.state plant.old) (P.state plant.old).bytes) failed (P.state plant.old) (P.state plant.new)) }
-    ensures treats { P.tells → TreatsLabels labelling meant.now.means.table.rows (walked (P.state plant.old) (P.state plant.old).bytes) (P.state plant.old) (P.state plant.new) }
+    requires places { length reading.now.means.table.rows ≤ vec_capacity failed }
+    ensures works { Works P.tells (Recovers reading.now.means.table.rows (walked (P.state plant.old) (P.state plant.old).bytes)) (P.state plant.old) (P.state plant.new) }
+    ensures failed { IfOk result (AreFaulty reading.now.means.table.rows (P.state plant.old).faults (P.state plant.new).faults) }
+    ensures redone { P.tells → IfOk result (λ failed. Redone labelling reading.now.means.table.rows (walked (P.state plant.old) (P.state plant.old).bytes) failed (P.state plant.old) (P.state plant.new)) }
+    ensures treats { P.tells → TreatsLabels labelling reading.now.means.table.rows (walked (P.state plant.old) (P.state plant.old).bytes) (P.state plant.old) (P.state plant.new) }
     ensures once { (v : ℕ) → (P.state plant.new).faults (Volume v) ≤ (P.state plant.old).faults (Volume v) + 1 }
     ensures late { P.tells → (e : RecoverErrorValue) → IsErrOf result e → IsLate (P.state plant.old) e }
     ensures fault { TellsFaults (P.state plant.old).faults (P.state plant.new).faults (λ d. IsErrOf result (Site (Fault d))) }
 {
     let mut failed = failed;
     let mut tools = tools;
-    for place in 0..meant.means.table.len() {
-        let row = *meant.means.table.row(place).unwrap();
+    for place in 0..reading.means.table.len() {
+        let row = *reading.means.table.row(place).unwrap();
         if is_duplex(row.state) {
-            let (again, has_failed) = redo_pair(plant, &meant.mark, &row, tools, labelling)?;
+            let (again, has_failed) = redo_pair(plant, &reading.mark, &row, tools, labelling)?;
             tools = again;
             if has_failed {
                 failed.push_reserved(row.device);
@@ -98,15 +98,16 @@ pub(crate) fn redo_site<P: Plant>(
     ensures redone { P.tells → IfOk result (λ o. Redone labelling (meant_rows (P.state plant.old) (P.state plant.old).bytes) (walked (P.state plant.old) (P.state plant.old).bytes) o.failed (P.state plant.old) (P.state plant.new)) }
     ensures works { Works P.tells (Recovers (meant_rows (P.state plant.old) (P.state plant.old).bytes) (walked (P.state plant.old) (P.state plant.old).bytes)) (P.state plant.old) (P.state plant.new) }
     ensures treats { P.tells → TreatsLabels labelling (meant_rows (P.state plant.old) (P.state plant.old).bytes) (walked (P.state plant.old) (P.state plant.old).bytes) (P.state plant.old) (P.state plant.new) }
-    ensures moments { P.tells → IsSettled (P.state plant.old) → AllFollow (SeesSame (P.state plant.old)) (P.state plant.old) (P.state plant.new) }
+    ensures moments { P.tells → AllFollow (SeesSame (P.state plant.old)) (P.state plant.old) (P.state plant.new) }
+    ensures lasts { P.tells → TellsLasting P.tells (P.state plant.old) (P.state plant.new) result }
     ensures unwritten { (e : RecoverErrorValue) → IsErrOf result e → IsEarly e → Works P.tells Nothing (P.state plant.old) (P.state plant.new) }
 {
-    let meant = read_meant(alloc, plant, session)?;
+    let reading = read_recoverable(alloc, plant, session)?;
     let tools = Tools::make(alloc, longest_body(plant))?;
-    let room = make_room(alloc, meant.means.table.len())?;
-    let failed = redo_pairs(plant, &meant, tools, room, labelling)?;
+    let room = make_room(alloc, reading.means.table.len())?;
+    let failed = redo_pairs(plant, &reading, tools, room, labelling)?;
     Ok(Outcome {
-        means: meant.means,
+        means: reading.means,
         failed,
     })
 }
@@ -114,6 +115,9 @@ pub(crate) fn redo_site<P: Plant>(
 /// Recovers a session's site: on the volume of each duplex pair, in the order of the rows, each track of which the journals' walk has
 /// an item gets its content, and after a sync the label gets the primary's serial and the pair's cylinders. Nothing else is written.
 /// A volume that fails is left at its first fault, and the other pairs are done.
+///
+/// The control, the state and each journal that the walk enters are synced before they are read first, and no volume is written before.
+/// A sync that fails is the device's fault. So a power failure can't take back what was recovered.
 ///
 /// Other is answered exactly where the chosen mark names another session, before the state is read. What else the devices don't
 /// mean is answered before anything is written, and so are the first duplex pair's volume that is too small for its cylinders, and
@@ -142,8 +146,11 @@ pub fn recover<R: Threads + Sync, P: Plant>(
     ensures labels { P.tells → (v : ℕ) → LabelsLast v (walked (P.state plant.old) (P.state plant.old).bytes) (on (P.state plant.old) (Volume v)) (on (P.state plant.new) (Volume v)) }
     // Whatever it answers, a duplex pair's volume has the label that it had, or its primary's, but where its count rose.
     ensures named { P.tells → AreNamed (meant_rows (P.state plant.old) (P.state plant.old).bytes) (P.state plant.old) (P.state plant.new) }
-    // At every moment a crash leaves what means the same, with the same tracks, so that a second recovery gives what the first would.
-    ensures moments { P.tells → IsSettled (P.state plant.old) → AllFollow (SeesSame (P.state plant.old)) (P.state plant.old) (P.state plant.new) }
+    // At every moment a crash leaves what means the same as something that it could have left at the start, with the same tracks. From the
+    // first write on that is what reads gave.
+    ensures moments { P.tells → AllFollow (SeesSame (P.state plant.old)) (P.state plant.old) (P.state plant.new) }
+    // What is told of the devices lasts, so that a later recovery tells the same.
+    ensures lasts { P.tells → TellsLasting P.tells (P.state plant.old) (P.state plant.new) result }
     // All answers but a journal's fault come before anything is written, want of memory too.
     ensures unwritten { (e : RecoverErrorValue) → IsErrOf result e → IsEarly e → Works P.tells Nothing (P.state plant.old) (P.state plant.new) }
 {
@@ -175,8 +182,11 @@ pub fn advance<R: Threads + Sync, P: Plant>(
     // reads give and in whatever a crash leaves.
     ensures works { Works P.tells (Recovers (meant_rows (P.state plant.old) (P.state plant.old).bytes) (walked (P.state plant.old) (P.state plant.old).bytes)) (P.state plant.old) (P.state plant.new) }
     ensures labels { P.tells → KeepsLabels (P.state plant.old) (P.state plant.new) }
-    // At every moment a crash leaves what means the same, with the same tracks, so that a second recovery gives what the first would.
-    ensures moments { P.tells → IsSettled (P.state plant.old) → AllFollow (SeesSame (P.state plant.old)) (P.state plant.old) (P.state plant.new) }
+    // At every moment a crash leaves what means the same as something that it could have left at the start, with the same tracks. From the
+    // first write on that is what reads gave.
+    ensures moments { P.tells → AllFollow (SeesSame (P.state plant.old)) (P.state plant.old) (P.state plant.new) }
+    // What is told of the devices lasts, so that a later recovery tells the same.
+    ensures lasts { P.tells → TellsLasting P.tells (P.state plant.old) (P.state plant.new) result }
     // All answers but a journal's fault come before anything is written, want of memory too.
     ensures unwritten { (e : RecoverErrorValue) → IsErrOf result e → IsEarly e → Works P.tells Nothing (P.state plant.old) (P.state plant.new) }
 {

@@ -1,28 +1,25 @@
-use Rattle.std.proofs.Common.{Option, IfSome, subst}
-use Rattle.crash_plant.specs.declared.device.Device.TheVariants.{Control}
+use Rattle.std.proofs.Common.{◌≡◌, Result, Err, rules, sym, subst}
 use Rattle.control_set.specs.declared.value.Mark.{Mark}
-use Rattle.control_set.specs.Marks.{IsMark}
-use Rattle.control_set.specs.Slots.{lengths_of}
-use Rattle.site_means.proofs.Meanings.{has_spot}
-use Rattle.site_means.proofs.ReadAll.{reads_one}
+use Rattle.site_means.specs.Answers.{IsChosen}
+use Rattle.xrecover.specs.declared.recover_error.RecoverError.{RecoverError}
+use Rattle.xrecover.specs.declared.recover_error.RecoverError.TheVariants.{Site}
+use Rattle.xrecover.specs.Answers.{FailsSo, IsGoodOrCalledFor}
+use Rattle.xrecover.proofs.Fails.{so_counted}
+use Rattle.xrecover.proofs.Meant.{mark_says}
 use Rattle.xrecover.proofs.meaning.read_own_mark.Goals as goal
 
-pub returns-in_err-check_session-in-Ok-Some-clause-reads : goal.returns-in_err-check_session-in-Ok-Some-clause-reads
-returns-in_err-check_session-in-Ok-Some-clause-reads g c = reads_one g.P.Plant.tells Control _ _ tt c.choose.ensures.same c.choose.ensures.moments c.choose.ensures.others
-
-pub returns-in_ok-check_session-in-Ok-Some-clause-spot : goal.returns-in_ok-check_session-in-Ok-Some-clause-spot
-returns-in_ok-check_session-in-Ok-Some-clause-spot g c =
+pub returns-in_err-mark-clause-says : goal.returns-in_err-mark-clause-says
+returns-in_err-mark-clause-says g c = λ told.
     let old = g.P.Plant.state c.args.plant.now in
-    has_spot old c.in-Ok-Some.mark (subst (λ (o : Option Mark). IfSome o (IsMark (lengths_of old))) c.in-Ok-Some.field-0-is c.in-Ok-Some.ensures.keeps)
+    let e = c.in_err-mark.field-0.0 in
+    let is : c.from_residual.result ≡ Err (Site e) = search rules in
+    subst (λ (r : Result Mark RecoverError). IsGoodOrCalledFor old c.args.session (λ mark. IsChosen old mark) r) (sym is)
+    (mark_says {X = Mark} old c.args.session (λ mark. IsChosen old mark) e (c.in_err-mark.ensures.wrong e (λ i. Err e)) (c.in_err-mark.ensures.says told))
 
-pub returns-in_ok-check_session-in-Ok-Some-clause-reads : goal.returns-in_ok-check_session-in-Ok-Some-clause-reads
-returns-in_ok-check_session-in-Ok-Some-clause-reads g c = reads_one g.P.Plant.tells Control _ _ tt c.choose.ensures.same c.choose.ensures.moments c.choose.ensures.others
-
-pub returns-in-Ok-None-clause-reads : goal.returns-in-Ok-None-clause-reads
-returns-in-Ok-None-clause-reads g c = reads_one g.P.Plant.tells Control _ _ tt c.choose.ensures.same c.choose.ensures.moments c.choose.ensures.others
-
-pub returns-in-Err-Damaged-clause-reads : goal.returns-in-Err-Damaged-clause-reads
-returns-in-Err-Damaged-clause-reads g c = reads_one g.P.Plant.tells Control _ _ tt c.choose.ensures.same c.choose.ensures.moments c.choose.ensures.others
-
-pub returns-in-Err-Fault-clause-reads : goal.returns-in-Err-Fault-clause-reads
-returns-in-Err-Fault-clause-reads g c = reads_one g.P.Plant.tells Control _ _ tt c.choose.ensures.same c.choose.ensures.moments c.choose.ensures.others
+pub returns-in_err-mark-clause-fails : goal.returns-in_err-mark-clause-fails
+returns-in_err-mark-clause-fails g c =
+    let old = g.P.Plant.state c.args.plant.now in
+    let new = g.P.Plant.state c.read_mark.new.plant in
+    let e = c.in_err-mark.field-0.0 in
+    let is : c.from_residual.result ≡ Err (Site e) = search rules in
+    subst (λ (r : Result Mark RecoverError). FailsSo old.faults new.faults r) (sym is) (so_counted Mark Mark old.faults new.faults e c.in_err-mark.ensures.cause)

@@ -23,6 +23,7 @@ use Rattle.xrecover.proofs.Going.{Going, apart_before, going_faulty, going_first
 use Rattle.site_means.proofs.ReadAll.{reads_none}
 use Rattle.xrecover.proofs.Labels.{treats_pair, treats_read}
 use Rattle.xrecover.proofs.Stepping.{late_before, other_going, pair_going, pair_long, pair_there, same_walk, stopped_works}
+use Rattle.xrecover.proofs.Meant.{read_walk}
 use Rattle.xrecover.proofs.recovering.redo_pairs.Goals as goal
 use Rattle.xrecover.proofs.recovering.redo_pairs.Goals.{then-is_duplex+in_ok-again+then-has_failed, then-is_duplex+in_ok-again+else-has_failed, else-is_duplex}
 
@@ -31,7 +32,7 @@ loop-place-init g c =
     let old = g.P.Plant.state c.args.plant.now in
     record {
       going = subst (λ (l : List ℕ). Going g.P.Plant.tells c.args.labelling (walked old old.bytes) [] l old old) (sym c.requires.empty) (going_first g.P.Plant.tells c.args.labelling (walked old old.bytes) old);
-      treats = λ told. treats_read g.P.Plant.tells told c.args.labelling c.args.meant.now.means.table.rows (walked old old.bytes) old old (reads_none g.P.Plant.tells old);
+      treats = λ told. treats_read g.P.Plant.tells told c.args.labelling c.args.reading.now.means.table.rows (walked old old.bytes) old old (reads_none g.P.Plant.tells old);
       counts = λ d here. refl;
       room = refl;
       count = omega (arith, c.args.failed.ok.0, ap length c.requires.empty);
@@ -40,43 +41,43 @@ loop-place-init g c =
 
 pub push_reserved-requires : goal.push_reserved-requires
 push_reserved-requires g c =
-    let within : c.loop-place.place < length c.args.meant.now.means.table.rows = omega (arith, c.len-place-end.ensures.count, c.loop-place-test.true) in
+    let within : c.loop-place.place < length c.args.reading.now.means.table.rows = omega (arith, c.len-place-end.ensures.count, c.loop-place-test.true) in
     omega (arith, within, c.loop-place.invariant.count, c.loop-place.invariant.places)
 
 pub unwrap-requires : goal.unwrap-requires
 unwrap-requires g c =
-    let within : c.loop-place.place < length c.args.meant.now.means.table.rows = omega (arith, c.len-place-end.ensures.count, c.loop-place-test.true) in
-    some_there c.args.meant.now.means.table.rows c.loop-place.place c.row.result within c.row.ensures.row
+    let within : c.loop-place.place < length c.args.reading.now.means.table.rows = omega (arith, c.len-place-end.ensures.count, c.loop-place-test.true) in
+    some_there c.args.reading.now.means.table.rows c.loop-place.place c.row.result within c.row.ensures.row
 
 pub redo_pair-requires-clause-there : goal.redo_pair-requires-clause-there
 redo_pair-requires-clause-there g c κs within =
-    let rows = c.args.meant.now.means.table.rows in
+    let rows = c.args.reading.now.means.table.rows in
     let r = c.unwrap.result.now in
     let is : slice_get rows c.loop-place.place ≡ Some r = sym c.row.ensures.row ∙ ap option_copied c.unwrap.ensures in
     pair_there g.P.Plant.tells c.args.labelling rows c.loop-place.place c.loop-place.failed.items (g.P.Plant.state c.args.plant.now) (g.P.Plant.state c.loop-place.plant) c.loop-place.invariant.going r is c.requires.below
 
 pub redo_pair-requires-clause-label : goal.redo_pair-requires-clause-label
 redo_pair-requires-clause-label g c κs within =
-    let rows = c.args.meant.now.means.table.rows in
+    let rows = c.args.reading.now.means.table.rows in
     let r = c.unwrap.result.now in
     let is : slice_get rows c.loop-place.place ≡ Some r = sym c.row.ensures.row ∙ ap option_copied c.unwrap.ensures in
     pair_long g.P.Plant.tells c.args.labelling rows c.loop-place.place c.loop-place.failed.items (g.P.Plant.state c.args.plant.now) (g.P.Plant.state c.loop-place.plant) c.loop-place.invariant.going r is c.requires.big (sym c.is_duplex.ensures ∙ c.if-is_duplex.true)
 
 pub redo_pair-requires-clause-walk : goal.redo_pair-requires-clause-walk
 redo_pair-requires-clause-walk g c κs within = λ told.
-    (same_walk g.P.Plant.tells c.args.labelling c.args.meant.now.means.table.rows c.loop-place.place c.loop-place.failed.items (g.P.Plant.state c.args.plant.now) (g.P.Plant.state c.loop-place.plant) c.loop-place.invariant.going c.args.meant.now.mark c.requires.walk told).has
+    (same_walk g.P.Plant.tells c.args.labelling c.args.reading.now.means.table.rows c.loop-place.place c.loop-place.failed.items (g.P.Plant.state c.args.plant.now) (g.P.Plant.state c.loop-place.plant) c.loop-place.invariant.going c.args.reading.now.mark (λ told. read_walk (g.P.Plant.state c.args.plant.now) c.args.reading.now (c.requires.read told)) told).has
 
 pub returns-in_err-again-clause-works : goal.returns-in_err-again-clause-works
 returns-in_err-again-clause-works g c =
-    let rows = c.args.meant.now.means.table.rows in
+    let rows = c.args.reading.now.means.table.rows in
     let r = c.unwrap.result.now in
     let is : slice_get rows c.loop-place.place ≡ Some r = sym c.row.ensures.row ∙ ap option_copied c.unwrap.ensures in
-    stopped_works g.P.Plant.tells c.args.labelling rows c.loop-place.place c.loop-place.failed.items (g.P.Plant.state c.args.plant.now) (g.P.Plant.state c.loop-place.plant) c.loop-place.invariant.going c.args.meant.now.mark c.requires.walk r is
+    stopped_works g.P.Plant.tells c.args.labelling rows c.loop-place.place c.loop-place.failed.items (g.P.Plant.state c.args.plant.now) (g.P.Plant.state c.loop-place.plant) c.loop-place.invariant.going c.args.reading.now.mark (λ told. read_walk (g.P.Plant.state c.args.plant.now) c.args.reading.now (c.requires.read told)) r is
     (sym c.is_duplex.ensures ∙ c.if-is_duplex.true) (g.P.Plant.state c.redo_pair.new.plant) c.redo_pair.ensures.works
 
 pub returns-in_err-again-clause-treats : goal.returns-in_err-again-clause-treats
 returns-in_err-again-clause-treats g c = λ told.
-    let rows = c.args.meant.now.means.table.rows in
+    let rows = c.args.reading.now.means.table.rows in
     let i = c.loop-place.place in
     let old = g.P.Plant.state c.args.plant.now in
     let r = c.unwrap.result.now in
@@ -85,7 +86,7 @@ returns-in_err-again-clause-treats g c = λ told.
     let going = c.loop-place.invariant.going in
     let keeps = c.len-place-end.ensures.rules.apart in
     treats_pair g.P.Plant.tells told c.args.labelling rows i r (walked old old.bytes) _ _ old cur (g.P.Plant.state c.redo_pair.new.plant) keeps is (apart_before rows i r keeps is) going.works c.redo_pair.ensures.works c.redo_pair.ensures.counts
-    (same_walk g.P.Plant.tells c.args.labelling rows i c.loop-place.failed.items old cur going c.args.meant.now.mark c.requires.walk told).items (c.loop-place.invariant.treats told) (c.redo_pair.ensures.treats told)
+    (same_walk g.P.Plant.tells c.args.labelling rows i c.loop-place.failed.items old cur going c.args.reading.now.mark (λ told. read_walk (g.P.Plant.state c.args.plant.now) c.args.reading.now (c.requires.read told)) told).items (c.loop-place.invariant.treats told) (c.redo_pair.ensures.treats told)
 
 pub returns-in_err-again-clause-late : goal.returns-in_err-again-clause-late
 returns-in_err-again-clause-late g c = λ told e is.
@@ -94,23 +95,23 @@ returns-in_err-again-clause-late g c = λ told e is.
     let fault = c.in_err-again.ensures.told told c.in_err-again.field-0.0 refl in
     let same : e ≡ Site c.in_err-again.field-0.0 = search rules in
     subst (λ (k : RecoverError). IsLate old k) (sym same)
-    (late_before g.P.Plant.tells c.args.labelling c.args.meant.now.means.table.rows c.loop-place.place c.loop-place.failed.items old cur c.loop-place.invariant.going c.args.meant.now.mark c.requires.walk told c.in_err-again.field-0.0 fault)
+    (late_before g.P.Plant.tells c.args.labelling c.args.reading.now.means.table.rows c.loop-place.place c.loop-place.failed.items old cur c.loop-place.invariant.going c.args.reading.now.mark (λ told. read_walk (g.P.Plant.state c.args.plant.now) c.args.reading.now (c.requires.read told)) told c.in_err-again.field-0.0 fault)
 
 pub loop-place-preserved : goal.loop-place-preserved
 loop-place-preserved g c =
     let old = g.P.Plant.state c.args.plant.now in
     let cur = g.P.Plant.state c.loop-place.plant in
-    let rows = c.args.meant.now.means.table.rows in
+    let rows = c.args.reading.now.means.table.rows in
     let i = c.loop-place.place in
     let going = c.loop-place.invariant.going in
     let r = c.unwrap.result.now in
     let is : slice_get rows i ≡ Some r = sym c.row.ensures.row ∙ ap option_copied c.unwrap.ensures in
     let keeps = c.len-place-end.ensures.rules.apart in
-    let same = λ (told : g.P.Plant.tells). (same_walk g.P.Plant.tells c.args.labelling rows i c.loop-place.failed.items old cur going c.args.meant.now.mark c.requires.walk told).items in
+    let same = λ (told : g.P.Plant.tells). (same_walk g.P.Plant.tells c.args.labelling rows i c.loop-place.failed.items old cur going c.args.reading.now.mark (λ told. read_walk (g.P.Plant.state c.args.plant.now) c.args.reading.now (c.requires.read told)) told).items in
     elim c.if-is_duplex.branch [
       | then-is_duplex+in_ok-again+then-has_failed w ↦
           let new = g.P.Plant.state w.redo_pair.new.plant in
-          let done = pair_going g.P.Plant.tells c.args.labelling rows i c.loop-place.failed.items old cur going c.args.meant.now.mark c.requires.walk r is (sym c.is_duplex.ensures ∙ w.if-is_duplex.true) new w.redo_pair.ensures.works
+          let done = pair_going g.P.Plant.tells c.args.labelling rows i c.loop-place.failed.items old cur going c.args.reading.now.mark (λ told. read_walk (g.P.Plant.state c.args.plant.now) c.args.reading.now (c.requires.read told)) r is (sym c.is_duplex.ensures ∙ w.if-is_duplex.true) new w.redo_pair.ensures.works
           true c.len-place-end.ensures.rules w.redo_pair.ensures.counts (subst (λ (h : Bool). FailsByCount h (cur.faults (Volume r.device)) (new.faults (Volume r.device))) w.if-has_failed.true w.in_ok-again.ensures.failed) (λ told flag. absurd cc) in
           let failed_is : c.if-is_duplex.failed.items ≡ c.loop-place.failed.items ++ r.device ∷ [] = (λ i. (w.failed-is i).items) ∙ w.push_reserved.ensures.items in
           record {
@@ -126,7 +127,7 @@ loop-place-preserved g c =
           }
       | then-is_duplex+in_ok-again+else-has_failed w ↦
           let new = g.P.Plant.state w.redo_pair.new.plant in
-          let done = pair_going g.P.Plant.tells c.args.labelling rows i c.loop-place.failed.items old cur going c.args.meant.now.mark c.requires.walk r is (sym c.is_duplex.ensures ∙ w.if-is_duplex.true) new w.redo_pair.ensures.works
+          let done = pair_going g.P.Plant.tells c.args.labelling rows i c.loop-place.failed.items old cur going c.args.reading.now.mark (λ told. read_walk (g.P.Plant.state c.args.plant.now) c.args.reading.now (c.requires.read told)) r is (sym c.is_duplex.ensures ∙ w.if-is_duplex.true) new w.redo_pair.ensures.works
           false c.len-place-end.ensures.rules w.redo_pair.ensures.counts (subst (λ (h : Bool). FailsByCount h (cur.faults (Volume r.device)) (new.faults (Volume r.device))) w.if-has_failed.false w.in_ok-again.ensures.failed) (λ told flag. w.in_ok-again.ensures.redone told w.if-has_failed.false) in
           let failed_is : c.if-is_duplex.failed.items ≡ c.loop-place.failed.items ++ [] = (λ i. (w.failed-is i).items) ∙ sym (append-nil c.loop-place.failed.items) in
           record {
@@ -169,14 +170,14 @@ returns-clause-fault g c = tells_none _ _ _ (λ (d : Device). Site (Fault d)) c.
 pub returns-clause-works : goal.returns-clause-works
 returns-clause-works g c =
     let old = g.P.Plant.state c.args.plant.now in
-    let rows = c.args.meant.now.means.table.rows in
+    let rows = c.args.reading.now.means.table.rows in
     let whole : take c.loop-place.place rows ≡ rows = take_all c.loop-place.place rows (omega (arith, c.len-place-end.ensures.count, c.loop-place-test.false)) in
     subst (λ (l : List PairRow). Works g.P.Plant.tells (Recovers l (walked old old.bytes)) old (g.P.Plant.state c.loop-place.plant)) whole c.loop-place.invariant.going.works
 
 pub returns-clause-failed : goal.returns-clause-failed
 returns-clause-failed g c =
     let old = g.P.Plant.state c.args.plant.now in
-    let rows = c.args.meant.now.means.table.rows in
+    let rows = c.args.reading.now.means.table.rows in
     let whole : take c.loop-place.place rows ≡ rows = take_all c.loop-place.place rows (omega (arith, c.len-place-end.ensures.count, c.loop-place-test.false)) in
     subst (λ (l : List ℕ). AreFaulty rows old.faults (g.P.Plant.state c.loop-place.plant).faults l) (sym c.of.ensures)
     (subst (λ (l : List PairRow). AreFaulty l old.faults (g.P.Plant.state c.loop-place.plant).faults c.loop-place.failed.items) whole
@@ -193,7 +194,7 @@ returns-in_err-again-clause-once g c =
 pub returns-clause-redone : goal.returns-clause-redone
 returns-clause-redone g c = λ told.
     let old = g.P.Plant.state c.args.plant.now in
-    let rows = c.args.meant.now.means.table.rows in
+    let rows = c.args.reading.now.means.table.rows in
     let whole : take c.loop-place.place rows ≡ rows = take_all c.loop-place.place rows (omega (arith, c.len-place-end.ensures.count, c.loop-place-test.false)) in
     subst (λ (l : List ℕ). Redone c.args.labelling rows (walked old old.bytes) l old (g.P.Plant.state c.loop-place.plant)) (sym c.of.ensures)
     (subst (λ (l : List PairRow). Redone c.args.labelling l (walked old old.bytes) c.loop-place.failed.items old (g.P.Plant.state c.loop-place.plant)) whole

@@ -9,10 +9,10 @@ use Rattle.xrecover.proofs.recovering.redo_pairs.Given as goal
 -- the pairs before are done, or their volumes failed, and the list has room for the others
 abbrev pub invariant-loop-place : goal.invariant-loop-place
 invariant-loop-place g l = record {
-  going : Going g.P.Plant.tells l.labelling (walked (g.P.Plant.state l.fn.plant) (g.P.Plant.state l.fn.plant).bytes) (take l.place l.meant.means.table.rows) l.failed.items (g.P.Plant.state l.fn.plant) (g.P.Plant.state l.plant);
-  treats : g.P.Plant.tells → TreatsLabels l.labelling l.meant.means.table.rows (walked (g.P.Plant.state l.fn.plant) (g.P.Plant.state l.fn.plant).bytes) (g.P.Plant.state l.fn.plant) (g.P.Plant.state l.plant);
+  going : Going g.P.Plant.tells l.labelling (walked (g.P.Plant.state l.fn.plant) (g.P.Plant.state l.fn.plant).bytes) (take l.place l.reading.means.table.rows) l.failed.items (g.P.Plant.state l.fn.plant) (g.P.Plant.state l.plant);
+  treats : g.P.Plant.tells → TreatsLabels l.labelling l.reading.means.table.rows (walked (g.P.Plant.state l.fn.plant) (g.P.Plant.state l.fn.plant).bytes) (g.P.Plant.state l.fn.plant) (g.P.Plant.state l.plant);
   counts : (d : Device) → IsExamined d → (g.P.Plant.state l.plant).faults d ≡ (g.P.Plant.state l.fn.plant).faults d;
   room : l.tools.body.room ≡ l.fn.tools.body.room;
   count : vec_len l.failed ≤ l.place;
-  places : length l.meant.means.table.rows ≤ vec_capacity l.failed;
+  places : length l.reading.means.table.rows ≤ vec_capacity l.failed;
 }
