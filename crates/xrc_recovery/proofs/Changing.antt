@@ -8,7 +8,7 @@ use Rattle.crash_plant.specs.declared.device.Device.{Device}
 use Rattle.crash_plant.specs.declared.device.Device.TheVariants.{Control, Volume}
 use Rattle.crash_plant.specs.Moments.{PlantState, on, IsDurable, Same, Stays}
 use Rattle.crash_plant.specs.Calls.{Elapses, Says, Silent, WorksOnConsole}
-use Rattle.crash_plant.specs.Choices.{AllFollow, Choice}
+use Rattle.crash_plant.specs.Choices.{AllFollow, AtNow, Choice}
 use Rattle.crash_plant.proofs.Choices.{part_still, past_choice}
 use Rattle.crash_plant.proofs.Steps.{elapses_trans, follows_then, none_lent_console, site_trans}
 use Rattle.pair_table.specs.declared.row.PairRow.{PairRow}
@@ -104,6 +104,12 @@ follow_then R tells a b c told later f o t from to z is = elim (cases_lt t b.clo
       let start = (o.devices told d).images t late to (z d) (is d (part_still b c d o.site part)) in
       subst (λ (l : List ℕ). b.images b.clock d l) (sym start.2) start.1)
 ]
+
+-- What is so of whatever a crash leaves stays so.
+pub now_then : (P : Choice → Type 0) (tells : Type 0) (b c : PlantState) → tells → AtNow P b → WorksOnConsole tells b c → AtNow P c
+now_then P tells b c told now o z is = now z (λ d part.
+    let start = (o.devices told d).images c.clock ((o.elapses told).kept d).later (omega arith) (z d) (is d (part_still b c d o.site part)) in
+    subst (λ (l : List ℕ). b.images b.clock d l) (sym start.2) start.1)
 
 labels_then : (tells : Type 0) (items : List Item) (a b c : PlantState) → tells → a.clock ≤ b.clock → ((v : ℕ) → LabelsLast v items (on a (Volume v)) (on b (Volume v))) → WorksOnConsole tells b c → (v : ℕ) → LabelsLast v items (on a (Volume v)) (on c (Volume v))
 labels_then tells items a b c told later last o v = last_before v items (on a (Volume v)) (on b (Volume v)) (on c (Volume v)) later (last v) ((o.elapses told).kept (Volume v)) (o.devices told (Volume v)).images (o.devices told (Volume v)).bytes

@@ -2,36 +2,35 @@
 use Rattle.std.proofs.Common.{◌≡◌, ◌≢◌, ◌≤◌, ◌+◌, ◌++◌, inl, inr, ℕ, List, [], Some, Result, Ok, Err, OnOk, IfErr, refl, sym, ◌∙◌, ap, subst, arith}
 use Rattle.xrc_edge.specs.Causes.{Rose}
 use Rattle.crash_plant.specs.declared.device.Device.{Device}
-use Rattle.crash_plant.specs.declared.device.Device.TheVariants.{Control, Volume}
+use Rattle.crash_plant.specs.declared.device.Device.TheVariants.{Control, State, Journal, Volume}
 use Rattle.crash_plant.specs.Moments.{PlantState}
-use Rattle.crash_plant.specs.Choices.{AllFollow}
+use Rattle.crash_plant.specs.Choices.{AllFollow, AtNow}
 use Rattle.pair_table.specs.declared.row.PairRow.{PairRow}
 use Rattle.site_means.specs.declared.means.Means.{Means}
-use Rattle.site_means.specs.declared.site_error.SiteError.TheVariants.{Fault, TooSmall as TooSmallError}
+use Rattle.site_means.specs.declared.site_error.SiteError.TheVariants.{NoSession, Damaged, Fault, TooSmall as TooSmallError, NoMemory}
 use Rattle.site_means.specs.Answers.{IsExamined, first_short, need}
 use Rattle.site_means.specs.Sight.{walked}
 use Rattle.xrecover.specs.declared.outcome.Outcome.{Outcome}
 use Rattle.xrecover.specs.declared.recover_error.RecoverError.{RecoverError}
-use Rattle.xrecover.specs.declared.recover_error.RecoverError.TheVariants.{Site}
-use Rattle.xrecover.specs.Answers.{IsRecoverable, IsGoodOrCalledFor}
-use Rattle.xrecover.specs.Answers as recovery
+use Rattle.xrecover.specs.declared.recover_error.RecoverError.TheVariants.{Site, Other}
+use Rattle.xrecover.specs.Answers.{IsRecoverable}
 use Rattle.xrecover.specs.Pairs.{AreFaulty}
 use Rattle.xrecover.specs.declared.labelling.Labelling.{Labelling}
 use Rattle.xrecover.specs.RedoneVolumes.{Redone, meant_rows}
-use Rattle.xrecover.specs.Sights.{IsSettled, SeesSame}
+use Rattle.xrecover.specs.Sights.{MeansAsRead, SeesSame, TellsLasting}
 use Rattle.xrecover.specs.Works.{Nothing, Works}
 use Rattle.xrecover.specs.Labels.{TreatsLabels}
 use Rattle.site_means.proofs.ReadAll.{reads_none}
 use Rattle.xrecover.proofs.Labels.{treats_read}
-use Rattle.xrecover.proofs.Seen.{sees_moments}
+use Rattle.xrecover.proofs.Seen.{reads_moments}
 use Rattle.xrc_status.specs.Saying.{SaysFront, SaysWhole}
 use Rattle.xrc_status.specs.declared.stop.Stop.{Stop}
 use Rattle.xrc_status.specs.declared.stop.Stop.TheVariants.{BadSite, ConsoleFault, VolumeFault}
 use Rattle.xrc_recovery.specs.Stops.{CallsFor, HasLines, HasRisen, StopsEarly, IsSite, stop_of}
 use Rattle.xrc_recovery.specs.Reports.{RedoesPairs, Reports, ReportsAll}
-use Rattle.xrc_recovery.specs.Recoveries.{RecoversMeant, RecoversSession, RedoesSession}
+use Rattle.xrc_recovery.specs.Recoveries.{StopLasts, RecoversMeant, RecoversSession, RedoesSession}
 use Rattle.xrc_recovery.specs.Texts.{recovered_text}
-use Rattle.xrc_recovery.proofs.Changing.{changes_of, changes_then, done_before, faulty_then, follow_then, has_failure, nothing_here, redone_then, says_after, treats_console, works_here}
+use Rattle.xrc_recovery.proofs.Changing.{changes_of, changes_then, done_before, faulty_then, follow_then, has_failure, nothing_here, now_then, redone_then, says_after, treats_console, works_here}
 use Rattle.xrc_recovery.proofs.Stopping.{calls_for, has_risen, is_early, not_console, not_site, not_volume, only_memory, rows_meant}
 
 -- ---- a site of other numbers
@@ -53,11 +52,24 @@ at_site tells labelling session a other = record {
   once = λ v. omega arith;
   changes = changes_of tells (RecoversMeant a) a a (works_here tells (meant_rows a a.bytes) (walked a a.bytes) a);
   labels = λ told. treats_read tells told labelling (meant_rows a a.bytes) (walked a a.bytes) a a (reads_none tells a);
-  moments = λ told settled. sees_moments tells told (meant_rows a a.bytes) a a (works_here tells (meant_rows a a.bytes) (walked a a.bytes) a) settled;
+  moments = λ told. reads_moments tells told a a (reads_none tells a);
+  lasts = λ told. tt;
   unwritten = λ early. nothing_here tells a;
 }
 
 -- ---- an error
+
+-- What an error tells its stop does.
+error_lasts : (tells : Type 0) (a b : PlantState) (e : RecoverError) → stop_of e ≢ VolumeFault → (let r : Result Outcome RecoverError = Err e in TellsLasting tells a b r) → StopLasts tells a b (stop_of e)
+error_lasts tells a b (Other name) none t = t
+error_lasts tells a b (Site NoSession) none t = t
+error_lasts tells a b (Site (Damaged d place)) none t = t
+error_lasts tells a b (Site (Fault Control)) none t = tt
+error_lasts tells a b (Site (Fault State)) none t = tt
+error_lasts tells a b (Site (Fault (Journal j))) none t = elim t [ inl still ↦ inl (changes_of tells Nothing a b still) | inr now ↦ inr now ]
+error_lasts tells a b (Site (Fault (Volume v))) none t = absurd (none refl)
+error_lasts tells a b (Site (TooSmallError d needed)) none t = tt
+error_lasts tells a b (Site NoMemory) none t = tt
 
 module _ (tells : Type 0) (labelling : Labelling) (session : List ℕ) (a b : PlantState) (e : RecoverError) (stop : Stop) (is : stop ≡ stop_of e) where
   pub at_error : IsSite a → RedoesSession tells labelling session a b (Err e) → RecoversSession tells labelling session a b (Err stop)
@@ -82,6 +94,7 @@ module _ (tells : Type 0) (labelling : Labelling) (session : List ℕ) (a b : Pl
         changes = changes_of tells (RecoversMeant a) a b k.works;
         labels = k.labels;
         moments = k.moments;
+        lasts = λ told. subst (λ (s : Stop). StopLasts tells a b s) (sym is) (error_lasts tells a b e (λ volume. not_volume a session good e (k.says told) volume) (k.lasts told));
         unwritten = λ early. k.unwritten e refl (is_early e (subst (λ (s : Stop). StopsEarly s) is early));
       }
 
@@ -98,7 +111,8 @@ pub record Told (tells : Type 0) (labelling : Labelling) (session : List ℕ) (a
   pub once : (v : ℕ) → b.faults (Volume v) ≤ a.faults (Volume v) + 1
   pub works : Works tells (RecoversMeant a) a b
   pub labels : tells → TreatsLabels labelling (meant_rows a a.bytes) (walked a a.bytes) a b
-  pub moments : tells → IsSettled a → AllFollow (SeesSame a) a b
+  pub moments : tells → AllFollow (SeesSame a) a b
+  pub lasts : tells → AtNow (MeansAsRead a) b
   pub ok : OnOk r (failed ≡ [])
   pub lines : IfErr r (λ stop. HasLines stop)
   pub volume : r ≡ Err VolumeFault → failed ≢ []
@@ -153,6 +167,10 @@ module _ (tells : Type 0) (labelling : Labelling) (session : List ℕ) (a b c : 
   lines_late stop (inl is) = λ early. subst (λ (s : Stop). StopsEarly s) is early
   lines_late stop (inr is) = λ early. subst (λ (s : Stop). StopsEarly s) is early
 
+  lines_last : (stop : Stop) → HasLines stop → AtNow (MeansAsRead a) c → StopLasts tells a c stop
+  lines_last stop (inl is) now = subst (λ (s : Stop). StopLasts tells a c s) (sym is) now
+  lines_last stop (inr is) now = subst (λ (s : Stop). StopLasts tells a c s) (sym is) now
+
   pub at_report : (r : Result (Unit {0}) Stop) → Told tells labelling session a b c means failed r → RecoversSession tells labelling session a c r
   at_report (Ok v) k = record {
     site = (λ bad. absurd cc, λ no. absurd (no k.site));
@@ -170,7 +188,8 @@ module _ (tells : Type 0) (labelling : Labelling) (session : List ℕ) (a b c : 
     once = λ v. omega (arith, k.once v, k.front.only.faults (Volume v));
     changes = changes_then tells (RecoversMeant a) a b c k.works k.front.only k.later;
     labels = λ told. treats_console labelling tells (meant_rows a a.bytes) (walked a a.bytes) a b c told ((k.works.elapses told).kept Control).later (k.labels told) k.front.only;
-    moments = λ told settled. follow_then (SeesSame a) tells a b c told ((k.works.elapses told).kept Control).later (k.moments told settled) k.front.only;
+    moments = λ told. follow_then (SeesSame a) tells a b c told ((k.works.elapses told).kept Control).later (k.moments told) k.front.only;
+    lasts = λ told. now_then (MeansAsRead a) tells b c told (k.lasts told) k.front.only;
     unwritten = tt;
   }
   at_report (Err stop) k = record {
@@ -189,6 +208,7 @@ module _ (tells : Type 0) (labelling : Labelling) (session : List ℕ) (a b c : 
     once = λ v. omega (arith, k.once v, k.front.only.faults (Volume v));
     changes = changes_then tells (RecoversMeant a) a b c k.works k.front.only k.later;
     labels = λ told. treats_console labelling tells (meant_rows a a.bytes) (walked a a.bytes) a b c told ((k.works.elapses told).kept Control).later (k.labels told) k.front.only;
-    moments = λ told settled. follow_then (SeesSame a) tells a b c told ((k.works.elapses told).kept Control).later (k.moments told settled) k.front.only;
+    moments = λ told. follow_then (SeesSame a) tells a b c told ((k.works.elapses told).kept Control).later (k.moments told) k.front.only;
+    lasts = λ told. lines_last stop k.lines (now_then (MeansAsRead a) tells b c told (k.lasts told) k.front.only);
     unwritten = λ early. absurd (lines_late stop k.lines early);
   }

@@ -1,18 +1,19 @@
 -- The status of a recovery, and the line that is said last.
-use Rattle.std.proofs.Common.{◌≡◌, ◌≢◌, ◌≤◌, ◌+◌, ◌++◌, inl, inr, ℕ, List, [], Ok, Err, IsTrue, length, take, refl, sym, ◌∙◌, ap, subst, arith, append_assoc, length-append}
+use Rattle.std.proofs.Common.{◌⊎◌, true, ◌≡◌, ◌≢◌, ◌≤◌, ◌+◌, ◌++◌, inl, inr, ℕ, List, [], Ok, Err, IsTrue, length, take, refl, sym, ◌∙◌, ap, subst, arith, append_assoc, length-append}
 use Rattle.std.proofs.lemmas.Bool.{cases_eq, cases_lt}
 use Rattle.std.proofs.lemmas.List.{take-append-le}
 use Rattle.std.proofs.Math.Seq.{take-append-add}
 use Rattle.xrc_edge.specs.Causes.{Rose}
 use Rattle.crash_plant.specs.declared.device.Device.{Device}
 use Rattle.crash_plant.specs.declared.device.Device.TheVariants.{Control, State, Journal, Volume}
+use Rattle.crash_plant.specs.Choices.{AtNow}
 use Rattle.crash_plant.specs.Moments.{PlantState}
 use Rattle.crash_plant.specs.Calls.{Elapses, NoneRose, Says, WorksOnConsole}
 use Rattle.site_means.specs.Answers.{need}
 use Rattle.site_means.specs.Sight.{walked}
 use Rattle.xrecover.specs.declared.labelling.Labelling.{Labelling}
 use Rattle.xrecover.specs.RedoneVolumes.{meant_rows}
-use Rattle.xrecover.specs.Sights.{SeesSame}
+use Rattle.xrecover.specs.Sights.{ChoosesAsRead, MeansAsRead, SeesSame}
 use Rattle.xrecover.specs.Works.{Nothing, Works}
 use Rattle.xrecover.proofs.Works.{rose_later}
 use Rattle.xrc_status.specs.declared.stop.Stop.{Stop}
@@ -20,10 +21,10 @@ use Rattle.xrc_status.specs.declared.stop.Stop.TheVariants.{NoMemory, BadWords, 
 use Rattle.xrc_status.specs.Saying.{SaidWhole, SaysLast}
 use Rattle.xrc_status.specs.Stops.{last_line, status_of}
 use Rattle.xrc_recovery.specs.Stops.{HasRisen, StopsEarly, fault_of}
-use Rattle.xrc_recovery.specs.Reports.{Reports, ReportsAll, report_of}
-use Rattle.xrc_recovery.specs.Recoveries.{RecoversMeant, RecoversSession}
-use Rattle.xrc_recovery.specs.Statuses.{EndsRecovery, EndsSo, ReportsThen, SaysThen, ends_recovery}
-use Rattle.xrc_recovery.proofs.Changing.{changes_more, changes_of, done_more, faulty_then, follow_then, redone_then, says_after, treats_console}
+use Rattle.xrc_recovery.specs.Reports.{Changes, Reports, ReportsAll, report_of}
+use Rattle.xrc_recovery.specs.Recoveries.{RecoversMeant, RecoversSession, StopLasts}
+use Rattle.xrc_recovery.specs.Statuses.{EndsRecovery, EndsSo, ReportsThen, SaysThen, ends_recovery, tells_meaning}
+use Rattle.xrc_recovery.proofs.Changing.{changes_more, changes_of, done_more, faulty_then, follow_then, now_then, redone_then, says_after, treats_console}
 
 -- ---- statuses of stops
 
@@ -136,6 +137,63 @@ is_early_stop VolumeFault three five thirteen = absurd (thirteen refl)
 is_early_stop (TooSmall d needed) three five thirteen = tt
 is_early_stop BadSite three five thirteen = tt
 is_early_stop Spent three five thirteen = tt
+
+-- ---- what lasts
+
+module _ (tells : Type 0) (old new : PlantState) where
+  meaning_lasts : (stop : Stop) → StopLasts tells old new stop → tells_meaning (status_of stop) ≡ true → AtNow (MeansAsRead old) new
+  meaning_lasts NoMemory last is = absurd cc
+  meaning_lasts BadWords last is = absurd cc
+  meaning_lasts ConsoleFault last is = last
+  meaning_lasts (BadLine n) last is = absurd cc
+  meaning_lasts (JournalFault j) last is = absurd cc
+  meaning_lasts ControlFault last is = absurd cc
+  meaning_lasts StateFault last is = absurd cc
+  meaning_lasts (BadHeader trace place) last is = absurd cc
+  meaning_lasts (HeaderFault trace) last is = absurd cc
+  meaning_lasts NoSession last is = last
+  meaning_lasts (OtherSession name) last is = absurd cc
+  meaning_lasts (Damaged d place) last is = last
+  meaning_lasts VolumeFault last is = last
+  meaning_lasts (TooSmall d needed) last is = absurd cc
+  meaning_lasts BadSite last is = absurd cc
+  meaning_lasts Spent last is = absurd cc
+
+  other_lasts : (stop : Stop) → StopLasts tells old new stop → status_of stop ≡ 11 → AtNow (ChoosesAsRead old) new
+  other_lasts NoMemory last is = absurd (omega (arith, is))
+  other_lasts BadWords last is = absurd (omega (arith, is))
+  other_lasts ConsoleFault last is = absurd (omega (arith, is))
+  other_lasts (BadLine n) last is = absurd (omega (arith, is))
+  other_lasts (JournalFault j) last is = absurd (omega (arith, is))
+  other_lasts ControlFault last is = absurd (omega (arith, is))
+  other_lasts StateFault last is = absurd (omega (arith, is))
+  other_lasts (BadHeader trace place) last is = absurd (omega (arith, is))
+  other_lasts (HeaderFault trace) last is = absurd (omega (arith, is))
+  other_lasts NoSession last is = absurd (omega (arith, is))
+  other_lasts (OtherSession name) last is = last
+  other_lasts (Damaged d place) last is = absurd (omega (arith, is))
+  other_lasts VolumeFault last is = absurd (omega (arith, is))
+  other_lasts (TooSmall d needed) last is = absurd (omega (arith, is))
+  other_lasts BadSite last is = absurd (omega (arith, is))
+  other_lasts Spent last is = absurd (omega (arith, is))
+
+  late_lasts : (stop : Stop) → StopLasts tells old new stop → status_of stop ≡ 5 → Changes tells Nothing old new ⊎ AtNow (MeansAsRead old) new
+  late_lasts NoMemory last is = absurd (omega (arith, is))
+  late_lasts BadWords last is = absurd (omega (arith, is))
+  late_lasts ConsoleFault last is = absurd (omega (arith, is))
+  late_lasts (BadLine n) last is = absurd (omega (arith, is))
+  late_lasts (JournalFault j) last is = last
+  late_lasts ControlFault last is = absurd (omega (arith, is))
+  late_lasts StateFault last is = absurd (omega (arith, is))
+  late_lasts (BadHeader trace place) last is = absurd (omega (arith, is))
+  late_lasts (HeaderFault trace) last is = absurd (omega (arith, is))
+  late_lasts NoSession last is = absurd (omega (arith, is))
+  late_lasts (OtherSession name) last is = absurd (omega (arith, is))
+  late_lasts (Damaged d place) last is = absurd (omega (arith, is))
+  late_lasts VolumeFault last is = absurd (omega (arith, is))
+  late_lasts (TooSmall d needed) last is = absurd (omega (arith, is))
+  late_lasts BadSite last is = absurd (omega (arith, is))
+  late_lasts Spent last is = absurd (omega (arith, is))
 
 -- ---- counts
 
@@ -295,6 +353,9 @@ ends_done tells labelling session a b v e = record {
   changes = e.changes;
   labels = e.labels;
   moments = e.moments;
+  lasts = λ told is. e.lasts told;
+  other = λ told is. absurd (omega (arith, is));
+  late = λ told is. absurd (omega (arith, is));
   unwritten = λ other. absurd (other refl);
 }
 
@@ -338,6 +399,12 @@ module _ (tells : Type 0) (labelling : Labelling) (session : List ℕ) (a b c : 
         once = λ v. omega (arith, e.once v, o.faults (Volume v));
         changes = changes_more tells (RecoversMeant a) a b c e.changes o last.later;
         labels = λ told. treats_console labelling tells (meant_rows a a.bytes) (walked a a.bytes) a b c told ((e.changes.elapses told).kept Control).later (e.labels told) o;
-        moments = λ told settled. follow_then (SeesSame a) tells a b c told ((e.changes.elapses told).kept Control).later (e.moments told settled) o;
+        moments = λ told. follow_then (SeesSame a) tells a b c told ((e.changes.elapses told).kept Control).later (e.moments told) o;
+        lasts = λ told is. now_then (MeansAsRead a) tells b c told (meaning_lasts tells a b stop (e.lasts told) is) o;
+        other = λ told is. now_then (ChoosesAsRead a) tells b c told (other_lasts tells a b stop (e.lasts told) is) o;
+        late = λ told is. elim (late_lasts tells a b stop (e.lasts told) is) [
+          | inl none ↦ inl (changes_more tells Nothing a b c none o last.later)
+          | inr now ↦ inr (now_then (MeansAsRead a) tells b c told now o)
+        ];
         unwritten = λ other three five thirteen. changes_more tells Nothing a b c (changes_of tells Nothing a b (e.unwritten (is_early_stop stop three five thirteen))) o last.later;
       }

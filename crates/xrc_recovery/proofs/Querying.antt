@@ -20,7 +20,7 @@ use Rattle.xrc_status.specs.Saying.{SaysLast, SaysText}
 use Rattle.xrc_status.specs.Stops.{last_line, status_of}
 use Rattle.xrc_recovery.specs.Stops.{HasRisen, IsSite, fault_of, stop_of}
 use Rattle.xrc_recovery.specs.Statuses.{EndsSo}
-use Rattle.xrc_recovery.specs.Queries.{CallsForQuery, EndsQuery, HasMeaning, QueriesSession, SaysReport, SaysReportWhole, ends_query, meaning_report}
+use Rattle.xrc_recovery.specs.Queries.{CallsForQuery, EndsQuery, HasMeaning, QueriesSession, SaysReport, ends_query, meaning_report}
 use Rattle.xrc_recovery.proofs.Changing.{changes_more, changes_of, changes_then, nothing_here, says_after}
 use Rattle.xrc_recovery.proofs.Stopping.{calls_for, has_risen, memory_or_small, not_console, not_site}
 use Rattle.xrc_recovery.proofs.Lasting.{console_calls, is_console, is_site, none_before, not_done, risen_still, says_last_alone}

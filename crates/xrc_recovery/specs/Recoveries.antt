@@ -1,10 +1,10 @@
 -- What a recovery has done where it is done or stopped.
-use Rattle.std.specs.Prelude.{◌≡◌, ◌≢◌, ◌≤◌, ◌+◌, ◌↔◌, ℕ, List, [], Some, Result, Err, OnOk, IfErr, IfOk, IsErrOf}
+use Rattle.std.specs.Prelude.{◌≡◌, ◌≢◌, ◌≤◌, ◌+◌, ◌↔◌, ◌⊎◌, ℕ, List, [], Some, Result, Ok, Err, OnOk, IfErr, IfOk, IsErrOf}
 use Rattle.crash_plant.specs.declared.device.Device.{Device}
 use Rattle.crash_plant.specs.declared.device.Device.TheVariants.{Volume}
 use Rattle.crash_plant.specs.Moments.{PlantState}
 use Rattle.crash_plant.specs.Calls.{NoneRose}
-use Rattle.crash_plant.specs.Choices.{AllFollow}
+use Rattle.crash_plant.specs.Choices.{AllFollow, AtNow}
 use Rattle.site_means.specs.Answers.{IsExamined, first_short, need}
 use Rattle.site_means.specs.Sight.{walked}
 use Rattle.site_means.specs.declared.site_error.SiteError.TheVariants.{Fault, TooSmall as TooSmallError}
@@ -15,17 +15,41 @@ use Rattle.xrecover.specs.declared.recover_error.RecoverError.TheVariants.{Site}
 use Rattle.xrecover.specs.Answers.{IsEarly, IsGoodOrCalledFor, IsRecoverable, TellsFaults}
 use Rattle.xrecover.specs.Pairs.{AreFaulty}
 use Rattle.xrecover.specs.RedoneVolumes.{Recovers, Redone, meant_rows}
-use Rattle.xrecover.specs.Sights.{IsSettled, SeesSame}
+use Rattle.xrecover.specs.Sights.{ChoosesAsRead, MeansAsRead, SeesSame, TellsLasting}
 use Rattle.xrecover.specs.Works.{Nothing, Works}
 use Rattle.xrecover.specs.Labels.{TreatsLabels}
 use Rattle.xrc_status.specs.declared.stop.Stop.{Stop}
-use Rattle.xrc_status.specs.declared.stop.Stop.TheVariants.{BadSite, ConsoleFault, NoMemory, TooSmall, VolumeFault}
+use Rattle.xrc_status.specs.declared.stop.Stop.TheVariants.{NoMemory, BadWords, ConsoleFault, BadLine, JournalFault, ControlFault, StateFault, BadHeader, HeaderFault, NoSession, OtherSession, Damaged, VolumeFault, TooSmall, BadSite, Spent}
 use Rattle.xrc_recovery.specs.Stops.{CallsFor, HasLines, HasRisen, StopsEarly, IsReady, IsSite, fault_of}
 use Rattle.xrc_recovery.specs.Reports.{Changes, Reports, ReportsAll}
 
 -- On the devices of duplex pairs only labels, and slots of tracks of which the walk has an item, may differ, and nothing elsewhere.
 abbrev pub RecoversMeant : PlantState → Device → List ℕ → List ℕ → Type 0
 RecoversMeant plant = Recovers (meant_rows plant plant.bytes) (walked plant plant.bytes)
+
+-- What a stop tells of the devices is so of whatever a crash leaves now. Behind a journal's fault nothing was written, or the rest is so.
+abbrev pub StopLasts : (tells : Type 0) → (old new : PlantState) → Stop → Type 0
+StopLasts tells old new NoSession = AtNow (MeansAsRead old) new
+StopLasts tells old new (OtherSession name) = AtNow (ChoosesAsRead old) new
+StopLasts tells old new (Damaged d place) = AtNow (MeansAsRead old) new
+StopLasts tells old new (JournalFault j) = Changes tells Nothing old new ⊎ AtNow (MeansAsRead old) new
+StopLasts tells old new VolumeFault = AtNow (MeansAsRead old) new
+StopLasts tells old new ConsoleFault = AtNow (MeansAsRead old) new
+StopLasts tells old new NoMemory = Unit {0}
+StopLasts tells old new ControlFault = Unit {0}
+StopLasts tells old new StateFault = Unit {0}
+StopLasts tells old new (TooSmall d needed) = Unit {0}
+StopLasts tells old new BadSite = Unit {0}
+StopLasts tells old new BadWords = Unit {0}
+StopLasts tells old new (BadLine n) = Unit {0}
+StopLasts tells old new (BadHeader trace place) = Unit {0}
+StopLasts tells old new (HeaderFault trace) = Unit {0}
+StopLasts tells old new Spent = Unit {0}
+
+-- Done, a crash leaves now what means what reads gave; or the stop's part lasts.
+abbrev pub ResultLasts : (tells : Type 0) → (old new : PlantState) → Result (Unit {0}) Stop → Type 0
+ResultLasts tells old new (Ok done) = AtNow (MeansAsRead old) new
+ResultLasts tells old new (Err stop) = StopLasts tells old new stop
 
 -- What a site's devices are once a session was redone, or was not.
 pub record RedoesSession (tells : Type 0) (labelling : Labelling) (session : List ℕ) (old new : PlantState) (result : Result Outcome RecoverError) : Type 0 where
@@ -37,7 +61,8 @@ pub record RedoesSession (tells : Type 0) (labelling : Labelling) (session : Lis
   pub redone : tells → IfOk result (λ o. Redone labelling (meant_rows old old.bytes) (walked old old.bytes) o.failed old new)
   pub works : Works tells (RecoversMeant old) old new
   pub labels : tells → TreatsLabels labelling (meant_rows old old.bytes) (walked old old.bytes) old new
-  pub moments : tells → IsSettled old → AllFollow (SeesSame old) old new
+  pub moments : tells → AllFollow (SeesSame old) old new
+  pub lasts : tells → TellsLasting tells old new result
   pub unwritten : (e : RecoverError) → IsErrOf result e → IsEarly e → Works tells Nothing old new
 
 -- What is so where a recovery of a session is done, or was stopped; one that leaves labels as they are is an advance.
@@ -64,7 +89,9 @@ pub record RecoversSession (tells : Type 0) (labelling : Labelling) (session : L
   -- At every moment only labels of duplex pairs' volumes, and slots of tracks of which the walk has an item, differ; a crash leaves what
   -- means the same, with the same tracks. Want of memory comes before anything is written, as most stops do.
   pub changes : Changes tells (RecoversMeant old) old new
-  pub moments : tells → IsSettled old → AllFollow (SeesSame old) old new
+  pub moments : tells → AllFollow (SeesSame old) old new
+  -- What is told lasts, so that a later recovery tells the same.
+  pub lasts : tells → ResultLasts tells old new result
   pub unwritten : IfErr result (λ stop. StopsEarly stop → Works tells Nothing old new)
   -- A label is written once the slots of its volume are redone and durable, and in the end a duplex pair's volume has the label that it
   -- had, or its primary's, but where its count rose. Or each label stays.

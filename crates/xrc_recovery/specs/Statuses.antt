@@ -5,12 +5,12 @@ use Rattle.crash_plant.specs.declared.device.Device.{Device}
 use Rattle.crash_plant.specs.declared.device.Device.TheVariants.{Volume}
 use Rattle.crash_plant.specs.Moments.{PlantState}
 use Rattle.crash_plant.specs.Calls.{NoneRose, Says, WorksOnConsole}
-use Rattle.crash_plant.specs.Choices.{AllFollow}
+use Rattle.crash_plant.specs.Choices.{AllFollow, AtNow}
 use Rattle.site_means.specs.Answers.{IsExamined, first_short, need}
 use Rattle.site_means.specs.Sight.{walked}
 use Rattle.xrecover.specs.declared.labelling.Labelling.{Labelling}
 use Rattle.xrecover.specs.RedoneVolumes.{Recovers, meant_rows}
-use Rattle.xrecover.specs.Sights.{IsSettled, SeesSame}
+use Rattle.xrecover.specs.Sights.{ChoosesAsRead, MeansAsRead, SeesSame}
 use Rattle.xrecover.specs.Works.{Nothing}
 use Rattle.xrecover.specs.Labels.{TreatsLabels}
 use Rattle.xrc_status.specs.declared.stop.Stop.{Stop}
@@ -58,6 +58,10 @@ pub record EndsBy (tells : Type 0) (calls_for : Stop → Type 0) (old new : Plan
 abbrev pub ends_recovery : (status : ℕ) → Bool
 ends_recovery status = status == 0 || status == 1 || status == 3 || status == 5 || status == 6 || status == 7 || status == 10 || status == 11 || status == 12 || status == 13 || status == 14 || status == 16
 
+-- whether a status tells what the devices mean, or why they mean nothing
+abbrev pub tells_meaning : (status : ℕ) → Bool
+tells_meaning status = status == 0 || status == 3 || status == 10 || status == 12 || status == 13
+
 -- What is so where a recovery of a session has ended with a status. One that leaves labels as they are is an advance.
 pub record EndsRecovery (tells : Type 0) (labelling : Labelling) (session : List ℕ) (old new : PlantState) (status : ℕ) : Type 0 where
   pub known : IsTrue (ends_recovery status)
@@ -82,7 +86,12 @@ pub record EndsRecovery (tells : Type 0) (labelling : Labelling) (session : List
   -- At every moment only labels of duplex pairs' volumes, and slots of tracks of which the walk has an item, differ; a crash leaves
   -- what means the same, with the same tracks. At most statuses nothing was written.
   pub changes : Changes tells (Recovers (meant_rows old old.bytes) (walked old old.bytes)) old new
-  pub moments : tells → IsSettled old → AllFollow (SeesSame old) old new
+  pub moments : tells → AllFollow (SeesSame old) old new
+  -- What a status tells of the devices is so of whatever a crash leaves now, so that a later recovery tells the same. At a journal's fault
+  -- nothing was written, or the rest is so.
+  pub lasts : tells → IsTrue (tells_meaning status) → AtNow (MeansAsRead old) new
+  pub other : tells → status ≡ 11 → AtNow (ChoosesAsRead old) new
+  pub late : tells → status ≡ 5 → Changes tells Nothing old new ⊎ AtNow (MeansAsRead old) new
   -- A recovery writes a label once the slots of its volume are redone and durable, and at each status a duplex pair's volume has the
   -- label that it had, or its primary's, but where its count rose. In an advance each label stays.
   pub labels : tells → TreatsLabels labelling (meant_rows old old.bytes) (walked old old.bytes) old new

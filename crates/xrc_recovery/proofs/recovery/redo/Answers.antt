@@ -1,6 +1,5 @@
 use Rattle.std.proofs.Common.{sym, subst}
 use Rattle.xrecover.specs.declared.labelling.Labelling.{Labelling}
-use Rattle.xrecover.specs.declared.labelling.Labelling.TheVariants.{AsPrimary, AsItIs}
 use Rattle.xrc_recovery.specs.Recoveries.{RedoesSession}
 use Rattle.xrc_recovery.proofs.recovery.redo.Goals as goal
 
@@ -17,6 +16,7 @@ returns-in-AsPrimary g c =
       works = e.works;
       labels = λ told. (e.labels told, e.named told);
       moments = e.moments;
+      lasts = e.lasts;
       unwritten = e.unwritten;
     })
 
@@ -33,5 +33,6 @@ returns-in-AsItIs g c =
       works = e.works;
       labels = e.labels;
       moments = e.moments;
+      lasts = e.lasts;
       unwritten = e.unwritten;
     })

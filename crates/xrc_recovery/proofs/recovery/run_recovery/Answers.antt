@@ -41,6 +41,7 @@ returns-in-Ok g c =
       works = redone.works;
       labels = redone.labels;
       moments = redone.moments;
+      lasts = redone.lasts;
       ok = c.report.ensures.ok;
       lines = c.report.ensures.lines;
       volume = c.report.ensures.volume;
