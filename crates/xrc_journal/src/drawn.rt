@@ -10,6 +10,14 @@ use byteorder::{BigEndian, ByteOrder};
 use std::alloc::Global;
 use std::collections::BTreeSet;
 
+/// The tracks that have an image among the items of a body so far. A body may have millions, in any order, so they are kept
+/// sorted. If there is no memory for one, the set is given up, and the items themselves are looked through from then on.
+#[derive(Drop)]
+pub(crate) struct DrawnTracks {
+    tracks: BTreeSet<(u16, u32)>,
+    given_up: bool,
+}
+
 /// The length of the item that the bytes begin with.
 fn first_length(bytes: &[u8]) -> usize
     requires { BeginsWithItem bytes.now }
@@ -49,14 +57,6 @@ fn has_image(body: &[u8], device: u16, track: u32) -> bool
         rest = behind;
     }
     false
-}
-
-/// The tracks that have an image among the items of a body so far. A body may have millions, in any order, so they are kept
-/// sorted. If there is no memory for one, the set is given up, and the items themselves are looked through from then on.
-#[derive(Drop)]
-pub(crate) struct DrawnTracks {
-    tracks: BTreeSet<(u16, u32)>,
-    given_up: bool,
 }
 
 impl DrawnTracks {
