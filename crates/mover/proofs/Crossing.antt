@@ -15,6 +15,7 @@ use Rattle.sidefile.specs.contracts.sidefile.Sidefile as Sidefile
 use Rattle.primary_ctl.specs.contracts.held.Held as Tracks
 use Rattle.primary_ctl.specs.contracts.primary.Primary as Primary
 use Rattle.fed_logs.specs.contracts.feed.Feed as Feed
+use Rattle.pending_queue.specs.contracts.formed.Formed as Formed
 use Rattle.turn_group.proofs.Crossing.{reader_send}
 use Rattle.mover.specs.contracts.reader.Reader as Reader
 
@@ -65,5 +66,8 @@ primary_send = search (head_send, track_send, tracks_send, sendable, crosses) de
 feed_send : IsSend Feed.the_row
 feed_send = search (side_send, primary_send, batch_send, sendable, crosses) depth 40
 
+group_send : IsSend Formed.the_row
+group_send = search (sendable, crosses) depth 40
+
 pub lane_reader_send : IsSend Reader.the_row
-lane_reader_send = search (feed_send, slot_send, reader_send, sendable, crosses) depth 40
+lane_reader_send = search (feed_send, slot_send, reader_send, group_send, sendable, crosses) depth 60

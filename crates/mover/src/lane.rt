@@ -3,6 +3,7 @@
 use crate::reader::Reader;
 use ckd_track::{Cause, Slot};
 use fed_logs::{Feed, Reading};
+use pending_queue::Formed;
 use primary_ctl::Primary;
 use sidefile::Sidefile;
 use std::alloc::Global;
@@ -42,12 +43,7 @@ impl<S> Lane<S> {
         ensures err { OnErr result (self.new ≡ self.old) }
     {
         let slot = Slot::make(alloc)?;
-        self.reader = Some(Reader {
-            feed: Feed::make(side, primary),
-            slot,
-            seat: None,
-            last: None,
-        });
+        self.reader = Some(Reader::new(Feed::make(side, primary), slot));
         Ok(())
     }
 
@@ -58,6 +54,41 @@ impl<S> Lane<S> {
         match &self.reader {
             Some(reader) => reader.broken(),
             None => None,
+        }
+    }
+
+    /// Takes the buffer of groups, where its reader keeps one.
+    pub(crate) fn take_spare(&mut self) -> Option<Formed>
+        ensures { self.new ≡ self.old }
+    {
+        match &mut self.reader {
+            Some(reader) => reader.take_spare(),
+            None => None,
+        }
+    }
+
+    /// Keeps a buffer of groups, if it has a reader.
+    pub(crate) fn keep_spare(&mut self, spare: Formed)
+        ensures { self.new ≡ self.old }
+    {
+        if let Some(reader) = &mut self.reader {
+            reader.keep_spare(spare);
+        }
+    }
+
+    /// Whether its reader's next part up to a limit takes nothing of its trace, and most likely copies nothing.
+    pub(crate) fn is_idle(&self, limit: Stamp) -> bool {
+        match &self.reader {
+            Some(reader) => reader.is_idle(limit),
+            None => true,
+        }
+    }
+
+    /// Whether its reader's next part is most likely brief.
+    pub(crate) fn is_brief(&self) -> bool {
+        match &self.reader {
+            Some(reader) => reader.is_brief(),
+            None => true,
         }
     }
 

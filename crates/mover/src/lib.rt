@@ -13,12 +13,14 @@ mod lane;
 mod laws;
 mod logging;
 mod moving;
+mod pace;
 mod reader;
 mod reading;
 mod round;
 mod seat_teller;
 mod seats;
 mod settling;
+mod spare;
 
 pub use borne::{begun_deeds_bear, done_deeds_stand, records_are_steps, seen_deeds_bear};
 pub use ends::{EpochEnd, RoundsEnd};

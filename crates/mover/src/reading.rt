@@ -1,6 +1,6 @@
 //! A reader's part of a round.
 
-ghost use Rattle.std.specs.Prelude.{◌≡◌, ◌≤◌, None, All};
+ghost use Rattle.std.specs.Prelude.{◌≡◌, ◌≤◌, ◌<◌, None, All};
 ghost use Rattle.pending_queue.specs.declared.room.Room.{Room as RoomIs};
 ghost use Rattle.fed_logs.specs.declared.reading.Reading.TheVariants as readings;
 ghost use Rattle.fed_logs.specs.Tellers.{IsToldBy, StandsAs, HasFaultBy};
@@ -19,7 +19,7 @@ use std::marker::{Brand, PhantomData};
 use std::sync::Wait;
 use std::thread;
 use std::thread::Threads;
-use tod_stamp::{MOST_CONTROLS, Stamp};
+use tod_stamp::Stamp;
 use turn_group::{ReaderSeat, TurnGroup};
 use xrc_edge::Source;
 
@@ -97,7 +97,7 @@ fn read_and_copy<W: Wait, S: Source, B: Sitting>(
     reading
 }
 
-/// Reads on and copies in the turns of a seat.
+/// Reads on and copies in the turns of a seat. Gives what became of it, the seat, and whether a track was wanted.
 fn read_with_seat<W: Wait, S: Source, B: Sitting>(
     rt: &W,
     alloc: Global,
@@ -107,7 +107,7 @@ fn read_with_seat<W: Wait, S: Source, B: Sitting>(
     feed: &mut Feed,
     slot: &mut Slot,
     limit: Stamp,
-) -> (Reading, ReaderSeat)
+) -> (Reading, ReaderSeat, bool)
     requires table { group.now ≡ B.table }
     requires sits { SitsAt B.table B.volumes seat }
     requires told { IsToldBy feed.old (teller_of B.volumes seat) }
@@ -125,11 +125,24 @@ fn read_with_seat<W: Wait, S: Source, B: Sitting>(
         rt,
         group,
         seat,
+        has_copied: false,
         sitting: PhantomData,
     };
     let reading = read_and_copy(&mut teller, alloc, source, feed, slot, limit);
-    let SeatTeller { seat, .. } = teller;
-    (reading, seat)
+    let SeatTeller {
+        seat,
+        has_copied,
+        ..
+    } = teller;
+    (reading, seat, has_copied)
+}
+
+/// How many bytes of its trace the last part took that took some: `before`, where nothing lies between the two places.
+fn taken(before: u64, from: u64, to: u64) -> u64 {
+    match to.saturating_sub(from) {
+        0 => before,
+        took => took,
+    }
 }
 
 /// A reader's part of a round: it joins until it is held, broken, or at the limit, and there it copies what is wanted.
@@ -153,7 +166,8 @@ fn read_part<W: Wait, S: Source>(
     let Some(seat) = reader.seat.take() else {
         return;
     };
-    let (reading, seat) = read_with_seat::<W, S, Brand>(
+    let from = reader.feed.place();
+    let (reading, seat, has_copied) = read_with_seat::<W, S, Brand>(
         rt,
         alloc,
         group,
@@ -165,6 +179,8 @@ fn read_part<W: Wait, S: Source>(
     );
     reader.seat = Some(seat);
     reader.last = Some(reading);
+    reader.took = taken(reader.took, from, reader.feed.place());
+    reader.has_copied = has_copied;
 }
 
 /// Passes the gate, where the reader hasn't passed it in this epoch.
@@ -196,8 +212,9 @@ fn read_lane<W: Wait, S: Source, G: Gate>(
     }
 }
 
-/// The readers' part of a round, side by side. Each lane passes the gate before its first part of an epoch. Then it joins what its trace has
-/// up to the limit, until there is no room, the trace breaks, or the limit is reached and no track is wanted there.
+/// The readers' parts of a round, side by side in at most so many threads. Each lane passes the gate before its first part of an epoch.
+/// Then it joins what its trace has up to the limit, until there is no room, the trace breaks, or the limit is reached and no track is
+/// wanted there.
 pub(crate) fn read_all<W: Threads + Wait + Sync, S: Source + Send, G: Gate + Sync>(
     rt: &W,
     alloc: Global,
@@ -205,15 +222,17 @@ pub(crate) fn read_all<W: Threads + Wait + Sync, S: Source + Send, G: Gate + Syn
     group: &TurnGroup,
     lanes: &mut [Lane<S>],
     limit: Stamp,
+    threads: usize,
 )
     requires may { All (MayLaneRead group.now limit.0) lanes.old }
+    requires threads { 0 < threads }
     ensures reads { AllLanesRead S.left S.faults group.now limit.0 lanes.old lanes.new }
     ensures ends { DidAllParts lanes.old lanes.new }
 {
     thread::for_each_mut(
         rt,
         lanes,
-        MOST_CONTROLS,
+        threads,
         &|_, lane| { read_lane(rt, alloc, gate, group, lane, limit) },
     );
 }

@@ -19,8 +19,10 @@ use crate::gate::Gate;
 use crate::lane::Lane;
 use crate::logging::is_unsettled;
 use crate::moving::move_once;
+use crate::pace::threads_for;
 use crate::reading::read_all;
 use crate::seats::{hand_back, hand_out};
+use crate::spare::{keep_formed, take_formed};
 use crash_plant::Plant;
 use fed_logs::Reading;
 use pair_table::PairTable;
@@ -33,7 +35,7 @@ use tod_stamp::Stamp;
 use turn_group::{MoverSeat, SeatList, TurnGroup};
 use xrc_edge::Source;
 
-/// One round: the readers beside the mover.
+/// One round: the readers beside the mover, or where their parts are worth no thread, before it.
 fn round<R: Threads + Wait + Sync, S: Source + Send, P: Plant, G: Gate + Sync>(
     rt: &R,
     alloc: Global,
@@ -55,11 +57,16 @@ fn round<R: Threads + Wait + Sync, S: Source + Send, P: Plant, G: Gate + Sync>(
     ensures cut { formed.new.cut ≡ seat.new.last }
     ensures room { formed.new.controls ≡ formed.old.controls }
 {
+    let threads = threads_for(lanes, limit);
+    if threads == 0 {
+        read_all(rt, alloc, gate, group, lanes, limit, 1);
+        return move_once(rt, group, seat, limit, formed, site, plant);
+    }
     let ((), moved) = join_mut(
         rt,
         &mut || -> ()
-            requires { IsSync R.row × All (MayLaneRead group.now limit.0) lanes.now }
-        { read_all(rt, alloc, gate, group, lanes, limit) },
+            requires { IsSync R.row × All (MayLaneRead group.now limit.0) lanes.now × (0 < threads) }
+        { read_all(rt, alloc, gate, group, lanes, limit, threads) },
         &mut || -> Result<(), StoreError>
             requires { (seat.now.table ≡ group.now.table) × MayMove P.tells limit.0 seat.now site.now (P.state plant.now) × (formed.now.controls ≡ length seat.now.known) }
         { move_once(rt, group, seat, limit, formed, site, plant) },
@@ -146,7 +153,7 @@ fn go_on<R: Threads + Wait + Sync, S: Source + Send, P: Plant, G: Gate + Sync>(
     unreachable!()
 }
 
-/// Rounds of readers that sit, until the limit is reached. It makes the buffer of groups.
+/// Rounds of readers that sit, until the limit is reached.
 fn go_on_seated<R: Threads + Wait + Sync, S: Source + Send, P: Plant, G: Gate + Sync>(
     rt: &R,
     alloc: Global,
@@ -167,10 +174,10 @@ fn go_on_seated<R: Threads + Wait + Sync, S: Source + Send, P: Plant, G: Gate + 
     ensures may { result ≡ ends.Reached → MayMove P.tells limit.0 seat.new site.new (P.state plant.new) }
     ensures reached { result ≡ ends.Reached → HasReached limit.0 lanes.new seat.new site.new }
 {
-    let Ok(mut formed) = Formed::make(alloc, lanes.len() as u16) else {
+    let Ok(mut formed) = take_formed(alloc, lanes) else {
         return RoundsEnd::NoMemory;
     };
-    go_on(
+    let end = go_on(
         rt,
         alloc,
         gate,
@@ -181,7 +188,9 @@ fn go_on_seated<R: Threads + Wait + Sync, S: Source + Send, P: Plant, G: Gate + 
         &mut formed,
         site,
         plant,
-    )
+    );
+    keep_formed(lanes, formed);
+    end
 }
 
 /// The work of an epoch, round by round: the readers join what their traces have up to the limit, and copy what is wanted, while the

@@ -37,6 +37,8 @@ pub(crate) struct SeatTeller<'a, W, B: Sitting> {
     pub(crate) rt: &'a W,
     pub(crate) group: &'a TurnGroup,
     pub(crate) seat: ReaderSeat,
+    /// Whether a wanted track was told.
+    pub(crate) has_copied: bool,
     pub(crate) sitting: PhantomData<B>,
     ghost table: { group.now ≡ B.table },
     ghost sits: { SitsAt B.table B.volumes seat },
@@ -56,6 +58,7 @@ impl<'a, W: Wait, B: Sitting> Teller for SeatTeller<'a, W, B> {
     }
 
     fn join_copy(&mut self, volume: u16, track: u32, at: Stamp, slot: &Slot) -> CopyJoin {
+        self.has_copied = true;
         self.group
             .join_copy(self.rt, &mut self.seat, volume, track, at, slot)
     }
