@@ -12,13 +12,13 @@ ghost use Rattle.site_store.specs.Waiting.{IsOfWaiting};
 
 use crate::Site;
 use crate::hits::either;
-use applier::{apply_all, give_back_all, lend_all};
+use applier::{apply_body, give_back_all, lend_all};
 use crash_plant::Plant;
 use std::thread::Threads;
 use xrc_journal::{Body, VolumeJob};
 
-/// Applies a body to the volumes for which it has items, side by side: they are lent, written, and given back in order of their
-/// numbers.
+/// Applies a body to the volumes for which it has items, side by side where it has many bytes: they are lent, written, and given
+/// back in order of their numbers.
 fn apply_jobs<R: Threads + Sync, P: Plant>(
     rt: &R,
     plant: &mut P,
@@ -39,7 +39,7 @@ fn apply_jobs<R: Threads + Sync, P: Plant>(
     ensures only { WorksOnLent P.tells (IsAmong due.now) (P.state plant.old) (P.state plant.new) }
 {
     lend_all(plant, jobs, due);
-    apply_all(rt, body, jobs);
+    apply_body(rt, body, jobs);
     give_back_all(plant, jobs);
 }
 

@@ -12,6 +12,7 @@ ghost use Rattle.site_store.specs.Standing.{FitsPlant, HasLengths, SiteStands, n
 use crate::starting::{FIRST, shut_all};
 use crate::writing::put_mark;
 use crate::{Site, StoreError};
+use applier::SyncPace;
 use control_set::Mark;
 use crash_plant::Plant;
 use pair_table::{Level, PairTable};
@@ -86,6 +87,7 @@ fn made<V: Drop>(
         due: vec![in alloc; false; usize::from(volumes)]?,
         jobs: jobs(alloc, volumes)?,
         written: vec![in alloc; false; usize::from(volumes)]?,
+        pace: SyncPace::new(),
     })
 }
 

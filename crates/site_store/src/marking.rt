@@ -17,7 +17,7 @@ ghost use Rattle.site_store.specs.Standing.{Leaves, StandsFast, none_excepted};
 
 use crate::hits::{hits_at, is_any_hit, take_hits};
 use crate::placement::MOST;
-use crate::syncing::{sync_in_turn, sync_side_by_side};
+use crate::syncing::{sync_in_turn, sync_written};
 use crate::writing::put_mark;
 use crate::{Site, StoreError};
 use control_set::Mark;
@@ -178,9 +178,9 @@ impl<V> Site<V> {
     }
 
     /// Makes a mark at the spot of the next record. First the volumes that were written since the last mark and haven't failed are
-    /// synced side by side; then the other slot of the state is written, and then the mark. Its rows are those of the table, in
-    /// which each volume that has failed by then has its row suspended since the site's time, and under level SESSION every other
-    /// row with it.
+    /// synced, side by side unless syncs are quick; then the other slot of the state is written, and then the mark. Its rows are those
+    /// of the table, in which each volume that has failed by then has its row suspended since the site's time, and under level SESSION
+    /// every other row with it.
     ///
     /// `Spent` comes exactly where the mark's number would be 2^64 - 1; nothing is called then. A `Fault` names the state or the
     /// control. After an error the site may not be used again.
@@ -202,7 +202,7 @@ impl<V> Site<V> {
         if self.mark.number == MOST {
             return Err(StoreError::Spent);
         }
-        sync_side_by_side(rt, plant, &mut self.jobs, &self.written);
+        sync_written(rt, plant, &mut self.pace, &mut self.jobs, &self.written);
         let level = self.level;
         self.mark_table(plant, ended, level)
     }

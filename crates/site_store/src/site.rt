@@ -2,6 +2,7 @@
 
 ghost use Rattle.std.specs.Prelude.{◌≡◌, false};
 
+use applier::SyncPace;
 use control_set::Mark;
 use pair_table::{Level, PairTable};
 use std::marker::Model;
@@ -35,6 +36,8 @@ pub struct Site<V> {
     pub(crate) jobs: Vec<VolumeJob<V>>,
     /// Of each volume, whether it was written since the mark.
     pub(crate) written: Vec<bool>,
+    /// Whether syncs are quick, as the last marks found.
+    pub(crate) pace: SyncPace,
 }
 
 impl<V> Model for Site<V> {

@@ -9,15 +9,17 @@ ghost use Rattle.site_store.specs.Jobs.{are_home_from};
 ghost use Rattle.site_store.specs.Marking.{IsAmong, Syncs};
 ghost use Rattle.site_store.specs.Syncing.{AreSynced, JobFailsAlone, JobsFail};
 
-use applier::{give_back_all, lend_all, sync_all};
+use applier::{SyncPace, give_back_all, lend_all, sync_some};
 use crash_plant::{Device, Plant};
 use std::thread::Threads;
 use xrc_journal::VolumeJob;
 
-/// Syncs each volume that was written and whose job hasn't failed, side by side. If a sync fails, the job is marked failed.
-pub(crate) fn sync_side_by_side<R: Threads + Sync, P: Plant>(
+/// Syncs each volume that was written and whose job hasn't failed, side by side unless syncs are quick. If a sync fails, the job is
+/// marked failed.
+pub(crate) fn sync_written<R: Threads + Sync, P: Plant>(
     rt: &R,
     plant: &mut P,
+    pace: &mut SyncPace,
     jobs: &mut [VolumeJob<P::Volume>],
     written: &[bool],
 )
@@ -33,7 +35,7 @@ pub(crate) fn sync_side_by_side<R: Threads + Sync, P: Plant>(
     ensures only { WorksOnLent P.tells (IsAmong written.now) (P.state plant.old) (P.state plant.new) }
 {
     lend_all(plant, jobs, written);
-    sync_all(rt, jobs);
+    sync_some(rt, pace, jobs);
     give_back_all(plant, jobs);
 }
 

@@ -18,8 +18,8 @@ lend_all-requires-clause-apart g c κs within i j d less lt same = omega (arith,
 pub lend_all-requires-clause-idle : goal.lend_all-requires-clause-idle
 lend_all-requires-clause-idle g c κs within k d lt = (home_at 0 c.args.jobs.now c.requires.jobs k d lt).idle
 
-pub apply_all-requires-after_bounds : goal.apply_all-requires-after_bounds
-apply_all-requires-after_bounds g c κs within =
+pub apply_body-requires-after_bounds : goal.apply_body-requires-after_bounds
+apply_body-requires-after_bounds g c κs within =
     let tells = g.P.Plant.tells in
     let own = g.P.Volume.Disk.tells in
     let state = g.P.Volume.Disk.state in
@@ -37,8 +37,8 @@ give_back_all-requires-clause-out g c κs within =
     let mid = g.P.Plant.state c.lend_all.new.plant in
     let old = c.args.jobs.now in
     let lent = c.lend_all.new.jobs in
-    let given = c.apply_all.new.jobs in
-    (c.args.plant.now, lent, worked_on tells own state start mid lent lent given c.lend_all.ensures.out (applied_worked state own c.args.body.now.items lent given c.apply_all.ensures.same c.apply_all.ensures.each))
+    let given = c.apply_body.new.jobs in
+    (c.args.plant.now, lent, worked_on tells own state start mid lent lent given c.lend_all.ensures.out (applied_worked state own c.args.body.now.items lent given c.apply_body.ensures.same c.apply_body.ensures.each))
 
 pub returns : goal.returns
 returns g c =
@@ -49,12 +49,12 @@ returns g c =
     let mid = g.P.Plant.state c.lend_all.new.plant in
     let old = c.args.jobs.now in
     let lent = c.lend_all.new.jobs in
-    let given = c.apply_all.new.jobs in
+    let given = c.apply_body.new.jobs in
     let end = g.P.Plant.state c.give_back_all.new.plant in
     let wanted = c.args.due.now in
     let items = c.args.body.now.items in
-    let each = λ (i : ℕ) (d : VolumeJob _) (lt : i < length lent). c.apply_all.ensures.each i d lt in
-    let worked = applied_worked state own items lent given c.apply_all.ensures.same each in
+    let each = λ (i : ℕ) (d : VolumeJob _) (lt : i < length lent). c.apply_body.ensures.each i d lt in
+    let worked = applied_worked state own items lent given c.apply_body.ensures.same each in
     let out = worked_on tells own state start mid lent lent given c.lend_all.ensures.out worked in
     let is = c.give_back_all.ensures.jobs in
     let s : Sides tells own state start mid end old lent given wanted = record {

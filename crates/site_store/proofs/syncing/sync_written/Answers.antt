@@ -6,7 +6,7 @@ use Rattle.site_store.specs.Causes.{FailByCounts}
 use Rattle.site_store.specs.Jobs.{are_home_from, has_job_failed}
 use Rattle.site_store.proofs.LentJobs.{home_at}
 use Rattle.site_store.proofs.LentSides.{Sides, flag_there, home_again, only_wanted, syncs_durable, syncs_fail, syncs_read}
-use Rattle.site_store.proofs.syncing.sync_side_by_side.Goals as goal
+use Rattle.site_store.proofs.syncing.sync_written.Goals as goal
 
 pub lend_all-requires-clause-there : goal.lend_all-requires-clause-there
 lend_all-requires-clause-there g c κs within k d lt = omega (arith, (home_at 0 c.args.jobs.now c.requires.jobs k d lt).device, c.requires.volumes)
@@ -26,8 +26,8 @@ give_back_all-requires-clause-out g c κs within =
     let mid = g.P.Plant.state c.lend_all.new.plant in
     let old = c.args.jobs.now in
     let lent = c.lend_all.new.jobs in
-    let given = c.sync_all.new.jobs in
-    (c.args.plant.now, lent, worked_on tells own state start mid lent lent given c.lend_all.ensures.out (synced_worked state own lent given c.sync_all.ensures.same c.sync_all.ensures.each))
+    let given = c.sync_some.new.jobs in
+    (c.args.plant.now, lent, worked_on tells own state start mid lent lent given c.lend_all.ensures.out (synced_worked state own lent given c.sync_some.ensures.same c.sync_some.ensures.each))
 
 pub returns : goal.returns
 returns g c =
@@ -38,11 +38,11 @@ returns g c =
     let mid = g.P.Plant.state c.lend_all.new.plant in
     let old = c.args.jobs.now in
     let lent = c.lend_all.new.jobs in
-    let given = c.sync_all.new.jobs in
+    let given = c.sync_some.new.jobs in
     let end = g.P.Plant.state c.give_back_all.new.plant in
     let wanted = c.args.written.now in
-    let each = λ (i : ℕ) (d : VolumeJob _) (lt : i < length lent). c.sync_all.ensures.each i d lt in
-    let worked = synced_worked state own lent given c.sync_all.ensures.same each in
+    let each = λ (i : ℕ) (d : VolumeJob _) (lt : i < length lent). c.sync_some.ensures.each i d lt in
+    let worked = synced_worked state own lent given c.sync_some.ensures.same each in
     let out = worked_on tells own state start mid lent lent given c.lend_all.ensures.out worked in
     let is = c.give_back_all.ensures.jobs in
     let s : Sides tells own state start mid end old lent given wanted = record {

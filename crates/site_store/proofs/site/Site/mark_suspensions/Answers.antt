@@ -1,17 +1,34 @@
-use Rattle.std.proofs.Common.{◌≡◌, Bool, List, length, map, sym, ap, subst, ◌∙◌, arith}
+use Rattle.std.proofs.Common.{◌≡◌, Bool, List, length, map, IsTrue, sym, ap, subst, ◌∙◌, arith}
 use Rattle.std.specs.Vec.{with_items}
 use Rattle.std.proofs.lemmas.List.{length-map, with_items_is}
 use Rattle.crash_plant.specs.Calls.{WorksOn}
 use Rattle.crash_plant.proofs.Steps.{none_lent_then}
 use Rattle.xrc_journal.specs.declared.job.VolumeJob.{VolumeJob}
 use Rattle.site_store.specs.Causes.{FailByCounts}
-use Rattle.site_store.specs.Jobs.{has_job_failed}
+use Rattle.site_store.specs.Jobs.{are_home_from, has_job_failed}
 use Rattle.site_store.specs.Marking.{IsAmong, MakesMark, MayPutMark, rows_at_mark}
 use Rattle.site_store.specs.Sites.{SiteState}
 use Rattle.site_store.specs.Standing.{Leaves, none_excepted}
 use Rattle.site_store.proofs.RecordPuts.{on_ok}
 use Rattle.site_store.proofs.SyncedSites.{cause_behind, durable_as, fails_behind, leaves_behind, makes_behind, mark_works, may_put, none_waits, synced_as}
 use Rattle.site_store.proofs.site.Site.mark_suspensions.Goals as goal
+
+pub invariant_of-self : goal.invariant_of-self
+invariant_of-self g c =
+    let inside = c.self.inside in
+    let are = c.sync_in_turn.new.jobs in
+    let now = (with_items inside.jobs are).items in
+    let size : length are ≡ inside.jobs.len = omega (arith, c.sync_in_turn.ensures.failed.size, length-map are has_job_failed, length-map c.deref_mut.result.now has_job_failed, ap length c.deref_mut.ensures.value, inside.jobs.ok.0) in
+    let kept : are ≡ now = sym (with_items_is inside.jobs are size) in
+    let all = c.self.invariant in
+    record {
+      room_is = all.room_is;
+      marked_is = all.marked_is;
+      told_is = all.told_is;
+      home = subst (λ (l : List (VolumeJob _)). IsTrue (are_home_from 0 l)) kept c.sync_in_turn.ensures.jobs;
+      flags = omega (arith, all.flags, size, ap length kept, inside.jobs.ok.0);
+      due_is = all.due_is;
+    }
 
 pub mark_table-requires-clause-may : goal.mark_table-requires-clause-may
 mark_table-requires-clause-may g c κs within =

@@ -23,6 +23,23 @@ use Rattle.site_store.proofs.MarkRows.{hits_alone, hits_have, kept_good}
 use Rattle.site_store.proofs.SyncedSites.{cause_behind, durable_as, fails_behind, leaves_behind, makes_behind, mark_works, may_put, none_waits, synced_as}
 use Rattle.site_store.proofs.site.Site.mark_told.Goals as goal
 
+pub invariant_of-self : goal.invariant_of-self
+invariant_of-self g c =
+    let inside = c.self.inside in
+    let are = c.sync_in_turn.new.jobs in
+    let now = (with_items inside.jobs are).items in
+    let size : length are ≡ inside.jobs.len = omega (arith, c.sync_in_turn.ensures.failed.size, length-map are has_job_failed, length-map c.deref_mut.result.now has_job_failed, ap length c.deref_mut.ensures.value, inside.jobs.ok.0) in
+    let kept : are ≡ now = sym (with_items_is inside.jobs are size) in
+    let all = c.self.invariant in
+    record {
+      room_is = all.room_is;
+      marked_is = all.marked_is;
+      told_is = all.told_is;
+      home = subst (λ (l : List (VolumeJob _)). IsTrue (are_home_from 0 l)) kept c.sync_in_turn.ensures.jobs;
+      flags = omega (arith, all.flags, size, ap length kept, inside.jobs.ok.0);
+      due_is = all.due_is;
+    }
+
 pub put_rows-requires-clause-may : goal.put_rows-requires-clause-may
 put_rows-requires-clause-may g c κs within =
     let tells = g.P.Plant.tells in
