@@ -16,13 +16,14 @@ ghost use Rattle.site_means.specs.Answers.{FaultsAreCounted, HasSpot, IsChosen, 
 
 use crate::lengths::{first_short, longest_body, need};
 use crate::reading::{FirstRead, SiteReading, settle};
-use crate::walking::{Buffers, Walking};
+use crate::walking::Walking;
 use crate::{Means, SiteError};
 use control_set::{ChooseError, Mark, choose};
 use crash_plant::{Device, Plant};
 use pair_table::{Level, PairTable};
 use state_set::{StateError, get};
 use std::alloc::Global;
+use xrc_journal::Body;
 
 /// That the control, the state and each journal have the bytes that they need, before any of them is
 /// read. The first that has fewer is answered TooSmall, with its need.
@@ -156,9 +157,9 @@ fn read_journals<P: Plant>(
     ensures cause { FaultsAreCounted (P.state plant.old).faults (P.state plant.new).faults result }
     ensures others { ReadsAll P.tells (P.state plant.old) (P.state plant.new) }
 {
-    let mut buffers = Buffers::make(alloc, longest_body(plant))?;
+    let mut body = Body::make(alloc, longest_body(plant))?;
     let mut walking = Walking::begin(alloc, mark, table)?;
-    match walking.finish(alloc, plant, &mut buffers, first) {
+    match walking.finish(alloc, plant, &mut body, first) {
         Ok(()) => Ok(walking.reading(mark, level)),
         Err(error) => Err(error),
     }

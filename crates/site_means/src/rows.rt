@@ -9,7 +9,6 @@ ghost use Rattle.xrc_journal.specs.Views.{told};
 ghost use Rattle.site_means.specs.Walk.{fits_rows, rows_by};
 ghost use Rattle.site_means.specs.Steps.{TakesRows};
 
-use ckd_track::Slot;
 use pair_table::{PairRow, PairTable};
 use std::alloc::Global;
 use xrc_edge::NoMemory;
@@ -53,12 +52,11 @@ fn take_item(
 }
 
 /// Changes the table by the items of a body, up to the first that doesn't fit the rows, and gives how many bytes stand before
-/// that one. The slot is for reading images.
+/// that one.
 pub(crate) fn take_rows(
     alloc: Global,
     volumes: u16,
     table: &mut PairTable,
-    slot: &mut Slot,
     body: &Body,
 ) -> Result<Option<usize>, NoMemory>
     ensures items { AreItems anywhere body.now.items }
@@ -66,7 +64,7 @@ pub(crate) fn take_rows(
 {
     let bytes = body.bytes();
     let mut at = 0;
-    while let Some((item, length)) = first_item(slot, &bytes[at..]) {
+    while let Some((item, length)) = first_item(&bytes[at..]) {
         if !take_item(alloc, volumes, table, item)? {
             return Ok(Some(at));
         }

@@ -18,7 +18,6 @@ ghost use Rattle.site_means.specs.Steps.{AreDurable, BeginsAt, HasEnteredOne, Ho
 use crate::reading::{FirstRead, SiteReading, settle};
 use crate::rows::take_rows;
 use crate::{Means, SiteError};
-use ckd_track::Slot;
 use control_set::Mark;
 use crash_plant::{Device, FRONT, Plant, Spot};
 use pair_table::{Level, PairTable};
@@ -38,24 +37,6 @@ pub(crate) struct Walking {
     pub(crate) last: Stamp,
     /// The time of the last group, or of the mark.
     pub(crate) time: Stamp,
-}
-
-/// What records are read into.
-#[derive(Drop)]
-pub(crate) struct Buffers {
-    body: Body,
-    slot: Slot,
-}
-
-impl Buffers {
-    /// Buffers for records whose bodies have at most that many bytes.
-    pub(crate) fn make(alloc: Global, longest: u32) -> Result<Buffers, NoMemory>
-        ensures { IfOk result (λ buffers. buffers.body.room ≡ longest) }
-    {
-        let body = Body::make(alloc, longest)?;
-        let slot = Slot::make(alloc)?;
-        Ok(Buffers { body, slot })
-    }
 }
 
 /// The damage at a place of a journal.
@@ -112,20 +93,13 @@ impl Walking {
         &mut self,
         alloc: Global,
         volumes: u16,
-        buffers: &mut Buffers,
+        body: &Body,
     ) -> Result<Option<u64>, NoMemory>
-        ensures rows { IsTrue (are_below volumes self.old.table.rows) → HavePlaces self.old.at buffers.old.body.items → IfOk result (λ bad. TakesRows volumes (body_place self.old.at) buffers.old.body.items bad self.old.table self.new.table) }
+        ensures rows { IsTrue (are_below volumes self.old.table.rows) → HavePlaces self.old.at body.now.items → IfOk result (λ bad. TakesRows volumes (body_place self.old.at) body.now.items bad self.old.table self.new.table) }
         ensures below { IsTrue (are_below volumes self.old.table.rows) → IfOk result (λ bad. bad ≡ None → IsTrue (are_below volumes self.new.table.rows)) }
         ensures rest { self.new ≡ record self.old { table = self.new.table } }
-        ensures body { buffers.new.body ≡ buffers.old.body }
     {
-        match take_rows(
-            alloc,
-            volumes,
-            &mut self.table,
-            &mut buffers.slot,
-            &buffers.body,
-        )? {
+        match take_rows(alloc, volumes, &mut self.table, body)? {
             None => Ok(None),
             Some(offset) => Ok(Some(
                 self.at
@@ -141,21 +115,20 @@ impl Walking {
         &mut self,
         alloc: Global,
         volumes: u16,
-        buffers: &mut Buffers,
+        body: &Body,
         time: Stamp,
         after: Spot,
     ) -> Result<bool, SiteError>
         requires below { IsTrue (are_below volumes self.old.table.rows) }
         requires same_set { after.set ≡ self.old.at.set }
         requires here { has_entered self.old.at.set self.old.entered.items ≡ true }
-        ensures passes { HavePlaces self.old.at buffers.old.body.items
-            → AnswersStep (group_step (standing_of self.old) time.0 buffers.old.body.items after (first_unfit volumes (body_place self.old.at) self.old.table.rows buffers.old.body.items)) self.old self.new result }
+        ensures passes { HavePlaces self.old.at body.now.items
+            → AnswersStep (group_step (standing_of self.old) time.0 body.now.items after (first_unfit volumes (body_place self.old.at) self.old.table.rows body.now.items)) self.old self.new result }
         ensures behind { OnOk result (StandsBehind after self.new.table.rows self.new) }
         ensures below { OnOk result (IsTrue (are_below volumes self.new.table.rows)) }
         ensures others { OnlyDamage result }
-        ensures body { buffers.new.body ≡ buffers.old.body }
     {
-        match self.take_rows(alloc, volumes, buffers) {
+        match self.take_rows(alloc, volumes, body) {
             Ok(None) => {
                 self.time = time;
                 self.move_on(time, after);
@@ -167,19 +140,12 @@ impl Walking {
     }
 
     /// The first place at which a record breaks a rule, where an item at this place does, and the items before it were read.
-    fn break_at(
-        &mut self,
-        alloc: Global,
-        volumes: u16,
-        buffers: &mut Buffers,
-        place: u64,
-    ) -> SiteError
-        ensures passes { IsTrue (are_below volumes self.old.table.rows) → HavePlaces self.old.at buffers.old.body.items
-            → AnswersStep (Breaks (unwrap_or (first_unfit volumes (body_place self.old.at) self.old.table.rows buffers.old.body.items) place)) self.old self.new (Err result) }
+    fn break_at(&mut self, alloc: Global, volumes: u16, body: &Body, place: u64) -> SiteError
+        ensures passes { IsTrue (are_below volumes self.old.table.rows) → HavePlaces self.old.at body.now.items
+            → AnswersStep (Breaks (unwrap_or (first_unfit volumes (body_place self.old.at) self.old.table.rows body.now.items) place)) self.old self.new (Err result) }
         ensures others { IsDamage result }
-        ensures body { buffers.new.body ≡ buffers.old.body }
     {
-        match self.take_rows(alloc, volumes, buffers) {
+        match self.take_rows(alloc, volumes, body) {
             Ok(None) => damaged(self.at.set, place),
             Ok(Some(before)) => damaged(self.at.set, before),
             Err(NoMemory) => SiteError::NoMemory,
@@ -191,15 +157,15 @@ impl Walking {
         &mut self,
         alloc: Global,
         plant: &mut P,
-        buffers: &mut Buffers,
+        body: &mut Body,
     ) -> Result<bool, SiteError>
         requires home { NoneLent (P.state plant.old) }
-        requires room { HoldsEveryBody (P.state plant.old) buffers.old.body.room }
+        requires room { HoldsEveryBody (P.state plant.old) body.old.room }
         requires stands { WalkStands (P.state plant.old) self.old }
         ensures passes { P.tells → AnswersStep (step (shape_of (P.state plant.old)) (P.state plant.old).bytes (standing_of self.old)) self.old self.new result }
         ensures forth { IfOk result (λ more. more ≡ true → self.old.at.number < self.new.at.number) }
         ensures stands { OnOk result (WalkStands (P.state plant.new) self.new) }
-        ensures room { buffers.new.body.room ≡ buffers.old.body.room }
+        ensures room { body.new.room ≡ body.old.room }
         ensures short { (d : AnyDevice) (needed : ℕ) → ¬ IsErrOf result (TooSmall d needed) }
         ensures examined { (d : AnyDevice) → IsErrOf result (Fault d) → IsExamined d }
         ensures fails { FaultsAreCounted (P.state plant.old).faults (P.state plant.new).faults result }
@@ -207,15 +173,13 @@ impl Walking {
     {
         let at = self.at;
         let volumes = plant.volumes();
-        match walk(plant, at, self.last, &mut buffers.body) {
+        match walk(plant, at, self.last, body) {
             Ok(Walked::End) => Ok(false),
             Ok(Walked::Group { time, after }) => {
-                self.pass_group(alloc, volumes, buffers, time, after)
+                self.pass_group(alloc, volumes, body, time, after)
             }
             Ok(Walked::Switch { time, after }) => self.enter(time, after),
-            Err(WalkError::Damaged(_, place)) => {
-                Err(self.break_at(alloc, volumes, buffers, place))
-            }
+            Err(WalkError::Damaged(_, place)) => { Err(self.break_at(alloc, volumes, body, place)) }
             Err(WalkError::Fault(set)) => Err(SiteError::Fault(Device::Journal(set))),
         }
     }
@@ -247,11 +211,11 @@ impl Walking {
         &mut self,
         alloc: Global,
         plant: &mut P,
-        buffers: &mut Buffers,
+        body: &mut Body,
         first: FirstRead,
     ) -> Result<(), SiteError>
         requires home { NoneLent (P.state plant.old) }
-        requires room { HoldsEveryBody (P.state plant.old) buffers.old.body.room }
+        requires room { HoldsEveryBody (P.state plant.old) body.old.room }
         requires stands { WalkStands (P.state plant.old) self.old }
         ensures below { OnOk result (IsTrue (are_below (P.state plant.old).volumes self.new.table.rows)) }
         ensures reports { P.tells → AnswersWalk (walk_of (shape_of (P.state plant.old)) (P.state plant.old).bytes self.old) self.old self.new result }
@@ -264,7 +228,7 @@ impl Walking {
         let mut settled = 0;
         loop {
             settled = self.settle_here(plant, settled, first)?;
-            match self.step(alloc, plant, buffers) {
+            match self.step(alloc, plant, body) {
                 Ok(true) => {}
                 Ok(false) => return Ok(()),
                 Err(error) => return Err(error),

@@ -12,7 +12,7 @@ abbrev pub invariant-loop-settled : goal.invariant-loop-settled
 invariant-loop-settled g l = record {
   reads : ReadsAll g.P.Plant.tells (g.P.Plant.state l.fn.plant) (g.P.Plant.state l.plant);
   faults : (d : Device) → (g.P.Plant.state l.plant).faults d ≡ (g.P.Plant.state l.fn.plant).faults d;
-  room : l.buffers.body.room ≡ l.fn.buffers.body.room;
+  room : l.body.room ≡ l.fn.body.room;
   stands : WalkStands (g.P.Plant.state l.plant) l.self;
   durable : g.P.Plant.tells → l.first ≡ Synced → HasEnteredOne l.fn.self → AreSettled (g.P.Plant.state l.plant) l.settled l.self;
   going : g.P.Plant.tells → Going (shape_of (g.P.Plant.state l.fn.plant)) (g.P.Plant.state l.fn.plant).bytes l.fn.self l.self;
