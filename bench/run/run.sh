@@ -3,8 +3,55 @@
 # prints the ratios. The first word names a workload, or is `all`; the second divides the size of each, for a quick look.
 set -eu
 
-# shellcheck source=SCRIPTDIR/../common.sh
-. "$(dirname "$0")/../common.sh"
+repository=$(cd "$(dirname "$0")/../.." && pwd)
+xrc=$repository/crates/xrc/out/xrc
+rounds=${ROUNDS:-2}
+
+fail() {
+    printf 'run: %s\n' "$1" >&2
+    exit 1
+}
+
+# The program is proved and built where that was not done yet.
+find_program() {
+    [ -x "$xrc" ] && return
+    command -v rt >/dev/null || fail "the toolchain's command rt is not installed"
+    said=$(cd "$repository/crates/xrc" && rt run </dev/null 2>&1) || true
+    [ -x "$xrc" ] && return
+    printf '%s\n' "$said" >&2
+    fail "the program was not built"
+}
+
+# Goes to a new folder, which is removed when the script ends or is stopped.
+enter_folder() {
+    folder=$(mktemp -d "${TMPDIR:-/tmp}/bench.XXXXXX")
+    trap 'rm -rf "$folder"' EXIT
+    trap 'exit 1' HUP INT TERM
+    cd "$folder" || exit
+}
+
+# Runs a command again and again.
+repeat() {
+    round=1
+    while [ "$round" -le "$rounds" ]; do
+        "$@"
+        round=$((round + 1))
+    done
+}
+
+# Runs a command, and leaves its time in $took, in milliseconds.
+measure() {
+    begun=$(date +%s%N)
+    "$@"
+    ended=$(date +%s%N)
+    took=$(((ended - begun) / 1000000))
+    [ "$took" -gt 0 ] || took=1
+}
+
+# One number in hundredths of another.
+ratio() {
+    echo "$(($1 * 100 / $2)) / 100"
+}
 
 # Writes the trace of a controller. Volumes are counted over all controllers. Each write has a stamp of its own, from 1000 on, and is
 # of another track than the one before: the volumes take turns, then the tracks, then the records.
@@ -233,11 +280,10 @@ describe() {
 }
 
 part=${2:-1}
-rounds=${ROUNDS:-2}
 plain_size=268435456
 wanted=${1:-all}
 [ "$wanted" != all ] || wanted='one four tracks sixteen copy queries'
-find_xrc
+find_program
 enter_folder
 head -c "$plain_size" /dev/zero >plain
 for workload in $wanted; do

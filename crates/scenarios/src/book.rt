@@ -1,7 +1,9 @@
 //! What the cases of a file have in common: earlier set-ups, and what a recovery leaves.
 
 use crate::call::Call;
-use case_notation::{Setup, Words, Wrong};
+use crate::setup::Setup;
+use crate::words::Words;
+use crate::wrong::Wrong;
 use std::alloc::Global;
 
 /// The set-up of an earlier case, and its first call.

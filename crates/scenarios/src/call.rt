@@ -1,6 +1,10 @@
 //! One call of a program.
 
-use case_notation::{Flaw, Past, Program, Trace, Words, Wrong, length_of_lines, spell};
+use crate::site::Past;
+use crate::texts::{length_of_lines, spell};
+use crate::trace::{Flaw, Trace};
+use crate::words::Words;
+use crate::wrong::Wrong;
 use crash_plant::{Device, Fail};
 use std::alloc::Global;
 use std::sync::Wait;
@@ -24,6 +28,8 @@ pub struct Planned {
 pub struct Call<'a> {
     alloc: Global,
     words: Words<'a>,
+    /// The words of a second call behind it, on the devices as it leaves them.
+    then: Option<Words<'a>>,
     script: Vec<u8>,
     fails: Vec<Planned>,
 }
@@ -58,6 +64,7 @@ impl<'a> Call<'a> {
         Call {
             alloc,
             words,
+            then: None,
             script: Vec::new(alloc),
             fails: Vec::new(alloc),
         }
@@ -65,6 +72,7 @@ impl<'a> Call<'a> {
 
     pub fn copy(&self) -> Result<Call<'a>, Wrong> {
         let mut copy = Call::new(self.alloc, self.words);
+        copy.then = self.then;
         copy.script.extend_from_slice(self.script.as_slice())?;
         copy.fails.extend_from_slice(self.fails.as_slice())?;
         Ok(copy)
@@ -80,13 +88,17 @@ impl<'a> Call<'a> {
     }
 
     /// Takes a line of the call.
-    pub fn take(&mut self, keyword: &str, mut words: Words<'_>) -> Result<(), Wrong> {
+    pub fn take(&mut self, keyword: &str, mut words: Words<'a>) -> Result<(), Wrong> {
         match keyword {
             ">" => self.hear(words, b"\n"),
             ">|" => self.hear(words, b""),
             ">x" => {
                 words.bytes(&mut self.script)?;
                 words.end()
+            }
+            "then" => {
+                self.then = Some(words);
+                Ok(())
             }
             "fail" => self.fail(words, false),
             "stop" => self.fail(words, true),
@@ -133,67 +145,45 @@ impl<'a> Call<'a> {
     }
 
     /// Recovers the session of this call from what a crash leaves by a fill.
-    pub fn recover<R: Threads + Wait + Sync, P: Program>(
+    pub fn recover<R: Threads + Wait + Sync>(
         &self,
         rt: &R,
-        program: &P,
         past: &Past,
         fill: &[u8],
     ) -> Result<Outcome, Wrong> {
         let mut past = past.crash(self.alloc, fill)?.freeze(self.alloc)?;
-        let status = self.run_recovery(rt, program, &mut past)?;
+        let status = self.run_recovery(rt, &mut past)?;
         Ok(Outcome { status, past })
     }
 
     /// Recovers over these devices, and gives the status.
-    fn run_recovery<R: Threads + Wait + Sync, P: Program>(
-        &self,
-        rt: &R,
-        program: &P,
-        past: &mut Past,
-    ) -> Result<u8, Wrong> {
+    fn run_recovery<R: Threads + Wait + Sync>(&self, rt: &R, past: &mut Past) -> Result<u8, Wrong> {
         let words = self.recovery()?;
-        past.call(
-            rt,
-            program,
-            self.alloc,
-            words.as_slice(),
-            Vec::new(self.alloc),
-        )
-    }
-
-    fn all_words(&self) -> Result<Vec<String>, Wrong> {
-        let mut all = Vec::new(self.alloc);
-        for word in self.words.rest().split_whitespace() {
-            all.push(String::from_str(self.alloc, word)?)?;
-        }
-        Ok(all)
+        past.call(rt, self.alloc, words.as_slice(), Vec::new(self.alloc))
     }
 
     /// Makes the call.
-    pub fn make<R: Threads + Wait + Sync, P: Program>(
+    pub fn make<R: Threads + Wait + Sync>(
         &self,
         rt: &R,
-        program: &P,
         before: &Past,
         traces: &[Trace],
         twist: Twist<'_>,
     ) -> Result<Outcome, Wrong> {
-        let fails = self.planned(rt, program, before, traces, twist)?;
-        self.make_with(rt, program, before, traces, twist, fails.as_slice())
+        let fails = self.planned(rt, before, traces, twist)?;
+        self.make_with(rt, before, traces, twist, fails.as_slice())
     }
 
-    fn make_with<R: Threads + Wait + Sync, P: Program>(
+    fn make_with<R: Threads + Wait + Sync>(
         &self,
         rt: &R,
-        program: &P,
         before: &Past,
         traces: &[Trace],
         twist: Twist<'_>,
         fails: &[Fail],
     ) -> Result<Outcome, Wrong> {
         let mut past = self.prepared(before, fails)?;
-        let status = self.run(rt, program, traces, twist, &mut past)?;
+        let status = self.run(rt, traces, twist, &mut past)?;
         Ok(Outcome { status, past })
     }
 
@@ -204,25 +194,30 @@ impl<'a> Call<'a> {
         site.into_past(self.alloc, fails)
     }
 
-    /// Makes the call over these devices, and gives its status.
-    fn run<R: Threads + Wait + Sync, P: Program>(
+    /// Makes the call over these devices, and the one behind it, if there is one. Gives the status of the last one.
+    fn run<R: Threads + Wait + Sync>(
         &self,
         rt: &R,
-        program: &P,
         traces: &[Trace],
         twist: Twist<'_>,
         past: &mut Past,
     ) -> Result<u8, Wrong> {
-        let words = self.all_words()?;
+        let words = all_words(self.alloc, self.words)?;
         let sources = sources(self.alloc, traces, twist.flaw)?;
-        past.call(rt, program, self.alloc, words.as_slice(), sources)
+        let status = past.call(rt, self.alloc, words.as_slice(), sources)?;
+        match self.then {
+            Some(then) => {
+                let words = all_words(self.alloc, then)?;
+                past.call(rt, self.alloc, words.as_slice(), Vec::new(self.alloc))
+            }
+            None => Ok(status),
+        }
     }
 
     /// The failures of the call, each counted from so many bytes. The lines are those that the call says without any of them.
-    fn planned<R: Threads + Wait + Sync, P: Program>(
+    fn planned<R: Threads + Wait + Sync>(
         &self,
         rt: &R,
-        program: &P,
         before: &Past,
         traces: &[Trace],
         twist: Twist<'_>,
@@ -238,7 +233,7 @@ impl<'a> Call<'a> {
         if let Some(calm) = twist.calm {
             return self.failures(plan.as_slice(), calm);
         }
-        let calm = self.make_with(rt, program, before, traces, Twist::NONE, &[])?;
+        let calm = self.make_with(rt, before, traces, Twist::NONE, &[])?;
         self.failures(plan.as_slice(), calm.past.said())
     }
 
@@ -261,6 +256,14 @@ impl<'a> Call<'a> {
         }
         Ok(list)
     }
+}
+
+fn all_words(alloc: Global, words: Words<'_>) -> Result<Vec<String>, Wrong> {
+    let mut all = Vec::new(alloc);
+    for word in words.rest().split_whitespace() {
+        all.push(String::from_str(alloc, word)?)?;
+    }
+    Ok(all)
 }
 
 /// The sources of the traces, of which one may have a flaw.

@@ -5,8 +5,12 @@ use crate::call::{Call, Outcome, Twist};
 use crate::made::{Made, is_wanted};
 use crate::report::{Part, Report};
 use crate::scene::Scene;
+use crate::setup::Setup;
+use crate::site::Past;
 use crate::tables::Table;
-use case_notation::{Past, Program, Setup, Trace, Words, Wrong};
+use crate::trace::Trace;
+use crate::words::Words;
+use crate::wrong::Wrong;
 use std::alloc::Global;
 use std::sync::Wait;
 use std::thread::Threads;
@@ -71,10 +75,9 @@ impl<'a> Case<'a> {
     }
 
     /// Takes a line that is neither the case's first nor of what a recovery leaves.
-    pub fn take<R: Threads + Wait + Sync, P: Program>(
+    pub fn take<R: Threads + Wait + Sync>(
         &mut self,
         rt: &R,
-        program: &P,
         keyword: &str,
         words: Words<'a>,
         book: &mut Book<'a>,
@@ -86,16 +89,12 @@ impl<'a> Case<'a> {
         }
         match keyword {
             "run" => self.take_run(words, report),
-            ">" | ">|" | ">x" | "fail" | "stop" => self.take_in_call(keyword, words),
+            ">" | ">|" | ">x" | "then" | "fail" | "stop" => self.take_in_call(keyword, words),
             "stops" | "fails" | "cuts" | "pulls" => self.take_table(keyword, words),
             "way" => self.take_way(words),
-            "at" | "in" | "calm" | "n" | "with" => self.take_row(
-                rt, program, keyword, words, book, report,
-            ),
-            "same" | "unheard" | "crash" => self.take_wanted(
-                rt, program, keyword, words, book, report,
-            ),
-            _ if is_wanted(keyword) => self.take_wanted(rt, program, keyword, words, book, report),
+            "at" | "in" | "calm" | "n" | "with" => self.take_row(rt, keyword, words, book, report),
+            "same" | "unheard" | "crash" => self.take_wanted(rt, keyword, words, book, report),
+            _ if is_wanted(keyword) => self.take_wanted(rt, keyword, words, book, report),
             _ => self.take_setup(keyword, words, report),
         }
     }
@@ -185,32 +184,27 @@ impl<'a> Case<'a> {
     }
 
     /// Makes the call where it isn't made yet.
-    fn make<R: Threads + Wait + Sync, P: Program>(
-        &mut self,
-        rt: &R,
-        program: &P,
-    ) -> Result<(), Wrong> {
+    fn make<R: Threads + Wait + Sync>(&mut self, rt: &R) -> Result<(), Wrong> {
         let (Some(call), Some(before)) = (&self.call, &self.before) else {
             return Ok(());
         };
         if self.done.is_none() {
-            let done = perform(self.alloc, rt, program, call, before, self.setup.traces())?;
+            let done = perform(self.alloc, rt, call, before, self.setup.traces())?;
             self.done = Some(done);
         }
         Ok(())
     }
 
-    fn take_wanted<R: Threads + Wait + Sync, P: Program>(
+    fn take_wanted<R: Threads + Wait + Sync>(
         &mut self,
         rt: &R,
-        program: &P,
         keyword: &str,
         words: Words<'a>,
         book: &mut Book<'a>,
         report: &mut Report<'_>,
     ) -> Result<(), Wrong> {
         self.begin_try(words, book)?;
-        self.make(rt, program)?;
+        self.make(rt)?;
         let (Some(call), Some(done), Some(before)) = (&self.call, &mut self.done, &self.before)
         else {
             return Err(words.wrong("it stands below a run"));
@@ -218,10 +212,9 @@ impl<'a> Case<'a> {
         done.take(self.alloc, keyword, words, call, before, report)
     }
 
-    fn take_row<R: Threads + Wait + Sync, P: Program>(
+    fn take_row<R: Threads + Wait + Sync>(
         &mut self,
         rt: &R,
-        program: &P,
         keyword: &str,
         words: Words<'a>,
         book: &mut Book<'a>,
@@ -231,7 +224,6 @@ impl<'a> Case<'a> {
         match self.scene() {
             Some(scene) => scene.try_row(
                 rt,
-                program,
                 keyword,
                 self.table,
                 self.ways.as_slice(),
@@ -340,15 +332,14 @@ impl Done {
 }
 
 /// Makes a call over devices and traces.
-fn perform<R: Threads + Wait + Sync, P: Program>(
+fn perform<R: Threads + Wait + Sync>(
     alloc: Global,
     rt: &R,
-    program: &P,
     call: &Call<'_>,
     before: &Past,
     traces: &[Trace],
 ) -> Result<Done, Wrong> {
-    let outcome = call.make(rt, program, before, traces, Twist::NONE)?;
+    let outcome = call.make(rt, before, traces, Twist::NONE)?;
     let made = Made::new(alloc, &outcome, b"", Part::of("call"))?;
     Ok(Done { outcome, made })
 }

@@ -2,7 +2,9 @@
 
 use crate::call::Outcome;
 use crate::report::{Part, Report};
-use case_notation::{Words, Wrong, length_of_lines, spell};
+use crate::texts::{length_of_lines, spell};
+use crate::words::Words;
+use crate::wrong::Wrong;
 use std::alloc::Global;
 
 /// How a call ends that has failed or was stopped.

@@ -4,7 +4,9 @@ use crate::book::Book;
 use crate::case::Case;
 use crate::made::is_wanted;
 use crate::report::Report;
-use case_notation::{Lines, Program, Words, Wrong};
+use crate::turns::Lines;
+use crate::words::Words;
+use crate::wrong::Wrong;
 use std::alloc::Global;
 use std::sync::Wait;
 use std::thread::Threads;
@@ -20,9 +22,8 @@ struct Reader<'a> {
 }
 
 /// Tries the cases of a file.
-pub fn try_cases<'a, R: Threads + Wait + Sync, P: Program>(
+pub fn try_cases<'a, R: Threads + Wait + Sync>(
     rt: &R,
-    program: &P,
     alloc: Global,
     text: &'a Lines,
     report: &mut Report<'a>,
@@ -33,27 +34,25 @@ pub fn try_cases<'a, R: Threads + Wait + Sync, P: Program>(
         case: None,
         is_in_left: false,
     };
-    reader.take_all(rt, program, text, report)
+    reader.take_all(rt, text, report)
 }
 
 impl<'a> Reader<'a> {
-    fn take_all<R: Threads + Wait + Sync, P: Program>(
+    fn take_all<R: Threads + Wait + Sync>(
         &mut self,
         rt: &R,
-        program: &P,
         text: &'a Lines,
         report: &mut Report<'a>,
     ) -> Result<(), Wrong> {
         for (line, number) in text.text().lines().zip(text.numbers()) {
-            self.take(rt, program, Words::new(*number, line), report)?;
+            self.take(rt, Words::new(*number, line), report)?;
         }
         self.end_case(report)
     }
 
-    fn take<R: Threads + Wait + Sync, P: Program>(
+    fn take<R: Threads + Wait + Sync>(
         &mut self,
         rt: &R,
-        program: &P,
         line: Words<'a>,
         report: &mut Report<'a>,
     ) -> Result<(), Wrong> {
@@ -71,7 +70,7 @@ impl<'a> Reader<'a> {
         match keyword {
             "left" => self.book.begin_left(words),
             "case" => self.begin_case(words, report),
-            _ => self.take_in_case(rt, program, keyword, words, report),
+            _ => self.take_in_case(rt, keyword, words, report),
         }
     }
 
@@ -82,16 +81,15 @@ impl<'a> Reader<'a> {
         Ok(())
     }
 
-    fn take_in_case<R: Threads + Wait + Sync, P: Program>(
+    fn take_in_case<R: Threads + Wait + Sync>(
         &mut self,
         rt: &R,
-        program: &P,
         keyword: &str,
         words: Words<'a>,
         report: &mut Report<'a>,
     ) -> Result<(), Wrong> {
         match &mut self.case {
-            Some(case) => case.take(rt, program, keyword, words, &mut self.book, report),
+            Some(case) => case.take(rt, keyword, words, &mut self.book, report),
             None => Err(words.wrong("it belongs to no case")),
         }
     }

@@ -2,7 +2,10 @@
 
 use crate::call::{Call, Outcome};
 use crate::report::{Part, Report};
-use case_notation::{Past, Site, Words, Wrong, copied, serial_field, spell, spell_line};
+use crate::site::{Past, Site};
+use crate::texts::{copied, serial_field, spell, spell_line};
+use crate::words::Words;
+use crate::wrong::Wrong;
 use crash_plant::Device;
 use std::alloc::Global;
 

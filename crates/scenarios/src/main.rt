@@ -10,12 +10,19 @@ mod made;
 mod program;
 mod report;
 mod scene;
+mod setup;
+mod site;
 mod tables;
+mod texts;
+mod trace;
+mod turns;
+mod words;
+mod wrong;
 
 use crate::file::try_cases;
-use crate::program::Xrc;
 use crate::report::Report;
-use case_notation::{Lines, Wrong, written_out};
+use crate::turns::{Lines, written_out};
+use crate::wrong::Wrong;
 use std::alloc::Global;
 use std::process::ExitCode;
 use std::rt::{Env, Files};
@@ -63,7 +70,7 @@ fn try_files<'a, R: Print + Threads + Wait + Sync>(
     let mut report = Report::new(alloc);
     for (name, text) in names.iter().zip(texts) {
         report.begin_file(name.as_str());
-        if let Err(wrong) = try_cases(rt, &Xrc, alloc, text, &mut report) {
+        if let Err(wrong) = try_cases(rt, alloc, text, &mut report) {
             rt.print(report.text())?;
             say_wrong(rt, name.as_str(), wrong)?;
             return Ok(false);

@@ -1,11 +1,11 @@
 //! The program that the cases call.
 
 ghost use Rattle.std.specs.Prelude.{IfOk};
+ghost use Rattle.std.specs.Thread.{IsSync};
 ghost use Rattle.crash_plant.specs.Calls.{NoneLent};
 ghost use Rattle.crash_plant.specs.MemoryPlant.{memory_state};
 ghost use Rattle.xrc_session.specs.Lanes.{HaveNoReader};
 
-use case_notation::Program;
 use crash_plant::MemoryPlant;
 use mover::Lane;
 use std::alloc::Global;
@@ -14,22 +14,20 @@ use std::thread::Threads;
 use xrc_cli::xrc;
 use xrc_edge::{MemorySource, NoMemory};
 
-/// The program `xrc`.
-#[derive(Clone, Copy)]
-pub struct Xrc;
-
-impl Program for Xrc {
-    fn call<R: Threads + Wait + Sync>(
-        &self,
-        rt: &R,
-        alloc: Global,
-        words: &[String],
-        traces: Vec<MemorySource>,
-        plant: &mut MemoryPlant,
-    ) -> Result<u8, NoMemory> {
-        let mut lanes = lanes(alloc, traces)?;
-        Ok(xrc(rt, alloc, words, &mut lanes, plant))
-    }
+/// Makes a call of `xrc` with these words over traces and devices, and gives its status.
+pub fn call_program<R: Threads + Wait + Sync>(
+    rt: &R,
+    alloc: Global,
+    words: &[String],
+    traces: Vec<MemorySource>,
+    plant: &mut MemoryPlant,
+) -> Result<u8, NoMemory>
+    requires shared { IsSync R.row }
+    requires home { NoneLent (memory_state plant.old) }
+    ensures home { NoneLent (memory_state plant.new) }
+{
+    let mut lanes = lanes(alloc, traces)?;
+    Ok(xrc(rt, alloc, words, &mut lanes, plant))
 }
 
 /// The lanes of traces. None has its reader yet.

@@ -1,6 +1,7 @@
 //! What is said of cases.
 
-use case_notation::{Shown, Wrong};
+use crate::texts::Shown;
+use crate::wrong::Wrong;
 use std::alloc::Global;
 use std::fmt;
 use std::fmt::Write;

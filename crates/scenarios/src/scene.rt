@@ -5,8 +5,12 @@ use crate::call::{Call, Outcome, Twist};
 use crate::endings::Ending;
 use crate::made::Made;
 use crate::report::{Part, Report};
+use crate::site::{Past, Site};
 use crate::tables::Table;
-use case_notation::{Past, Program, Site, Trace, Words, Wrong, spell_lines};
+use crate::texts::spell_lines;
+use crate::trace::Trace;
+use crate::words::Words;
+use crate::wrong::Wrong;
 use std::alloc::Global;
 use std::sync::Wait;
 use std::thread::Threads;
@@ -24,20 +28,14 @@ pub struct Scene<'s, 'a> {
 }
 
 impl<'s, 'a> Scene<'s, 'a> {
-    fn make<R: Threads + Wait + Sync, P: Program>(
-        self,
-        rt: &R,
-        program: &P,
-        twist: Twist<'_>,
-    ) -> Result<Outcome, Wrong> {
-        self.call.make(rt, program, self.before, self.traces, twist)
+    fn make<R: Threads + Wait + Sync>(self, rt: &R, twist: Twist<'_>) -> Result<Outcome, Wrong> {
+        self.call.make(rt, self.before, self.traces, twist)
     }
 
     /// The call with the failure of a row; without it, it says `calm`.
-    fn make_failing<R: Threads + Wait + Sync, P: Program>(
+    fn make_failing<R: Threads + Wait + Sync>(
         self,
         rt: &R,
-        program: &P,
         table: Table,
         words: Words<'_>,
         number: u64,
@@ -49,14 +47,13 @@ impl<'s, 'a> Scene<'s, 'a> {
         } else {
             Some(calm)
         };
-        self.make(rt, program, Twist { fail, flaw, calm })
+        self.make(rt, Twist { fail, flaw, calm })
     }
 
     /// The row of a table that begins with this word.
-    pub fn try_row<R: Threads + Wait + Sync, P: Program>(
+    pub fn try_row<R: Threads + Wait + Sync>(
         self,
         rt: &R,
-        program: &P,
         keyword: &str,
         table: Table,
         ways: &[Words<'_>],
@@ -65,19 +62,18 @@ impl<'s, 'a> Scene<'s, 'a> {
         report: &mut Report<'_>,
     ) -> Result<(), Wrong> {
         match keyword {
-            "at" => self.try_ends(rt, program, table, words, book, report),
-            "in" => self.try_ways(rt, program, table, ways, words, book, report),
-            "calm" => self.try_calm(rt, program, table, words, report),
-            "n" => self.try_flaws(rt, program, table, words, report),
-            _ => self.try_bytes(rt, program, words, report),
+            "at" => self.try_ends(rt, table, words, book, report),
+            "in" => self.try_ways(rt, table, ways, words, book, report),
+            "calm" => self.try_calm(rt, table, words, report),
+            "n" => self.try_flaws(rt, table, words, report),
+            _ => self.try_bytes(rt, words, report),
         }
     }
 
     /// A row of calls that fail.
-    fn try_ends<R: Threads + Wait + Sync, P: Program>(
+    fn try_ends<R: Threads + Wait + Sync>(
         self,
         rt: &R,
-        program: &P,
         table: Table,
         mut words: Words<'_>,
         book: &Book<'_>,
@@ -85,18 +81,17 @@ impl<'s, 'a> Scene<'s, 'a> {
     ) -> Result<(), Wrong> {
         let (from, to) = range(&mut words)?;
         let ending = Ending::read(words)?;
-        let calm = self.make(rt, program, Twist::NONE)?;
+        let calm = self.make(rt, Twist::NONE)?;
         for number in from..=to {
             let said = calm.past.said();
-            self.try_end(rt, program, table, ending, said, number, book, report)?;
+            self.try_end(rt, table, ending, said, number, book, report)?;
         }
         Ok(())
     }
 
-    fn try_end<R: Threads + Wait + Sync, P: Program>(
+    fn try_end<R: Threads + Wait + Sync>(
         self,
         rt: &R,
-        program: &P,
         table: Table,
         ending: Ending<'_>,
         calm: &[u8],
@@ -104,15 +99,14 @@ impl<'s, 'a> Scene<'s, 'a> {
         book: &Book<'_>,
         report: &mut Report<'_>,
     ) -> Result<(), Wrong> {
-        let outcome = self.make_failing(rt, program, table, ending.words, number, calm)?;
-        self.check_end(rt, program, &outcome, ending, calm, number, book, report)
+        let outcome = self.make_failing(rt, table, ending.words, number, calm)?;
+        self.check_end(rt, &outcome, ending, calm, number, book, report)
     }
 
     /// A call has ended so, and what a crash leaves then is recovered as it is named.
-    fn check_end<R: Threads + Wait + Sync, P: Program>(
+    fn check_end<R: Threads + Wait + Sync>(
         self,
         rt: &R,
-        program: &P,
         outcome: &Outcome,
         ending: Ending<'_>,
         calm: &[u8],
@@ -122,14 +116,13 @@ impl<'s, 'a> Scene<'s, 'a> {
     ) -> Result<(), Wrong> {
         let part = Part::at("said", number, "");
         ending.check(self.alloc, outcome, calm, part, report)?;
-        self.try_lefts(rt, program, outcome, ending, number, book, report)
+        self.try_lefts(rt, outcome, ending, number, book, report)
     }
 
     /// A row of calls that fail, each of which ends in one of these ways.
-    fn try_ways<R: Threads + Wait + Sync, P: Program>(
+    fn try_ways<R: Threads + Wait + Sync>(
         self,
         rt: &R,
-        program: &P,
         table: Table,
         ways: &[Words<'_>],
         mut words: Words<'_>,
@@ -138,18 +131,17 @@ impl<'s, 'a> Scene<'s, 'a> {
     ) -> Result<(), Wrong> {
         let (from, to) = range(&mut words)?;
         words.end()?;
-        let calm = self.make(rt, program, Twist::NONE)?;
+        let calm = self.make(rt, Twist::NONE)?;
         for number in from..=to {
             let said = calm.past.said();
-            self.try_number(rt, program, table, ways, said, words, number, book, report)?;
+            self.try_number(rt, table, ways, said, words, number, book, report)?;
         }
         Ok(())
     }
 
-    fn try_number<R: Threads + Wait + Sync, P: Program>(
+    fn try_number<R: Threads + Wait + Sync>(
         self,
         rt: &R,
-        program: &P,
         table: Table,
         ways: &[Words<'_>],
         calm: &[u8],
@@ -158,17 +150,14 @@ impl<'s, 'a> Scene<'s, 'a> {
         book: &Book<'_>,
         report: &mut Report<'_>,
     ) -> Result<(), Wrong> {
-        let outcome = self.make_failing(rt, program, table, words, number, calm)?;
-        self.check_ways(
-            rt, program, &outcome, ways, calm, words, number, book, report,
-        )
+        let outcome = self.make_failing(rt, table, words, number, calm)?;
+        self.check_ways(rt, &outcome, ways, calm, words, number, book, report)
     }
 
     /// A call has ended in one of these ways.
-    fn check_ways<R: Threads + Wait + Sync, P: Program>(
+    fn check_ways<R: Threads + Wait + Sync>(
         self,
         rt: &R,
-        program: &P,
         outcome: &Outcome,
         ways: &[Words<'_>],
         calm: &[u8],
@@ -178,7 +167,7 @@ impl<'s, 'a> Scene<'s, 'a> {
         report: &mut Report<'_>,
     ) -> Result<(), Wrong> {
         match self.way_of(ways, calm, outcome)? {
-            Some(way) => self.try_way(rt, program, outcome, way, words, number, book, report),
+            Some(way) => self.try_way(rt, outcome, way, words, number, book, report),
             None => {
                 let part = Part::at("no way", number, "");
                 report.compare(words.number(), part, b"", outcome.past.said())
@@ -203,10 +192,9 @@ impl<'s, 'a> Scene<'s, 'a> {
     }
 
     /// What a crash leaves then is recovered as one of a way's names says, by each fill.
-    fn try_way<R: Threads + Wait + Sync, P: Program>(
+    fn try_way<R: Threads + Wait + Sync>(
         self,
         rt: &R,
-        program: &P,
         outcome: &Outcome,
         way: Ending<'_>,
         words: Words<'_>,
@@ -217,7 +205,7 @@ impl<'s, 'a> Scene<'s, 'a> {
         for (fill, shown) in FILLS.iter() {
             report.count_try();
             let part = Part::at("no name of the way", number, *shown);
-            let recovered = self.call.recover(rt, program, &outcome.past, *fill)?;
+            let recovered = self.call.recover(rt, &outcome.past, *fill)?;
             self.check_recovery(&recovered, way, words.number(), part, book, report)?;
         }
         Ok(())
@@ -260,10 +248,9 @@ impl<'s, 'a> Scene<'s, 'a> {
     }
 
     /// What a crash leaves then is recovered as it is named, by each fill.
-    fn try_lefts<R: Threads + Wait + Sync, P: Program>(
+    fn try_lefts<R: Threads + Wait + Sync>(
         self,
         rt: &R,
-        program: &P,
         outcome: &Outcome,
         ending: Ending<'_>,
         number: u64,
@@ -276,30 +263,28 @@ impl<'s, 'a> Scene<'s, 'a> {
             report.count_try();
             let left = book.left(ending.words, *name)?;
             let part = Part::at("recovery", number, *shown);
-            self.try_left(rt, program, outcome, *fill, part, left, report)?;
+            self.try_left(rt, outcome, *fill, part, left, report)?;
         }
         Ok(())
     }
 
-    fn try_left<R: Threads + Wait + Sync, P: Program>(
+    fn try_left<R: Threads + Wait + Sync>(
         self,
         rt: &R,
-        program: &P,
         outcome: &Outcome,
         fill: &[u8],
         part: Part,
         left: &Left<'_>,
         report: &mut Report<'_>,
     ) -> Result<(), Wrong> {
-        let recovered = self.call.recover(rt, program, &outcome.past, fill)?;
+        let recovered = self.call.recover(rt, &outcome.past, fill)?;
         self.check_left(&recovered, left, part, report)
     }
 
     /// At a call behind the last one all is as without a failure.
-    fn try_calm<R: Threads + Wait + Sync, P: Program>(
+    fn try_calm<R: Threads + Wait + Sync>(
         self,
         rt: &R,
-        program: &P,
         table: Table,
         mut words: Words<'_>,
         report: &mut Report<'_>,
@@ -307,29 +292,27 @@ impl<'s, 'a> Scene<'s, 'a> {
         let number = words.decimal()?;
         words.end()?;
         report.count_try();
-        let calm = self.make(rt, program, Twist::NONE)?;
-        self.check_calm(rt, program, table, &calm, words, number, report)
+        let calm = self.make(rt, Twist::NONE)?;
+        self.check_calm(rt, table, &calm, words, number, report)
     }
 
-    fn check_calm<R: Threads + Wait + Sync, P: Program>(
+    fn check_calm<R: Threads + Wait + Sync>(
         self,
         rt: &R,
-        program: &P,
         table: Table,
         calm: &Outcome,
         words: Words<'_>,
         number: u64,
         report: &mut Report<'_>,
     ) -> Result<(), Wrong> {
-        let outcome = self.make_failing(rt, program, table, words, number, calm.past.said())?;
+        let outcome = self.make_failing(rt, table, words, number, calm.past.said())?;
         check_same_end(calm, &outcome, words.number(), number, report)
     }
 
     /// A row of flaws of a trace.
-    fn try_flaws<R: Threads + Wait + Sync, P: Program>(
+    fn try_flaws<R: Threads + Wait + Sync>(
         self,
         rt: &R,
-        program: &P,
         table: Table,
         mut words: Words<'_>,
         report: &mut Report<'_>,
@@ -339,16 +322,15 @@ impl<'s, 'a> Scene<'s, 'a> {
         for number in from..=to {
             report.count_try();
             let part = Part::at("said", number, "");
-            self.try_lines(rt, program, table.flaw(words, number)?, words, part, report)?;
+            self.try_lines(rt, table.flaw(words, number)?, words, part, report)?;
         }
         Ok(())
     }
 
     /// A call over devices with other bytes.
-    fn try_bytes<R: Threads + Wait + Sync, P: Program>(
+    fn try_bytes<R: Threads + Wait + Sync>(
         self,
         rt: &R,
-        program: &P,
         mut words: Words<'_>,
         report: &mut Report<'_>,
     ) -> Result<(), Wrong> {
@@ -360,20 +342,19 @@ impl<'s, 'a> Scene<'s, 'a> {
             before: &changed,
             traces: self.traces,
         };
-        scene.try_lines(rt, program, Twist::NONE, words, Part::of("said"), report)
+        scene.try_lines(rt, Twist::NONE, words, Part::of("said"), report)
     }
 
     /// A call ends with the status that is next, and says just the lines behind it.
-    fn try_lines<R: Threads + Wait + Sync, P: Program>(
+    fn try_lines<R: Threads + Wait + Sync>(
         self,
         rt: &R,
-        program: &P,
         twist: Twist<'_>,
         words: Words<'_>,
         part: Part,
         report: &mut Report<'_>,
     ) -> Result<(), Wrong> {
-        let outcome = self.make(rt, program, twist)?;
+        let outcome = self.make(rt, twist)?;
         check_lines(self.alloc, &outcome, words, part, report)
     }
 

@@ -1,7 +1,9 @@
 //! Tables: the same call again and again, with another call that fails, or another flaw of a trace.
 
 use crate::call::{Planned, Twist};
-use case_notation::{Cut, Flaw, Words, Wrong};
+use crate::trace::{Cut, Flaw};
+use crate::words::Words;
+use crate::wrong::Wrong;
 use crash_plant::Device;
 
 /// What the rows of a table change.

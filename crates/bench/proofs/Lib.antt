@@ -1,3 +1,0 @@
-mod Singles
-mod Telling
-mod GroupRows

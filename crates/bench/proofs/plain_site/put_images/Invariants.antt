@@ -1,8 +1,0 @@
-use Rattle.crash_plant.specs.Calls.{NoneLent}
-use Rattle.bench.proofs.plain_site.put_images.Given as goal
-
-abbrev pub invariant-loop-volume : goal.invariant-loop-volume
-invariant-loop-volume g l = NoneLent (g.P.Plant.state l.plant)
-
-abbrev pub invariant-loop-track : goal.invariant-loop-track
-invariant-loop-track g l = NoneLent (g.P.Plant.state l.plant)

@@ -1,5 +1,0 @@
-use Rattle.block_region.specs.Laws.{AreAllOut}
-use Rattle.bench.proofs.region.fill.Given as goal
-
-abbrev pub invariant-loop : goal.invariant-loop
-invariant-loop l = AreAllOut l.region l.chains.items

@@ -1,3 +1,0 @@
-mod PuttingRows
-mod StartingGroup
-mod StartingRows

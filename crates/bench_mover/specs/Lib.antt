@@ -1,3 +1,0 @@
-pub mod DroppedWrites
-pub mod PutRows
-pub mod Starting
