@@ -3,9 +3,11 @@
 
 mod failure;
 mod files;
+mod lock;
 
 use failure::Failure;
 use files::{no_site, open_site, open_traces};
+use lock::lock_site;
 use std::env;
 use std::fs::File;
 use std::io::{Stdin, Stdout};
@@ -18,7 +20,7 @@ use xrc_cli::{Wanted, wanted, xrc};
 /// The status where there was no memory before the command began.
 const NO_MEMORY: u8 = 1;
 
-/// The status where a file could not be opened.
+/// The status where a file could not be opened, or another program works on the site.
 const CANNOT_OPEN: u8 = 27;
 
 fn run<R>(rt: &R, input: Stdin, output: Stdout) -> Result<u8, Failure>
@@ -28,6 +30,11 @@ where
     let alloc = rt.alloc();
     let words: Vec<String> = env::args(rt)?.skip(1).collect(alloc)?;
     let wanted = wanted(alloc, &words)?;
+    // Kept to the end: with the file goes the lock.
+    let _lock = match wanted {
+        Wanted::Nothing => None,
+        Wanted::Devices | Wanted::Traces(_) => Some(lock_site(rt, &words)?),
+    };
     let mut plant = match wanted {
         Wanted::Nothing => no_site(alloc, input, output)?,
         Wanted::Devices | Wanted::Traces(_) => open_site(rt, alloc, input, output)?,
