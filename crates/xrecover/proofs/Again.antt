@@ -80,9 +80,9 @@ module _ (shape : Shape) (images : Images) (s : WalkState) (lt : s.at.number < 2
   pub never_damaged : (place : ℕ) (items : List Item) → found_at shape images s ≡ Damaged place items → ⊥
   never_damaged place items found = no_break (unwrap_or (unfit_in shape s items) place) (ap (λ (f : Found). step_by shape s f) found)
 
--- ---- where a walk that is read once more stands, and what was applied to a device
+-- ---- where a walk that is read once more stands, and what was applied to the volumes that didn't fail
 
-pub record Reads (shape : Shape) (images : Images) (items : List Item) (device : ℕ) (first now : List ℕ) (at : Spot) (last : ℕ) : Type 0 where
+pub record Reads (shape : Shape) (images : Images) (items : List Item) (live : ℕ → Type 0) (first now : ℕ → List ℕ) (at : Spot) (last : ℕ) : Type 0 where
   pub s : WalkState
   pub at_is : s.at ≡ at
   pub last_is : s.last ≡ last
@@ -91,10 +91,10 @@ pub record Reads (shape : Shape) (images : Images) (items : List Item) (device :
   pub good : (rest_of shape images s).bad ≡ None
   pub enters : (j : ℕ) → has_entered j (rest_of shape images s).entered ≡ true → Enters shape images j
   pub here : has_entered s.at.set s.entered ≡ true
-  pub done : Done device before first now
+  pub done : (v : ℕ) → live v → Done v before (first v) (now v)
 
-pub reads_first : (plant : PlantState) (m : Mark) (device : ℕ) (first : List ℕ) → HasWalk plant m → Reads (shape_of plant) plant.bytes (walked plant plant.bytes) device first first m.at m.time.0
-reads_first plant m device first h = record {
+pub reads_first : (plant : PlantState) (m : Mark) (live : ℕ → Type 0) (first : ℕ → List ℕ) → HasWalk plant m → Reads (shape_of plant) plant.bytes (walked plant plant.bytes) live first first m.at m.time.0
+reads_first plant m live first h = record {
   s = start m h.stored.rows;
   at_is = refl;
   last_is = refl;
@@ -103,12 +103,12 @@ reads_first plant m device first h = record {
   good = h.good;
   enters = λ j entered. record { mark = m; stored = h.stored; chosen = h.chosen; holds = h.holds; entered = entered };
   here = mark_here m h.stored.rows;
-  done = done_none device first;
+  done = λ v is. done_none v (first v);
 }
 
-module _ (shape : Shape) (images : Images) (items its : List Item) (device : ℕ) (first now later : List ℕ) (at after : Spot) (last time : ℕ) (r : Reads shape images items device first now at last) (n : Next shape images r.s time its after) where
-  pub reads_next : Done device (r.before ++ its) first later → Reads shape images items device first later after time
-  reads_next done = record {
+module _ (shape : Shape) (images : Images) (items its : List Item) (live : ℕ → Type 0) (first now : ℕ → List ℕ) (at after : Spot) (last time : ℕ) (r : Reads shape images items live first now at last) (n : Next shape images r.s time its after) where
+  pub reads_next : (more : ℕ → Type 0) (later : ℕ → List ℕ) → ((v : ℕ) → more v → Done v (r.before ++ its) (first v) (later v)) → Reads shape images items more first later after time
+  reads_next more later done = record {
     s = n.n;
     at_is = n.at;
     last_is = n.last;
@@ -121,8 +121,8 @@ module _ (shape : Shape) (images : Images) (items its : List Item) (device : ℕ
   }
 
   -- the record's items are of the walk
-  pub of_walk : (x : ℕ) → HasItem device x its → HasItem device x items
-  of_walk x has =
+  pub of_walk : (device x : ℕ) → HasItem device x its → HasItem device x items
+  of_walk device x has =
       let rest = walk_items (rest_of shape images n.n) in
       subst (λ (l : List Item). HasItem device x l) (sym (r.items_are ∙ ap (λ (l : List Item). r.before ++ l) n.items_are)) (has_behind device x r.before (its ++ rest) (has_before device x its rest has))
 
@@ -133,7 +133,7 @@ found_same old new s at last site same at_is last_is =
     let sets = sym site.journals in
     (λ i. walk_one (form_of old) old.journals (old.bytes (Journal (at_is i).set)) (at_is i) (last_is i)) ∙ (λ i. walk_one (form i) (sets i) (sym same i) at last)
 
-module _ (shape : Shape) (images : Images) (items its : List Item) (device : ℕ) (first now : List ℕ) (at : Spot) (last : ℕ) (r : Reads shape images items device first now at last) (lt : at.number < 2 ^ 64) where
+module _ (shape : Shape) (images : Images) (items its : List Item) (live : ℕ → Type 0) (first now : ℕ → List ℕ) (at : Spot) (last : ℕ) (r : Reads shape images items live first now at last) (lt : at.number < 2 ^ 64) where
   lower : r.s.at.number < 2 ^ 64
   lower = omega (arith, lt, ap (λ (k : Spot). k.number) r.at_is)
 
@@ -145,10 +145,10 @@ module _ (shape : Shape) (images : Images) (items its : List Item) (device : ℕ
   ]
 
   -- At its end all items were applied.
-  pub all_again : FoundAgain at.set (found_at shape images r.s) its (Ok None) → Draws device items first now
-  all_again found =
+  pub all_again : FoundAgain at.set (found_at shape images r.s) its (Ok None) → (v : ℕ) → live v → Draws v items (first v) (now v)
+  all_again found v is =
       let all : items ≡ r.before = r.items_are ∙ ap (λ (l : List Item). r.before ++ l) (again_end shape images r.s lower r.good found) ∙ append-nil r.before in
-      subst (λ (l : List Item). Draws device l first now) (sym all) r.done.begins
+      subst (λ (l : List Item). Draws v l (first v) (now v)) (sym all) (r.done v is).begins
 
   -- Only a fault can keep a record from being read once more.
   pub fault_again : (e : SiteError) → FoundAgain at.set (found_at shape images r.s) its (Err e) → (j : ℕ) × (e ≡ Fault (Journal j)) × Enters shape images j

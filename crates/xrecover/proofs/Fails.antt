@@ -8,7 +8,7 @@ use Rattle.xrc_journal.specs.Jobs.{FailsByCount}
 use Rattle.site_means.specs.declared.site_error.SiteError.{SiteError}
 use Rattle.site_means.specs.declared.site_error.SiteError.TheVariants.{Fault, NoMemory}
 use Rattle.site_means.specs.Answers.{FaultsAreCounted, IsExamined}
-use Rattle.site_means.proofs.ReadAll.{error_is, fails_as, fails_then}
+use Rattle.site_means.proofs.ReadAll.{error_is, fails_as}
 use Rattle.xrecover.specs.declared.recover_error.RecoverError.{RecoverError}
 use Rattle.xrecover.specs.declared.recover_error.RecoverError.TheVariants.{Site}
 use Rattle.xrecover.specs.Answers.{FailsSo, TellsFaults}
@@ -71,11 +71,11 @@ tells_none {X} {E} a b x f same = record { rose = λ d is. absurd (no_error x (f
     no_error : (x : X) (e : E) → (let r : Result X E = Ok x in let q : Result X E = Err e in r ≡ q) → ⊥
     no_error x e is = cc
 
--- The fault of a call that reads, behind calls of which no count rose.
-pub tells_read : {X Y : Type 0} (a b c : Device → ℕ) (e : SiteError) → ((d : Device) → b d ≡ a d) → (let r : Result X SiteError = Err e in FaultsAreCounted b c r) → TellsFaults a c (λ d. let r : Result Y SiteError = Err e in IsErrOf r (Fault d))
-tells_read {X} {Y} a b c e same f =
-    let counted = fails_as {X = X} {Y = Y} a c e (fails_then a b c (Err e) same f) in
-    record { rose = counted.rose; others = λ d here none. counted.others d none }
+-- The fault of a call that reads, behind calls that left the counts of the control, the state and the journals.
+pub tells_read : {X Y : Type 0} (a b c : Device → ℕ) (e : SiteError) → ((d : Device) → a d ≤ b d) → ((d : Device) → IsExamined d → b d ≡ a d) → (let r : Result X SiteError = Err e in FaultsAreCounted b c r) → TellsFaults a c (λ d. let r : Result Y SiteError = Err e in IsErrOf r (Fault d))
+tells_read {X} {Y} a b c e le same f =
+    let counted = fails_as {X = X} {Y = Y} b c e f in
+    record { rose = λ d is. rose_later (a d) (b d) (c d) (le d) (counted.rose d is); others = λ d here none. counted.others d none ∙ same d here }
 
 recover_error_is : {Y : Type 0} (e f : RecoverError) → (let a : Result Y RecoverError = Err e in let b : Result Y RecoverError = Err f in a ≡ b) → e ≡ f
 recover_error_is e f is = cc

@@ -37,10 +37,6 @@ pub no_writes : (tells : Type 0) (step : Device → List ℕ → List ℕ → Ty
 no_writes tells step old new none works = works_more tells step Nothing old new (λ told d x y p. absurd (none told)) works
 
 module _ (tells : Type 0) (old one : PlantState) (reads : ReadsAll tells old one) where
-  -- only reads so far
-  pub read_works : (rows : List PairRow) (items : List Item) → Works tells (Recovers rows items) old one
-  read_works rows items = works_more tells Nothing (Recovers rows items) old one (λ told d x y e. recovers_same rows items d x y e) (works_reads tells old one reads)
-
   -- a late error, after the mark was the session's
   pub late_says : {X : Type 0} (session : List ℕ) (good : X → Type 0) → tells → IsOf old session → (e : RecoverError) → IsLate one e → (let r : Result X RecoverError = Err e in IsGoodOrCalledFor old session good r)
   late_says {X = X} session good told of e fault = subst (λ (k : RecoverError). let r : Result X RecoverError = Err k in IsGoodOrCalledFor old session good r) (sym fault.1) (of, seen_reached old one (same_seen tells old one reads told) (Journal fault.0) fault.2)

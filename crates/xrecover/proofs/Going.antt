@@ -1,24 +1,27 @@
 -- Duplex pairs redone one after another.
-use Rattle.std.proofs.Common.{◌≡◌, ◌≢◌, ◌<◌, ◌≤◌, ◌==◌, ◌&&◌, ◌||◌, ◌+◌, ◌++◌, ◌∷◌, ◌⊎◌, inl, inr, ℕ, zero, suc, Bool, true, false, not, cond, List, [], length, take, Some, refl, sym, ◌∙◌, ap, subst, arith}
-use Rattle.std.specs.Prelude.{All, Contains, filter, map, slice_get, slice_index_or}
+use Rattle.std.proofs.Common.{◌≡◌, ◌≢◌, ◌<◌, ◌==◌, ◌&&◌, ◌||◌, ◌+◌, ◌++◌, ◌∷◌, ◌⊎◌, inl, inr, ℕ, zero, suc, Bool, true, false, not, cond, List, [], length, take, Option, None, Some, refl, sym, ◌∙◌, ap, subst, arith}
+use Rattle.std.specs.Prelude.{All, find, filter, map, slice_get, slice_index_or}
 use Rattle.std.specs.List.{list_any}
 use Rattle.std.proofs.lemmas.Bool.{and_parts, and_from, cases_eq, eq-eqb, eqb-false, eqb-true}
 use Rattle.std.proofs.lemmas.List.{append-nil, map-append}
-use Rattle.std.proofs.lemmas.List.Elements.{All-nil, All-cons, All-head, All-tail, All-push, All-contains_itself, filter-append}
+use Rattle.std.proofs.lemmas.List.Elements.{All-nil, All-cons, All-head, All-tail, All-push, filter-append}
 use Rattle.std.proofs.lemmas.List.Folds.{list_any-append}
 use Rattle.std.proofs.lemmas.Option.{slice_get-get_or}
 use Rattle.crash_plant.specs.declared.device.Device.{Device}
 use Rattle.crash_plant.specs.declared.device.Device.TheVariants.{Control, State, Journal, Volume}
-use Rattle.crash_plant.specs.Moments.{PlantState}
+use Rattle.crash_plant.specs.Moments.{PlantState, Follows, Same, on}
+use Rattle.crash_plant.proofs.Steps.{follows_here, follows_then}
 use Rattle.pair_table.specs.declared.row.PairRow.{PairRow}
 use Rattle.pair_table.specs.Tables.{clashes, is_of, none_clash}
 use Rattle.site_means.proofs.ReadAll.{reads_none}
 use Rattle.xrc_journal.specs.Items.{Item}
 use Rattle.xrc_journal.specs.Jobs.{FailsByCount}
-use Rattle.xrecover.specs.Pairs.{AreFaulty, HasDuplex, duplex_devices, is_duplex, is_duplex_of}
+use Rattle.xrecover.specs.Pairs.{HasDuplex, duplex_devices, is_duplex, is_duplex_of}
+use Rattle.xrecover.specs.Finishes.{Finishes}
+use Rattle.xrecover.specs.Labels.{TreatsLabels}
 use Rattle.xrecover.specs.Works.{Nothing, OfOneVolume, Works}
 use Rattle.xrecover.specs.declared.labelling.Labelling.{Labelling}
-use Rattle.xrecover.specs.RedoneVolumes.{BearsLabel, Draws, IsRedone, Recovers, Redoes, Redone}
+use Rattle.xrecover.specs.RedoneVolumes.{BearsLabel, Draws, IsRedone, Recovers, Redoes}
 use Rattle.xrecover.proofs.Relations.{recovers_same, redoes_same}
 use Rattle.xrecover.proofs.Rows.{recovers_one}
 use Rattle.xrecover.proofs.Works.{works_more, works_reads, works_trans}
@@ -113,6 +116,38 @@ duplex_last front r duplex =
     right true = refl
     right false = refl
 
+-- Rows behind a row that clashes with none of them are of other devices.
+apart_behind : (q : PairRow) (rows : List PairRow) → list_any (clashes q) rows ≡ false → Apart rows q
+apart_behind q [] none = All-nil (λ p. p.device ≢ q.device)
+apart_behind q (p ∷ rows) none =
+    let parts = neither (clashes q p) (list_any (clashes q) rows) none in
+    All-cons (λ p. p.device ≢ q.device) p rows (λ same. clash_apart q p parts.0 (sym same)) (apart_behind q rows parts.1)
+  where
+    neither : (a b : Bool) → (a || b) ≡ false → (a ≡ false) × (b ≡ false)
+    neither true b e = absurd cc
+    neither false b e = (refl, e)
+
+abbrev pub is_duplex_row : Option PairRow → Bool
+is_duplex_row None = false
+is_duplex_row (Some r) = is_duplex r.state
+
+-- A device has a duplex pair where its row is one.
+pub duplex_found : (v : ℕ) (rows : List PairRow) → none_clash rows ≡ true → list_any (is_duplex_of v) rows ≡ is_duplex_row (find (is_of v) rows)
+duplex_found v [] none = refl
+duplex_found v (q ∷ rows) none =
+    let parts = and_parts (not (list_any (clashes q) rows)) (none_clash rows) none in
+    by_first (is_of v q) refl (duplex_found v rows parts.1) (apart_behind q rows (not_false (list_any (clashes q) rows) parts.0))
+  where
+    or_none : (b : Bool) → (b || false) ≡ b
+    or_none true = refl
+    or_none false = refl
+
+    by_first : (b : Bool) → is_of v q ≡ b → list_any (is_duplex_of v) rows ≡ is_duplex_row (find (is_of v) rows) → Apart rows q → (b && is_duplex q.state || list_any (is_duplex_of v) rows) ≡ is_duplex_row (cond b (Some q) (find (is_of v) rows))
+    by_first false e more apart = more
+    by_first true e more apart =
+        let none : list_any (is_duplex_of v) rows ≡ false = ap (λ (n : ℕ). list_any (is_duplex_of n) rows) (eqb-true v q.device e) ∙ none_duplex rows q apart in
+        (λ i. is_duplex q.state || none i) ∙ or_none (is_duplex q.state)
+
 -- Volumes of more pairs may differ.
 pub recovers_more : (front more : List PairRow) (items : List Item) (d : Device) (x y : List ℕ) → Recovers front items d x y → Recovers (front ++ more) items d x y
 recovers_more front more items Control x y p = p
@@ -138,14 +173,14 @@ flag_other device v b has_failed differ = by_test (v == device) refl
     by_test true is = absurd (differ (eqb-true v device is))
     by_test false is = refl
 
-listed_same : (front : List PairRow) (r : PairRow) (b : Bool) (has_failed : ℕ → Bool) → Apart front r → filter (with_flag r.device b has_failed) (duplex_devices front) ≡ filter has_failed (duplex_devices front)
-listed_same [] r b has_failed apart = refl
-listed_same (q ∷ front) r b has_failed apart =
-    by_duplex (is_duplex q.state) (listed_same front r b has_failed (All-tail (λ p. p.device ≢ r.device) q front apart)) (flag_other r.device q.device b has_failed (All-head (λ p. p.device ≢ r.device) q front apart))
+-- Flags that are the same but at one device, which none of the rows is of.
+listed_same : (front : List PairRow) (r : PairRow) (f g : ℕ → Bool) → ((v : ℕ) → v ≢ r.device → f v ≡ g v) → Apart front r → filter f (duplex_devices front) ≡ filter g (duplex_devices front)
+listed_same [] r f g same apart = refl
+listed_same (q ∷ front) r f g same apart =
+    by_duplex (is_duplex q.state) (listed_same front r f g same (All-tail (λ p. p.device ≢ r.device) q front apart)) (same q.device (All-head (λ p. p.device ≢ r.device) q front apart))
   where
-    by_duplex : (d : Bool) → filter (with_flag r.device b has_failed) (duplex_devices front) ≡ filter has_failed (duplex_devices front) → with_flag r.device b has_failed q.device ≡ has_failed q.device
-        → filter (with_flag r.device b has_failed) (map (λ (p : PairRow). p.device) (cond d (q ∷ filter (λ p. is_duplex p.state) front) (filter (λ p. is_duplex p.state) front)))
-        ≡ filter has_failed (map (λ (p : PairRow). p.device) (cond d (q ∷ filter (λ p. is_duplex p.state) front) (filter (λ p. is_duplex p.state) front)))
+    by_duplex : (d : Bool) → filter f (duplex_devices front) ≡ filter g (duplex_devices front) → f q.device ≡ g q.device
+        → filter f (map (λ (p : PairRow). p.device) (cond d (q ∷ filter (λ p. is_duplex p.state) front) (filter (λ p. is_duplex p.state) front))) ≡ filter g (map (λ (p : PairRow). p.device) (cond d (q ∷ filter (λ p. is_duplex p.state) front) (filter (λ p. is_duplex p.state) front)))
     by_duplex true more own = (λ i. cond (own i) (q.device ∷ more i) (more i))
     by_duplex false more own = more
 
@@ -160,7 +195,7 @@ devices_append front r d is =
     by_flag false = refl
 
 -- What holds of the devices that are listed holds of each duplex row's that failed.
-all_listed : (G : ℕ → Type 0) (has_failed : ℕ → Bool) (rows : List PairRow) → All G (filter has_failed (duplex_devices rows)) → All (λ row. is_duplex row.state ≡ true → has_failed row.device ≡ true → G row.device) rows
+pub all_listed : (G : ℕ → Type 0) (has_failed : ℕ → Bool) (rows : List PairRow) → All G (filter has_failed (duplex_devices rows)) → All (λ row. is_duplex row.state ≡ true → has_failed row.device ≡ true → G row.device) rows
 all_listed G has_failed [] all = All-nil (λ row. is_duplex row.state ≡ true → has_failed row.device ≡ true → G row.device)
 all_listed G has_failed (q ∷ rows) all = by_duplex (is_duplex q.state) refl all (λ more. all_listed G has_failed rows more)
   where
@@ -177,40 +212,68 @@ all_listed G has_failed (q ∷ rows) all = by_duplex (is_duplex q.state) refl al
 
 -- ---- one pair more
 
--- The pairs of these rows are done, or their volumes failed.
-pub record Going (tells : Type 0) (labelling : Labelling) (items : List Item) (front : List PairRow) (failed : List ℕ) (old now : PlantState) : Type 0 where
+abbrev pub either : (left has_failed : ℕ → Bool) → ℕ → Bool
+either left has_failed v = left v || has_failed v
+
+-- The pairs of these rows are done, or their volumes failed, but those that are left alone.
+pub record Going (tells : Type 0) (labelling : Labelling) (left : ℕ → Bool) (items : List Item) (front : List PairRow) (failed : List ℕ) (old now : PlantState) : Type 0 where
   pub works : Works tells (Recovers front items) old now
   pub has_failed : ℕ → Bool
-  pub listed : failed ≡ filter has_failed (duplex_devices front)
+  pub listed : failed ≡ filter (either left has_failed) (duplex_devices front)
   pub are_duplex : (v : ℕ) → has_failed v ≡ true → HasDuplex front v
+  pub were_fit : (v : ℕ) → has_failed v ≡ true → left v ≡ false
   pub counted : (v : ℕ) → FailsByCount (has_failed v) (old.faults (Volume v)) (now.faults (Volume v))
-  pub redone : tells → All (λ row. is_duplex row.state ≡ true → has_failed row.device ≡ false → IsRedone labelling row items old now) front
+  pub redone : tells → All (λ row. is_duplex row.state ≡ true → left row.device ≡ false → has_failed row.device ≡ false → IsRedone labelling row items old now) front
+  pub stays : tells → (v : ℕ) → left v ≡ true → (now.bytes (Volume v) ≡ old.bytes (Volume v)) × Follows Same (on old (Volume v)) (on now (Volume v))
 
-pub going_first : (tells : Type 0) (labelling : Labelling) (items : List Item) (a : PlantState) → Going tells labelling items [] [] a a
-going_first tells labelling items a = record {
+pub going_first : (tells : Type 0) (labelling : Labelling) (left : ℕ → Bool) (items : List Item) (a : PlantState) → Going tells labelling left items [] [] a a
+going_first tells labelling left items a = record {
   works = works_more tells Nothing (Recovers [] items) a a (λ told d x y e. recovers_same [] items d x y e) (works_reads tells a a (reads_none tells a));
   has_failed = λ v. false;
   listed = refl;
   are_duplex = λ v is. absurd cc;
+  were_fit = λ v is. absurd cc;
   counted = λ v. record { later = omega arith; by_one = omega arith; same = λ _. refl; rose = λ is. absurd cc };
   redone = λ told. All-nil _;
+  stays = λ told v is. (refl, follows_here (on a (Volume v)) Same (λ b now. refl));
 }
 
 -- A pair that isn't duplex is left.
-pub going_other : (tells : Type 0) (labelling : Labelling) (items : List Item) (front : List PairRow) (r : PairRow) (failed : List ℕ) (a b : PlantState) → is_duplex r.state ≡ false → Going tells labelling items front failed a b → Going tells labelling items (front ++ r ∷ []) failed a b
-going_other tells labelling items front r failed a b other g = record {
+pub going_other : (tells : Type 0) (labelling : Labelling) (left : ℕ → Bool) (items : List Item) (front : List PairRow) (r : PairRow) (failed : List ℕ) (a b : PlantState) → is_duplex r.state ≡ false → Going tells labelling left items front failed a b → Going tells labelling left items (front ++ r ∷ []) failed a b
+going_other tells labelling left items front r failed a b other g = record {
   works = works_more tells (Recovers front items) (Recovers (front ++ r ∷ []) items) a b (λ told d x y p. recovers_more front (r ∷ []) items d x y p) g.works;
   has_failed = g.has_failed;
-  listed = g.listed ∙ sym (ap (filter g.has_failed) (devices_append front r false other) ∙ nil_behind);
+  listed = g.listed ∙ sym (ap (filter (either left g.has_failed)) (devices_append front r false other) ∙ nil_behind);
   are_duplex = λ v is. duplex_before front (r ∷ []) v (g.are_duplex v is);
+  were_fit = g.were_fit;
   counted = g.counted;
-  redone = λ told. All-push (λ row. is_duplex row.state ≡ true → g.has_failed row.device ≡ false → IsRedone labelling row items a b) front r (g.redone told) (λ duplex. absurd (cc (duplex, other)));
+  redone = λ told. All-push (λ row. is_duplex row.state ≡ true → left row.device ≡ false → g.has_failed row.device ≡ false → IsRedone labelling row items a b) front r (g.redone told) (λ duplex. absurd (cc (duplex, other)));
+  stays = g.stays;
 }
   where
-    nil_behind : filter g.has_failed (duplex_devices front ++ []) ≡ filter g.has_failed (duplex_devices front)
-    nil_behind = filter-append g.has_failed (duplex_devices front) [] ∙ append-nil (filter g.has_failed (duplex_devices front))
+    nil_behind : filter (either left g.has_failed) (duplex_devices front ++ []) ≡ filter (either left g.has_failed) (duplex_devices front)
+    nil_behind = filter-append (either left g.has_failed) (duplex_devices front) [] ∙ append-nil (filter (either left g.has_failed) (duplex_devices front))
 
-module _ (tells : Type 0) (labelling : Labelling) (items : List Item) (front : List PairRow) (r : PairRow) (failed : List ℕ) (flag : Bool) (a b c : PlantState) (going : Going tells labelling items front failed a b) (duplex : is_duplex r.state ≡ true) (apart : Apart front r)
+-- A duplex pair whose volume is left alone has failed before.
+pub going_left : (tells : Type 0) (labelling : Labelling) (left : ℕ → Bool) (items : List Item) (front : List PairRow) (r : PairRow) (failed : List ℕ) (a b : PlantState) → is_duplex r.state ≡ true → left r.device ≡ true → Going tells labelling left items front failed a b
+    → Going tells labelling left items (front ++ r ∷ []) (failed ++ r.device ∷ []) a b
+going_left tells labelling left items front r failed a b duplex alone g = record {
+  works = works_more tells (Recovers front items) (Recovers (front ++ r ∷ []) items) a b (λ told d x y p. recovers_more front (r ∷ []) items d x y p) g.works;
+  has_failed = g.has_failed;
+  listed =
+      (λ i. g.listed i ++ cond (either_left (sym alone i) (g.has_failed r.device)) (r.device ∷ []) []) ∙ sym (filter-append (either left g.has_failed) (duplex_devices front) (r.device ∷ []))
+      ∙ ap (filter (either left g.has_failed)) (sym (devices_append front r true duplex));
+  are_duplex = λ v is. duplex_before front (r ∷ []) v (g.are_duplex v is);
+  were_fit = g.were_fit;
+  counted = g.counted;
+  redone = λ told. All-push (λ row. is_duplex row.state ≡ true → left row.device ≡ false → g.has_failed row.device ≡ false → IsRedone labelling row items a b) front r (g.redone told) (λ duplex fit. absurd (cc (alone, fit)));
+  stays = g.stays;
+}
+  where
+    either_left : Bool → Bool → Bool
+    either_left one other = one || other
+
+module _ (tells : Type 0) (labelling : Labelling) (left : ℕ → Bool) (items : List Item) (front : List PairRow) (r : PairRow) (failed : List ℕ) (flag : Bool) (a b c : PlantState) (going : Going tells labelling left items front failed a b) (duplex : is_duplex r.state ≡ true) (fit : left r.device ≡ false) (apart : Apart front r)
     (works : Works tells (OfOneVolume r.device (Redoes r.device items)) b c) (counts : (v : ℕ) → v ≢ r.device → c.faults (Volume v) ≡ b.faults (Volume v)) (cause : FailsByCount flag (b.faults (Volume r.device)) (c.faults (Volume r.device)))
     (redone : tells → flag ≡ false → IsRedone labelling r items b c) where
   -- Its volume had not failed, and its count stood.
@@ -247,18 +310,26 @@ module _ (tells : Type 0) (labelling : Labelling) (items : List Item) (front : L
         durable = done.durable;
       }
 
-  pub going_duplex : Going tells labelling items (front ++ r ∷ []) (failed ++ cond flag (r.device ∷ []) []) a c
+  flags_here : either left (with_flag r.device flag going.has_failed) r.device ≡ flag
+  flags_here = (λ i. fit i || flag_here r.device flag going.has_failed i)
+
+  pub going_duplex : Going tells labelling left items (front ++ r ∷ []) (failed ++ cond flag (r.device ∷ []) []) a c
   going_duplex = record {
     works = works_trans tells (Recovers (front ++ r ∷ []) items) (OfOneVolume r.device (Redoes r.device items)) (Recovers (front ++ r ∷ []) items) a b c
         (λ d x y z p q. recovers_one (front ++ r ∷ []) items r.device (duplex_last front r duplex) d x y z p q) (λ d x y p. p)
         (works_more tells (Recovers front items) (Recovers (front ++ r ∷ []) items) a b (λ told d x y p. recovers_more front (r ∷ []) items d x y p) going.works) works;
     has_failed = with_flag r.device flag going.has_failed;
     listed =
-        (λ i. going.listed i ++ cond flag (r.device ∷ []) []) ∙ (λ i. sym (listed_same front r flag going.has_failed apart) i ++ cond (sym (flag_here r.device flag going.has_failed) i) (r.device ∷ []) [])
-        ∙ sym (filter-append (with_flag r.device flag going.has_failed) (duplex_devices front) (r.device ∷ [])) ∙ ap (filter (with_flag r.device flag going.has_failed)) (sym (devices_append front r true duplex));
+        (λ i. going.listed i ++ cond flag (r.device ∷ []) [])
+        ∙ (λ i. sym (listed_same front r (either left (with_flag r.device flag going.has_failed)) (either left going.has_failed) (λ v differ j. left v || flag_other r.device v flag going.has_failed differ j) apart) i ++ cond (sym flags_here i) (r.device ∷ []) [])
+        ∙ sym (filter-append (either left (with_flag r.device flag going.has_failed)) (duplex_devices front) (r.device ∷ [])) ∙ ap (filter (either left (with_flag r.device flag going.has_failed))) (sym (devices_append front r true duplex));
     are_duplex = λ v is. elim (cases_eq v r.device) [
       | inl here ↦ subst (λ (n : ℕ). HasDuplex (front ++ r ∷ []) n) (sym here) (duplex_last front r duplex)
       | inr differ ↦ duplex_before front (r ∷ []) v (going.are_duplex v (sym (flag_other r.device v flag going.has_failed differ) ∙ is))
+    ];
+    were_fit = λ v is. elim (cases_eq v r.device) [
+      | inl here ↦ ap left here ∙ fit
+      | inr differ ↦ going.were_fit v (sym (flag_other r.device v flag going.has_failed differ) ∙ is)
     ];
     counted = λ v. elim (cases_eq v r.device) [
       | inl here ↦ subst (λ (n : ℕ). FailsByCount (with_flag r.device flag going.has_failed n) (a.faults (Volume n)) (c.faults (Volume n))) (sym here)
@@ -266,36 +337,32 @@ module _ (tells : Type 0) (labelling : Labelling) (items : List Item) (front : L
       | inr differ ↦ subst (λ (h : Bool). FailsByCount h (a.faults (Volume v)) (c.faults (Volume v))) (sym (flag_other r.device v flag going.has_failed differ))
           (subst (λ (n : ℕ). FailsByCount (going.has_failed v) (a.faults (Volume v)) n) (sym (counts v differ)) (going.counted v))
     ];
-    redone = λ told. All-push (λ row. is_duplex row.state ≡ true → with_flag r.device flag going.has_failed row.device ≡ false → IsRedone labelling row items a c) front r
-        (λ k d lt is good.
+    redone = λ told. All-push (λ row. is_duplex row.state ≡ true → left row.device ≡ false → with_flag r.device flag going.has_failed row.device ≡ false → IsRedone labelling row items a c) front r
+        (λ k d lt is live good.
         let row = slice_index_or front k d in
         let differ : row.device ≢ r.device = apart k d lt in
-        redone_still told row differ (going.redone told k d lt is (sym (flag_other r.device row.device flag going.has_failed differ) ∙ good)))
-        (λ is good. redone_here told (sym (flag_here r.device flag going.has_failed) ∙ good));
+        redone_still told row differ (going.redone told k d lt is live (sym (flag_other r.device row.device flag going.has_failed differ) ∙ good)))
+        (λ is live good. redone_here told (sym (flag_here r.device flag going.has_failed) ∙ good));
+    stays = λ told v alone.
+        let differ : v ≢ r.device = λ here. let other : left v ≡ false = ap left here ∙ fit in absurd (cc (other, alone)) in
+        let before = going.stays told v alone in (
+          (works.bytes told (Volume v)).1 differ ∙ before.0,
+          follows_then (on a (Volume v)) (on b (Volume v)) (on c (Volume v)) Same (OfOneVolume r.device (Redoes r.device items) (Volume v)) Same ((going.works.elapses told).kept (Volume v)).later before.1 ((works.elapses told).kept (Volume v)) (works.moments told (Volume v))
+              (λ p q here e. e) (λ p q z here there e f. f.1 differ ∙ e),
+        );
   }
 
 -- ---- all pairs
 
-pub going_faulty : (tells : Type 0) (labelling : Labelling) (items : List Item) (rows : List PairRow) (failed : List ℕ) (a b : PlantState) → Going tells labelling items rows failed a b → AreFaulty rows a.faults b.faults failed
-going_faulty tells labelling items rows failed a b g = record { has_failed = g.has_failed; listed = g.listed; are_duplex = g.are_duplex; counted = g.counted }
-
-pub going_redone : (tells : Type 0) (labelling : Labelling) (items : List Item) (rows : List PairRow) (failed : List ℕ) (a b : PlantState) → Going tells labelling items rows failed a b → tells → Redone labelling rows items failed a b
-going_redone tells labelling items rows failed a b g told k d lt duplex good = g.redone told k d lt duplex (by_flag (g.has_failed (slice_index_or rows k d).device) refl)
-  where
-    among : All (λ row. is_duplex row.state ≡ true → g.has_failed row.device ≡ true → Contains failed row.device) rows
-    among = all_listed (Contains failed) g.has_failed rows (subst (λ (l : List ℕ). All (Contains failed) l) g.listed (All-contains_itself failed))
-
-    by_flag : (h : Bool) → g.has_failed (slice_index_or rows k d).device ≡ h → g.has_failed (slice_index_or rows k d).device ≡ false
-    by_flag true is = absurd (good (among k d lt duplex is))
-    by_flag false is = is
-
--- A volume's count rose by one at most, also where the walk could not be read again for the next pair.
-pub stopped_once : (tells : Type 0) (labelling : Labelling) (items : List Item) (front : List PairRow) (failed : List ℕ) (a b c : PlantState) → Going tells labelling items front failed a b → (device : ℕ) → ((v : ℕ) → v ≢ device → c.faults (Volume v) ≡ b.faults (Volume v))
-    → c.faults (Volume device) ≡ b.faults (Volume device) → (v : ℕ) → c.faults (Volume v) ≤ a.faults (Volume v) + 1
-stopped_once tells labelling items front failed a b c g device others stood v = omega (arith, same, (g.counted v).by_one)
-  where
-    same : c.faults (Volume v) ≡ b.faults (Volume v)
-    same = elim (cases_eq v device) [
-      | inl here ↦ subst (λ (n : ℕ). c.faults (Volume n) ≡ b.faults (Volume n)) (sym here) stood
-      | inr differ ↦ others v differ
-    ]
+pub finished : (tells : Type 0) (labelling : Labelling) (left : ℕ → Bool) (rows : List PairRow) (failed : List ℕ) (a b : PlantState) → Going tells labelling left [] rows failed a b → (tells → TreatsLabels labelling rows [] a b) → Finishes tells labelling rows left failed a b
+finished tells labelling left rows failed a b g treats = record {
+  works = g.works;
+  has_failed = g.has_failed;
+  listed = g.listed;
+  are_duplex = g.are_duplex;
+  were_fit = g.were_fit;
+  counted = g.counted;
+  redone = g.redone;
+  stays = g.stays;
+  treats = treats;
+}

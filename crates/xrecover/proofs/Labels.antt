@@ -1,5 +1,5 @@
 -- Labels, from call to call.
-use Rattle.std.proofs.Common.{◌≡◌, ◌≢◌, ◌≤◌, ◌+◌, ◌-◌, inl, inr, ℕ, true, List, [], length, drop, take, Option, Some, None, Result, Ok, Err, OnOk, refl, sym, ◌∙◌, ap, subst, arith}
+use Rattle.std.proofs.Common.{◌≡◌, ◌≢◌, ◌≤◌, ◌+◌, ◌-◌, inl, inr, ℕ, true, List, [], length, drop, take, Option, Some, None, Result, Ok, Err, OnOk, sym, ◌∙◌, ap, subst, arith}
 use Rattle.std.specs.Prelude.{slice_get, slice_index_or, slice_range}
 use Rattle.std.proofs.lemmas.Bool.{cases_eq, cases_lt}
 use Rattle.std.proofs.lemmas.List.{drop-drop}
@@ -10,7 +10,7 @@ use Rattle.ckd_track.specs.SlotPlaces.{slot_place, slot_track}
 use Rattle.crash_plant.specs.declared.device.Device.TheVariants.{Volume}
 use Rattle.crash_plant.specs.Bytes.{Torn}
 use Rattle.crash_plant.specs.Moments.{Standing, PlantState, on, Follows, IsDurable, SamePast, Same}
-use Rattle.crash_plant.proofs.Steps.{follows_here, follows_then}
+use Rattle.crash_plant.proofs.Steps.{follows_then}
 use Rattle.applier.specs.Slots.{BeginsWithTrack, DiffersInSlots}
 use Rattle.pair_table.specs.declared.row.PairRow.{PairRow}
 use Rattle.pair_table.specs.Tables.{none_clash}
@@ -45,7 +45,7 @@ begins_by x b c None same begins = begins
 draws_by : (device : ℕ) (items : List Item) (a b c : List ℕ) → drop 14 c ≡ drop 14 b → Draws device items a b → Draws device items a c
 draws_by device items a b c same draws x has = begins_by x b c (content_through device x items (slot_track a x)) same (draws x has)
 
-slots_label : (v : ℕ) (items : List Item) (b c : List ℕ) → DiffersInSlots v items b c → SameLabel b c
+pub slots_label : (v : ℕ) (items : List Item) (b c : List ℕ) → DiffersInSlots v items b c → SameLabel b c
 slots_label v items b c d = d.others 0 14 (omega arith) (λ x has. inl (omega arith))
 
 -- ---- on one device
@@ -102,25 +102,6 @@ label_last device a b c le f same durable k torn now = last_behind device [] a b
 -- ---- on a plant
 
 module _ (tells : Type 0) (told : tells) where
-  pub label_here : (a : PlantState) (v : ℕ) → KeepsLabel (on a (Volume v)) (on a (Volume v))
-  label_here a v = record { bytes = refl; moments = follows_here (on a (Volume v)) SameLabel (λ b now. refl) }
-
-  -- a record read once more, behind what was done so far
-  pub label_read : (v : ℕ) (a b c : PlantState) → a.clock ≤ b.clock → KeepsLabel (on a (Volume v)) (on b (Volume v)) → ReadsAll tells b c → KeepsLabel (on a (Volume v)) (on c (Volume v))
-  label_read v a b c le k r = record {
-    bytes = ap (λ (l : List ℕ). take 14 l) (r.same told (Volume v)) ∙ k.bytes;
-    moments = follows_then (on a (Volume v)) (on b (Volume v)) (on c (Volume v)) SameLabel Same SameLabel le k.moments ((r.only.elapses told).kept (Volume v)) (r.moments told (Volume v))
-        (λ p q here s. s) (λ p q s here there e e2. ap (λ (l : List ℕ). take 14 l) e2 ∙ e);
-  }
-
-  -- and its items applied
-  pub label_applied : (v : ℕ) (its : List Item) (a b c : PlantState) → a.clock ≤ b.clock → KeepsLabel (on a (Volume v)) (on b (Volume v)) → Works tells (OfOneVolume v (DiffersInSlots v its)) b c → KeepsLabel (on a (Volume v)) (on c (Volume v))
-  label_applied v its a b c le k w = record {
-    bytes = slots_label v its (b.bytes (Volume v)) (c.bytes (Volume v)) ((w.bytes told (Volume v)).0 refl) ∙ k.bytes;
-    moments = follows_then (on a (Volume v)) (on b (Volume v)) (on c (Volume v)) SameLabel (OfOneVolume v (DiffersInSlots v its) (Volume v)) SameLabel le k.moments ((w.elapses told).kept (Volume v)) (w.moments told (Volume v))
-        (λ p q here s. s) (λ p q s here there e d. slots_label v its q s (d.0 refl) ∙ e);
-  }
-
   -- reads, and what follows them
   pub labels_read : (items : List Item) (a b : PlantState) → ReadsAll tells a b → (v : ℕ) → LabelsLast v items (on a (Volume v)) (on b (Volume v))
   labels_read items a b r v = label_kept v items (on a (Volume v)) (on b (Volume v)) (label_same (on a (Volume v)) (on b (Volume v)) (r.moments told (Volume v)))
@@ -214,15 +195,6 @@ bears_then AsItIs row a b c same bears = bears ∙ same
 pub treats_kept : (labelling : Labelling) (row : PairRow) (items : List Item) (a b : PlantState) → KeepsLabel (on a (Volume row.device)) (on b (Volume row.device)) → TreatsLabel labelling row items a b
 treats_kept AsPrimary row items a b k = (label_kept row.device items (on a (Volume row.device)) (on b (Volume row.device)) k.moments, λ quiet. inl k.bytes)
 treats_kept AsItIs row items a b k = k
-
--- The items of the walk were applied, and then the volume was finished.
-pub treats_redone : (labelling : Labelling) (row : PairRow) (items : List Item) (a b c : PlantState) → a.clock ≤ b.clock → KeepsLabel (on a (Volume row.device)) (on b (Volume row.device)) → Draws row.device items (a.bytes (Volume row.device)) (c.bytes (Volume row.device))
-    → a.faults (Volume row.device) ≤ b.faults (Volume row.device) → SamePast (on b (Volume row.device)) (on c (Volume row.device)) → TreatsLabel labelling row [] b c → TreatsLabel labelling row items a c
-treats_redone AsPrimary row items a b c le k draws count kept t = (
-  last_redone row.device items (on a (Volume row.device)) (on b (Volume row.device)) (on c (Volume row.device)) le k.moments draws kept t.0,
-  named_then row a b c k.bytes count t.1,
-)
-treats_redone AsItIs row items a b c le k draws count kept t = keeps_then (on a (Volume row.device)) (on b (Volume row.device)) (on c (Volume row.device)) le k kept t
 
 module _ (tells : Type 0) (told : tells) where
   -- calls that read, and calls behind them

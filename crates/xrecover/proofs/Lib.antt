@@ -1,7 +1,6 @@
 pub mod Relations
 pub mod Works
 pub mod Again
-pub mod Later
 pub mod Labels
 pub mod Rows
 pub mod Deltas
@@ -11,4 +10,7 @@ pub mod Fails
 pub mod Meant
 pub mod Going
 pub mod Stepping
+pub mod LentSides
+pub mod SideRecords
+pub mod RedoneSides
 pub mod Finish

@@ -52,12 +52,6 @@ one_more v one step wider State x y p = p
 one_more v one step wider (Journal j) x y p = p
 one_more v one step wider (Volume w) x y p = (λ e. wider x y (p.0 e), p.1)
 
-pub one_same : (v : ℕ) (step : List ℕ → List ℕ → Type 0) → ((x y : List ℕ) → y ≡ x → step x y) → (d : Device) (x y : List ℕ) → y ≡ x → OfOneVolume v step d x y
-one_same v step same Control x y e = e
-one_same v step same State x y e = e
-one_same v step same (Journal j) x y e = e
-one_same v step same (Volume w) x y e = (λ here. same x y e, λ differs. e)
-
 pub recovers_same : (rows : List PairRow) (items : List Item) (d : Device) (x y : List ℕ) → y ≡ x → Recovers rows items d x y
 recovers_same rows items Control x y e = e
 recovers_same rows items State x y e = e

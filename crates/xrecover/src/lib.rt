@@ -2,16 +2,19 @@
 //! or keep their labels.
 #![tactic(auto)]
 
+mod finishing;
 mod labelling;
 mod meaning;
 mod outcome;
 mod recover_error;
 mod recovering;
 mod redoing;
+mod sides;
 mod volumes;
 
 pub use labelling::Labelling;
 pub use meaning::{examine_session, read_own_mark, read_session};
 pub use outcome::Outcome;
 pub use recover_error::RecoverError;
-pub use recovering::{advance, recover};
+pub use recovering::{advance, recover, redo};
+pub use sides::Tools;

@@ -1,6 +1,6 @@
 //! The recovery of a site.
 
-ghost use Rattle.std.specs.Prelude.{◌≡◌, ◌≤◌, ◌<◌, ◌+◌, [], ℕ, length, vec_capacity, IfOk, IsErrOf, IsTrue, None, Some, Err};
+ghost use Rattle.std.specs.Prelude.{◌≡◌, ◌≤◌, ◌<◌, ◌+◌, [], ℕ, length, vec_capacity, IfOk, IsErrOf, IsTrue, OnErr, None, Some, Err};
 ghost use Rattle.crash_plant.specs.declared.device.Device.{Device as AnyDevice};
 ghost use Rattle.crash_plant.specs.declared.device.Device.TheVariants.{Journal, Volume};
 ghost use Rattle.crash_plant.specs.Moments.{on};
@@ -20,34 +20,30 @@ ghost use Rattle.xrecover.specs.Works.{Nothing, Works};
 ghost use Rattle.xrecover.specs.declared.labelling.Labelling.TheVariants.{AsItIs, AsPrimary};
 ghost use Rattle.xrecover.specs.RedoneVolumes.{Recovers, Redone, meant_rows};
 ghost use Rattle.xrecover.specs.Labels.{AreNamed, KeepsLabels, LabelsLast, TreatsLabels};
+ghost use Rattle.xrecover.specs.SideVolumes.{AreReady};
 ghost use Rattle.xrecover.specs.Sights.{SeesSame, TellsLasting};
 
-use crate::meaning::{is_duplex, read_recoverable};
-use crate::redoing::redo_pair;
-use crate::volumes::Tools;
-use crate::{Labelling, Outcome, RecoverError};
+use crate::finishing::finish_pairs;
+use crate::meaning::read_recoverable;
+use crate::redoing::redo_walk;
+use crate::{Labelling, Outcome, RecoverError, Tools};
 use crash_plant::Plant;
 use pair_table::DeviceList;
-use site_means::{SiteReading, longest_body};
+use site_means::SiteReading;
 use std::alloc::Global;
 use std::thread::Threads;
 use tod_stamp::Session;
-use xrc_edge::NoMemory;
 
-/// A list with no device, and with room for so many.
-fn make_room(alloc: Global, devices: u16) -> Result<Vec<u16>, NoMemory>
-    ensures empty { IfOk result (λ room. room.items ≡ []) }
-    ensures room { IfOk result (λ room. devices ≤ vec_capacity room) }
-{
-    Ok(Vec::with_capacity(alloc, usize::from(devices))?)
-}
-
-/// Redoes the duplex pairs in the order of their rows, and puts the devices that failed into the list. It takes no memory.
-fn redo_pairs<P: Plant>(
+/// Redoes what was read of a site: the walk's items are put on the volumes of the duplex pairs, record by record and side by side. Then,
+/// in the order of the rows, each volume is synced, and labelled where that is asked for. It takes no memory.
+///
+/// A volume is left at its first fault, and the others are done. A journal that fails, where its records are read again, ends it; no
+/// label was written then.
+pub fn redo<R: Threads + Sync, P: Plant>(
+    rt: &R,
     plant: &mut P,
     reading: &SiteReading,
-    tools: Tools,
-    failed: Vec<u16>,
+    tools: Tools<P::Volume>,
     labelling: Labelling,
 ) -> Result<DeviceList, RecoverError>
     requires home { NoneLent (P.state plant.old) }
@@ -55,35 +51,34 @@ fn redo_pairs<P: Plant>(
     requires big { first_small (P.state plant.old) reading.now.means.table.rows ≡ None }
     requires spot { HasSpot (P.state plant.old) reading.now.mark.at }
     requires long { (j : ℕ) → j < (P.state plant.old).journals → 1 ≤ (P.state plant.old).lengths (Journal j) }
-    requires room { HoldsEveryBody (P.state plant.old) tools.body.room }
+    requires ready { AreReady (P.state plant.old) reading.now.means.table.rows tools }
     requires read { P.tells → IsRead (P.state plant.old) reading.now }
-    requires empty { failed.items ≡ [] }
-    requires places { length reading.now.means.table.rows ≤ vec_capacity failed }
+    // Only slots of tracks of which the walk has an item, and labels, differ on the volumes of duplex pairs.
     ensures works { Works P.tells (Recovers reading.now.means.table.rows (walked (P.state plant.old) (P.state plant.old).bytes)) (P.state plant.old) (P.state plant.new) }
+    // Which devices failed, and which volumes are redone.
     ensures failed { IfOk result (AreFaulty reading.now.means.table.rows (P.state plant.old).faults (P.state plant.new).faults) }
     ensures redone { P.tells → IfOk result (λ failed. Redone labelling reading.now.means.table.rows (walked (P.state plant.old) (P.state plant.old).bytes) failed (P.state plant.old) (P.state plant.new)) }
+    // What becomes of labels. Where a journal failed each stays.
     ensures treats { P.tells → TreatsLabels labelling reading.now.means.table.rows (walked (P.state plant.old) (P.state plant.old).bytes) (P.state plant.old) (P.state plant.new) }
+    ensures unlabelled { P.tells → OnErr result (KeepsLabels (P.state plant.old) (P.state plant.new)) }
+    // Why it fails, and which counts rise.
     ensures once { (v : ℕ) → (P.state plant.new).faults (Volume v) ≤ (P.state plant.old).faults (Volume v) + 1 }
     ensures late { P.tells → (e : RecoverErrorValue) → IsErrOf result e → IsLate (P.state plant.old) e }
     ensures fault { TellsFaults (P.state plant.old).faults (P.state plant.new).faults (λ d. IsErrOf result (Site (Fault d))) }
 {
-    let mut failed = failed;
-    let mut tools = tools;
-    for place in 0..reading.means.table.len() {
-        let row = *reading.means.table.row(place).unwrap();
-        if is_duplex(row.state) {
-            let (again, has_failed) = redo_pair(plant, &reading.mark, &row, tools, labelling)?;
-            tools = again;
-            if has_failed {
-                failed.push_reserved(row.device);
-            }
-        }
-    }
-    Ok(DeviceList::of(failed))
+    let Tools {
+        mut body,
+        mut jobs,
+        lent,
+        failed,
+    } = tools;
+    redo_walk(rt, plant, &reading.mark, &mut body, &mut jobs, &lent)?;
+    Ok(finish_pairs(plant, &reading.means.table, &jobs, failed, labelling))
 }
 
 /// Redoes a session's site, the same for both calls but for labels.
-pub(crate) fn redo_site<P: Plant>(
+pub(crate) fn redo_site<R: Threads + Sync, P: Plant>(
+    rt: &R,
     alloc: Global,
     plant: &mut P,
     session: Session,
@@ -103,17 +98,16 @@ pub(crate) fn redo_site<P: Plant>(
     ensures unwritten { (e : RecoverErrorValue) → IsErrOf result e → IsEarly e → Works P.tells Nothing (P.state plant.old) (P.state plant.new) }
 {
     let reading = read_recoverable(alloc, plant, session)?;
-    let tools = Tools::make(alloc, longest_body(plant))?;
-    let room = make_room(alloc, reading.means.table.len())?;
-    let failed = redo_pairs(plant, &reading, tools, room, labelling)?;
+    let tools = Tools::make(alloc, plant, &reading.means.table)?;
+    let failed = redo(rt, plant, &reading, tools, labelling)?;
     Ok(Outcome {
         means: reading.means,
         failed,
     })
 }
 
-/// Recovers a session's site: on the volume of each duplex pair, in the order of the rows, each track of which the journals' walk has
-/// an item gets its content, and after a sync the label gets the primary's serial and the pair's cylinders. Nothing else is written.
+/// Recovers a session's site: on the volume of each duplex pair each track of which the journals' walk has an item gets its
+/// content, record by record and side by side. Then, in the order of the rows, each is synced, and the label gets the primary's serial and the pair's cylinders. Nothing else is written.
 /// A volume that fails is left at its first fault, and the other pairs are done.
 ///
 /// The control, the state and each journal that the walk enters are synced before they are read first, and no volume is written before.
@@ -123,7 +117,7 @@ pub(crate) fn redo_site<P: Plant>(
 /// mean is answered before anything is written, and so are the first duplex pair's volume that is too small for its cylinders, and
 /// want of memory. Only a journal's fault, where its items are read again, can come later.
 pub fn recover<R: Threads + Sync, P: Plant>(
-    _rt: &R,
+    rt: &R,
     alloc: Global,
     plant: &mut P,
     session: Session,
@@ -154,14 +148,14 @@ pub fn recover<R: Threads + Sync, P: Plant>(
     // All answers but a journal's fault come before anything is written, want of memory too.
     ensures unwritten { (e : RecoverErrorValue) → IsErrOf result e → IsEarly e → Works P.tells Nothing (P.state plant.old) (P.state plant.new) }
 {
-    redo_site(alloc, plant, session, Labelling::AsPrimary)
+    redo_site(rt, alloc, plant, session, Labelling::AsPrimary)
 }
 
 /// Advances a session's site: on the volume of each duplex pair, in the order of the rows, each track of which the journals' walk has an
 /// item gets its content, and then the volume is synced. Nothing else is written, and no label is. What it answers, and when, is as of
 /// `recover`.
 pub fn advance<R: Threads + Sync, P: Plant>(
-    _rt: &R,
+    rt: &R,
     alloc: Global,
     plant: &mut P,
     session: Session,
@@ -190,5 +184,5 @@ pub fn advance<R: Threads + Sync, P: Plant>(
     // All answers but a journal's fault come before anything is written, want of memory too.
     ensures unwritten { (e : RecoverErrorValue) → IsErrOf result e → IsEarly e → Works P.tells Nothing (P.state plant.old) (P.state plant.new) }
 {
-    redo_site(alloc, plant, session, Labelling::AsItIs)
+    redo_site(rt, alloc, plant, session, Labelling::AsItIs)
 }

@@ -1,6 +1,6 @@
-//! The items of the walk, redone on a volume.
+//! The walk, read once more, and its items redone.
 
-ghost use Rattle.std.specs.Prelude.{◌≡◌, ◌≢◌, ◌≤◌, ◌<◌, ◌+◌, ◌^◌, ℕ, min, false, IfOk, IfSome, OnErr, IsErrOf};
+ghost use Rattle.std.specs.Prelude.{◌≡◌, ◌≢◌, ◌≤◌, ◌<◌, ◌+◌, ◌^◌, ℕ, min, false, IfOk, IfSome, IsErrOf, OnOk};
 ghost use Rattle.crash_plant.specs.declared.device.Device.TheVariants.{Journal, Volume};
 ghost use Rattle.crash_plant.specs.Moments.{on};
 ghost use Rattle.crash_plant.specs.Calls.{NoneLent};
@@ -14,16 +14,15 @@ ghost use Rattle.site_means.specs.Sight.{walked};
 ghost use Rattle.site_means.specs.Steps.{HoldsEveryBody};
 ghost use Rattle.xrecover.specs.Answers.{HasWalk, TellsFaults};
 ghost use Rattle.xrecover.specs.Rereading.{FoundAgain, IsBehind, IsWalkFault};
-ghost use Rattle.xrecover.specs.Works.{OfOneVolume, Works};
-ghost use Rattle.xrecover.specs.RedoneVolumes.{Draws, IsRedone, Redoes};
-ghost use Rattle.xrecover.specs.Labels.{KeepsLabel, TreatsLabel};
+ghost use Rattle.xrecover.specs.RedoneVolumes.{Draws};
+ghost use Rattle.xrecover.specs.SideVolumes.{AppliesSides, AreHome, AreSet, is_left};
 
-use crate::Labelling;
-use crate::volumes::{Tools, apply_body, finish_volume};
+use crate::sides::apply_record;
+use applier::VolumeJob;
 use control_set::Mark;
 use crash_plant::{Device, Plant, Spot};
-use pair_table::PairRow;
 use site_means::SiteError;
+use std::thread::Threads;
 use tod_stamp::Stamp;
 use xrc_journal::{Body, WalkError, Walked, walk};
 
@@ -57,78 +56,37 @@ fn read_again<P: Plant>(
     }
 }
 
-/// Applies the items of the walk from a mark to a volume, record by record. True where the volume failed, at its first fault.
-pub(crate) fn redo_items<P: Plant>(
+/// Applies the items of the walk from a mark, record by record, to the volumes that aren't left alone. One that fails is left alone from
+/// then on.
+pub(crate) fn redo_walk<R: Threads + Sync, P: Plant>(
+    rt: &R,
     plant: &mut P,
     mark: &Mark,
-    device: u16,
-    tools: Tools,
-) -> Result<(Tools, bool), SiteError>
+    body: &mut Body,
+    jobs: &mut [VolumeJob<P::Volume>],
+    lent: &[bool],
+) -> Result<(), SiteError>
     requires home { NoneLent (P.state plant.old) }
-    requires there { device < (P.state plant.old).volumes }
     requires spot { HasSpot (P.state plant.old) mark.now.at }
     requires long { (j : ℕ) → j < (P.state plant.old).journals → 1 ≤ (P.state plant.old).lengths (Journal j) }
-    requires room { HoldsEveryBody (P.state plant.old) tools.body.room }
+    requires room { HoldsEveryBody (P.state plant.old) body.old.room }
+    requires jobs { AreHome (P.state plant.old).volumes jobs.old }
+    requires lent { AreSet (P.state plant.old).volumes lent.now }
     requires walk { P.tells → HasWalk (P.state plant.old) mark.now }
-    ensures room { IfOk result (λ r. r.0.body.room ≡ tools.body.room) }
-    ensures works { Works P.tells (OfOneVolume device (Redoes device (walked (P.state plant.old) (P.state plant.old).bytes))) (P.state plant.old) (P.state plant.new) }
-    ensures failed { IfOk result (λ r. FailsByCount r.1 ((P.state plant.old).faults (Volume device)) ((P.state plant.new).faults (Volume device))) }
-    ensures stood { OnErr result ((P.state plant.new).faults (Volume device) ≡ (P.state plant.old).faults (Volume device)) }
-    ensures counts { (v : ℕ) → v ≢ device → (P.state plant.new).faults (Volume v) ≡ (P.state plant.old).faults (Volume v) }
-    ensures label { P.tells → KeepsLabel (on (P.state plant.old) (Volume device)) (on (P.state plant.new) (Volume device)) }
-    ensures content { P.tells → IfOk result (λ r. r.1 ≡ false → Draws device (walked (P.state plant.old) (P.state plant.old).bytes) ((P.state plant.old).bytes (Volume device)) ((P.state plant.new).bytes (Volume device))) }
-    ensures memory { ¬ IsErrOf result NoMemory }
+    ensures jobs { AreHome (P.state plant.new).volumes jobs.new }
+    ensures applies { AppliesSides P.tells (walked (P.state plant.old) (P.state plant.old).bytes) (is_left jobs.old) (is_left jobs.new) (P.state plant.old) (P.state plant.new) }
+    ensures content { P.tells → OnOk result ((v : ℕ) → is_left jobs.new v ≡ false → Draws v (walked (P.state plant.old) (P.state plant.old).bytes) ((P.state plant.old).bytes (Volume v)) ((P.state plant.new).bytes (Volume v))) }
     ensures told { P.tells → (e : SiteErrorValue) → IsErrOf result e → IsWalkFault (P.state plant.old) e }
     ensures fault { TellsFaults (P.state plant.old).faults (P.state plant.new).faults (λ d. IsErrOf result (Fault d)) }
 {
     let mut at = mark.at;
     let mut last = mark.time;
-    let mut tools = tools;
     loop {
-        let Some((time, after)) = read_again(plant, at, last, &mut tools.body)? else {
-            return Ok((tools, false));
+        let Some((time, after)) = read_again(plant, at, last, body)? else {
+            return Ok(());
         };
-        let (again, failed) = apply_body(plant, device, tools);
-        if failed {
-            return Ok((again, true));
-        }
-        tools = again;
+        apply_record(rt, plant, body, jobs, lent);
         at = after;
         last = time;
     }
-}
-
-/// Redoes a duplex pair: the items of the walk, and then the label where that is asked for, each synced before the next. True where the
-/// volume failed.
-pub(crate) fn redo_pair<P: Plant>(
-    plant: &mut P,
-    mark: &Mark,
-    row: &PairRow,
-    tools: Tools,
-    labelling: Labelling,
-) -> Result<(Tools, bool), SiteError>
-    requires home { NoneLent (P.state plant.old) }
-    requires there { row.now.device < (P.state plant.old).volumes }
-    requires label { 14 ≤ (P.state plant.old).lengths (Volume row.now.device) }
-    requires spot { HasSpot (P.state plant.old) mark.now.at }
-    requires long { (j : ℕ) → j < (P.state plant.old).journals → 1 ≤ (P.state plant.old).lengths (Journal j) }
-    requires room { HoldsEveryBody (P.state plant.old) tools.body.room }
-    requires walk { P.tells → HasWalk (P.state plant.old) mark.now }
-    ensures room { IfOk result (λ r. r.0.body.room ≡ tools.body.room) }
-    ensures works { Works P.tells (OfOneVolume row.now.device (Redoes row.now.device (walked (P.state plant.old) (P.state plant.old).bytes))) (P.state plant.old) (P.state plant.new) }
-    ensures failed { IfOk result (λ r. FailsByCount r.1 ((P.state plant.old).faults (Volume row.now.device)) ((P.state plant.new).faults (Volume row.now.device))) }
-    ensures stood { OnErr result ((P.state plant.new).faults (Volume row.now.device) ≡ (P.state plant.old).faults (Volume row.now.device)) }
-    ensures counts { (v : ℕ) → v ≢ row.now.device → (P.state plant.new).faults (Volume v) ≡ (P.state plant.old).faults (Volume v) }
-    ensures treats { P.tells → TreatsLabel labelling row.now (walked (P.state plant.old) (P.state plant.old).bytes) (P.state plant.old) (P.state plant.new) }
-    ensures redone { P.tells → IfOk result (λ r. r.1 ≡ false → IsRedone labelling row.now (walked (P.state plant.old) (P.state plant.old).bytes) (P.state plant.old) (P.state plant.new)) }
-    ensures memory { ¬ IsErrOf result NoMemory }
-    ensures told { P.tells → (e : SiteErrorValue) → IsErrOf result e → IsWalkFault (P.state plant.old) e }
-    ensures fault { TellsFaults (P.state plant.old).faults (P.state plant.new).faults (λ d. IsErrOf result (Fault d)) }
-{
-    let (tools, failed) = redo_items(plant, mark, row.device, tools)?;
-    if failed {
-        return Ok((tools, true));
-    }
-    let failed = finish_volume(plant, row, labelling);
-    Ok((tools, failed))
 }
