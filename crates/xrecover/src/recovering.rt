@@ -107,7 +107,8 @@ pub(crate) fn redo_site<R: Threads + Sync, P: Plant>(
 }
 
 /// Recovers a session's site: on the volume of each duplex pair each track of which the journals' walk has an item gets its
-/// content, record by record and side by side. Then, in the order of the rows, each is synced, and the label gets the primary's serial and the pair's cylinders. Nothing else is written.
+/// content, record by record and side by side. Then, in the order of the rows, each is synced, and the label gets the primary's serial
+/// and the pair's cylinders. Nothing else is written.
 /// A volume that fails is left at its first fault, and the other pairs are done.
 ///
 /// The control, the state and each journal that the walk enters are synced before they are read first, and no volume is written before.
@@ -151,8 +152,8 @@ pub fn recover<R: Threads + Sync, P: Plant>(
     redo_site(rt, alloc, plant, session, Labelling::AsPrimary)
 }
 
-/// Advances a session's site: on the volume of each duplex pair, in the order of the rows, each track of which the journals' walk has an
-/// item gets its content, and then the volume is synced. Nothing else is written, and no label is. What it answers, and when, is as of
+/// Advances a session's site: on the volume of each duplex pair each track of which the journals' walk has an item gets its content,
+/// and then, in the order of the rows, each is synced. Nothing else is written, and no label is. What it answers, and when, is as of
 /// `recover`.
 pub fn advance<R: Threads + Sync, P: Plant>(
     rt: &R,

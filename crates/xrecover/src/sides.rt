@@ -13,7 +13,7 @@ ghost use Rattle.xrecover.specs.Pairs.{is_duplex_of};
 ghost use Rattle.xrecover.specs.SideVolumes.{AppliesSides, AreHome, AreReady, AreSet, is_left};
 
 use crate::meaning::is_duplex;
-use applier::{VolumeJob, apply_all, give_back_all, lend_all};
+use applier::{VolumeJob, apply_body, give_back_all, lend_all};
 use ckd_track::Slot;
 use crash_plant::Plant;
 use pair_table::PairTable;
@@ -97,7 +97,8 @@ impl<V: Drop> Tools<V> {
     }
 }
 
-/// Applies the items of a record to the volumes that aren't left alone, side by side: they are lent, written, and given back.
+/// Applies the items of a record to the volumes that aren't left alone, side by side where they are many bytes: they are lent, written,
+/// and given back.
 pub(crate) fn apply_record<R: Threads + Sync, P: Plant>(
     rt: &R,
     plant: &mut P,
@@ -115,6 +116,6 @@ pub(crate) fn apply_record<R: Threads + Sync, P: Plant>(
     ensures counts { (d : AnyDevice) → IsExamined d → (P.state plant.new).faults d ≡ (P.state plant.old).faults d }
 {
     lend_all(plant, jobs, lent);
-    apply_all(rt, body, jobs);
+    apply_body(rt, body, jobs);
     give_back_all(plant, jobs);
 }

@@ -17,8 +17,8 @@ lend_all-requires-clause-apart g c κs within i j d less lt same = omega (arith,
 pub lend_all-requires-clause-idle : goal.lend_all-requires-clause-idle
 lend_all-requires-clause-idle g c κs within k d lt = c.requires.jobs.idle k d lt
 
-pub apply_all-requires-after_bounds : goal.apply_all-requires-after_bounds
-apply_all-requires-after_bounds g c κs within =
+pub apply_body-requires-after_bounds : goal.apply_body-requires-after_bounds
+apply_body-requires-after_bounds g c κs within =
     let start = g.P.Plant.state c.args.plant.now in
     let l : Lent g.P.Plant.tells g.P.Volume.Disk.tells g.P.Volume.Disk.state start (g.P.Plant.state c.lend_all.new.plant) c.args.jobs.now c.lend_all.new.jobs c.args.lent.now =
     record { home = c.requires.jobs; set = c.requires.lent; same = c.lend_all.ensures.same; lends = c.lend_all.ensures.jobs; out = c.lend_all.ensures.out } in
@@ -30,8 +30,8 @@ give_back_all-requires-clause-out g c κs within =
     let own = g.P.Volume.Disk.tells in
     let state = g.P.Volume.Disk.state in
     let lent = c.lend_all.new.jobs in
-    let given = c.apply_all.new.jobs in
-    (c.args.plant.now, lent, worked_on g.P.Plant.tells own state (g.P.Plant.state c.args.plant.now) (g.P.Plant.state c.lend_all.new.plant) lent lent given c.lend_all.ensures.out (applied_worked state own c.args.body.now.items lent given c.apply_all.ensures.same c.apply_all.ensures.each))
+    let given = c.apply_body.new.jobs in
+    (c.args.plant.now, lent, worked_on g.P.Plant.tells own state (g.P.Plant.state c.args.plant.now) (g.P.Plant.state c.lend_all.new.plant) lent lent given c.lend_all.ensures.out (applied_worked state own c.args.body.now.items lent given c.apply_body.ensures.same c.apply_body.ensures.each))
 
 pub returns : goal.returns
 returns g c =
@@ -43,17 +43,17 @@ returns g c =
     let end = g.P.Plant.state c.give_back_all.new.plant in
     let old = c.args.jobs.now in
     let lent = c.lend_all.new.jobs in
-    let given = c.apply_all.new.jobs in
+    let given = c.apply_body.new.jobs in
     let flags = c.args.lent.now in
     let items = c.args.body.now.items in
-    let worked = applied_worked state own items lent given c.apply_all.ensures.same c.apply_all.ensures.each in
+    let worked = applied_worked state own items lent given c.apply_body.ensures.same c.apply_body.ensures.each in
     let out = worked_on tells own state start mid lent lent given c.lend_all.ensures.out worked in
     let is = c.give_back_all.ensures.jobs in
     let s : Sides tells own state start mid end old lent given flags items = record {
       first = record { home = c.requires.jobs; set = c.requires.lent; same = c.lend_all.ensures.same; lends = c.lend_all.ensures.jobs; out = c.lend_all.ensures.out };
       worked = worked;
       back = c.give_back_all.ensures.back c.args.plant.now lent out;
-      each = λ i d lt. c.apply_all.ensures.each i d lt;
+      each = λ i d lt. c.apply_body.ensures.each i d lt;
     } in
     record {
       jobs = subst (λ (l : List (VolumeJob _)). AreHome end.volumes l) (sym is) (home_again tells own state start mid end old lent given flags items s);
