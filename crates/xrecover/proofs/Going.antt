@@ -17,7 +17,7 @@ use Rattle.site_means.proofs.ReadAll.{reads_none}
 use Rattle.xrc_journal.specs.Items.{Item}
 use Rattle.xrc_journal.specs.Jobs.{FailsByCount}
 use Rattle.xrecover.specs.Pairs.{HasDuplex, duplex_devices, is_duplex, is_duplex_of}
-use Rattle.xrecover.specs.Finishes.{Finishes}
+use Rattle.xrecover.specs.FinishedPairs.{FinishesPairs}
 use Rattle.xrecover.specs.Labels.{TreatsLabels}
 use Rattle.xrecover.specs.Works.{Nothing, OfOneVolume, Works}
 use Rattle.xrecover.specs.declared.labelling.Labelling.{Labelling}
@@ -354,7 +354,7 @@ module _ (tells : Type 0) (labelling : Labelling) (left : ℕ → Bool) (items :
 
 -- ---- all pairs
 
-pub finished : (tells : Type 0) (labelling : Labelling) (left : ℕ → Bool) (rows : List PairRow) (failed : List ℕ) (a b : PlantState) → Going tells labelling left [] rows failed a b → (tells → TreatsLabels labelling rows [] a b) → Finishes tells labelling rows left failed a b
+pub finished : (tells : Type 0) (labelling : Labelling) (left : ℕ → Bool) (rows : List PairRow) (failed : List ℕ) (a b : PlantState) → Going tells labelling left [] rows failed a b → (tells → TreatsLabels labelling rows [] a b) → FinishesPairs tells labelling rows left failed a b
 finished tells labelling left rows failed a b g treats = record {
   works = g.works;
   has_failed = g.has_failed;

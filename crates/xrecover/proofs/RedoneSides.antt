@@ -14,7 +14,7 @@ use Rattle.xrc_journal.specs.Jobs.{FailsByCount}
 use Rattle.applier.specs.Slots.{DiffersInSlots}
 use Rattle.xrecover.specs.declared.labelling.Labelling.{Labelling}
 use Rattle.xrecover.specs.declared.labelling.Labelling.TheVariants.{AsPrimary, AsItIs}
-use Rattle.xrecover.specs.Finishes.{Finishes}
+use Rattle.xrecover.specs.FinishedPairs.{FinishesPairs}
 use Rattle.xrecover.specs.Labels.{KeepsLabels, LabelsLast, TreatsLabels}
 use Rattle.xrecover.specs.Pairs.{AreFaulty, HasDuplex, duplex_devices, is_duplex, is_duplex_of}
 use Rattle.xrecover.specs.RedoneVolumes.{Draws, Recovers, Redone, SameLabel}
@@ -81,7 +81,7 @@ module _ (tells : Type 0) (rows : List PairRow) (items : List Item) (was left : 
 
   -- ---- and the volumes finished
 
-  module _ (labelling : Labelling) (failed : List ℕ) (c : PlantState) (fin : Finishes tells labelling rows left failed b c) where
+  module _ (labelling : Labelling) (failed : List ℕ) (c : PlantState) (fin : FinishesPairs tells labelling rows left failed b c) where
     both : (d : Device) (x y z : List ℕ) → Recovers rows items d x y → Recovers rows [] d y z → Recovers rows items d x z
     both Control x y z p q = q ∙ p
     both State x y z p q = q ∙ p

@@ -1,7 +1,7 @@
 pub mod Pairs
 pub mod Works
 pub mod SideVolumes
-pub mod Finishes
+pub mod FinishedPairs
 pub mod RedoneVolumes
 pub mod Labels
 pub mod Answers

@@ -15,12 +15,12 @@ use Rattle.xrecover.specs.Works.{Works}
 
 -- ---- jobs
 
-abbrev pub is_done : {V : Type 0} → VolumeJob V → Bool
-is_done job = job.failed
+abbrev pub is_left_alone : {V : Type 0} → VolumeJob V → Bool
+is_left_alone job = job.failed
 
 -- whether a volume is left alone: its job is, or it has none
 abbrev pub is_left : {V : Type 0} → List (VolumeJob V) → (volume : ℕ) → Bool
-is_left jobs v = slice_index_or (map is_done jobs) v true
+is_left jobs v = slice_index_or (map is_left_alone jobs) v true
 
 -- Each job is that of the volume of its place, which isn't lent.
 pub record AreHome {V : Type 0} (volumes : ℕ) (jobs : List (VolumeJob V)) : Type 0 where
@@ -34,7 +34,7 @@ pub record AreSet (count : ℕ) (flags : List Bool) : Type 0 where
   pub set : All (λ flag. flag ≡ true) flags
 
 -- The tools have room for every record, and a job for each volume. Those of duplex pairs aren't left alone, and no device has failed.
-pub record AreReady {V : Type 0} (plant : PlantState) (rows : List PairRow) (tools : Tools V) : Type 0 where
+pub record AreToolsReady {V : Type 0} (plant : PlantState) (rows : List PairRow) (tools : Tools V) : Type 0 where
   pub room : HoldsEveryBody plant tools.body.room
   pub jobs : AreHome plant.volumes tools.jobs.items
   pub lent : AreSet plant.volumes tools.lent.items

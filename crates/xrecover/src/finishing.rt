@@ -7,7 +7,7 @@ ghost use Rattle.crash_plant.specs.declared.device.Device.TheVariants.{Volume};
 ghost use Rattle.pair_table.specs.Tables.{are_below};
 ghost use Rattle.site_means.specs.Answers.{IsExamined};
 ghost use Rattle.xrecover.specs.Pairs.{first_small};
-ghost use Rattle.xrecover.specs.Finishes.{Finishes, FinishesVolume};
+ghost use Rattle.xrecover.specs.FinishedPairs.{FinishesPairs, FinishesVolume};
 ghost use Rattle.xrecover.specs.SideVolumes.{AreHome, is_left};
 
 use crate::Labelling;
@@ -51,7 +51,7 @@ pub(crate) fn finish_pairs<P: Plant>(
     requires jobs { AreHome (P.state plant.old).volumes jobs.now }
     requires empty { failed.items ≡ [] }
     requires places { length table.now.rows ≤ vec_capacity failed }
-    ensures finishes { Finishes P.tells labelling table.now.rows (is_left jobs.now) result (P.state plant.old) (P.state plant.new) }
+    ensures finishes { FinishesPairs P.tells labelling table.now.rows (is_left jobs.now) result (P.state plant.old) (P.state plant.new) }
     ensures counts { (d : AnyDevice) → IsExamined d → (P.state plant.new).faults d ≡ (P.state plant.old).faults d }
 {
     let mut failed = failed;

@@ -20,7 +20,7 @@ ghost use Rattle.xrecover.specs.Works.{Nothing, Works};
 ghost use Rattle.xrecover.specs.declared.labelling.Labelling.TheVariants.{AsItIs, AsPrimary};
 ghost use Rattle.xrecover.specs.RedoneVolumes.{Recovers, Redone, meant_rows};
 ghost use Rattle.xrecover.specs.Labels.{AreNamed, KeepsLabels, LabelsLast, TreatsLabels};
-ghost use Rattle.xrecover.specs.SideVolumes.{AreReady};
+ghost use Rattle.xrecover.specs.SideVolumes.{AreToolsReady};
 ghost use Rattle.xrecover.specs.Sights.{SeesSame, TellsLasting};
 
 use crate::finishing::finish_pairs;
@@ -51,7 +51,7 @@ pub fn redo<R: Threads + Sync, P: Plant>(
     requires big { first_small (P.state plant.old) reading.now.means.table.rows ≡ None }
     requires spot { HasSpot (P.state plant.old) reading.now.mark.at }
     requires long { (j : ℕ) → j < (P.state plant.old).journals → 1 ≤ (P.state plant.old).lengths (Journal j) }
-    requires ready { AreReady (P.state plant.old) reading.now.means.table.rows tools }
+    requires ready { AreToolsReady (P.state plant.old) reading.now.means.table.rows tools }
     requires read { P.tells → IsRead (P.state plant.old) reading.now }
     // Only slots of tracks of which the walk has an item, and labels, differ on the volumes of duplex pairs.
     ensures works { Works P.tells (Recovers reading.now.means.table.rows (walked (P.state plant.old) (P.state plant.old).bytes)) (P.state plant.old) (P.state plant.new) }

@@ -10,7 +10,7 @@ ghost use Rattle.xrc_journal.specs.Items.{AreItems, form_of};
 ghost use Rattle.applier.specs.Slots.{HoldsContent};
 ghost use Rattle.site_means.specs.Answers.{IsExamined};
 ghost use Rattle.xrecover.specs.Pairs.{is_duplex_of};
-ghost use Rattle.xrecover.specs.SideVolumes.{AppliesSides, AreHome, AreReady, AreSet, is_left};
+ghost use Rattle.xrecover.specs.SideVolumes.{AppliesSides, AreHome, AreToolsReady, AreSet, is_left};
 
 use crate::meaning::is_duplex;
 use applier::{VolumeJob, apply_body, give_back_all, lend_all};
@@ -82,7 +82,7 @@ impl<V: Drop> Tools<V> {
         table: &PairTable,
     ) -> Result<Tools<V>, NoMemory>
         requires below { IsTrue (are_below (P.state plant.now).volumes table.now.rows) }
-        ensures { IfOk result (λ tools. AreReady (P.state plant.now) table.now.rows tools) }
+        ensures { IfOk result (λ tools. AreToolsReady (P.state plant.now) table.now.rows tools) }
     {
         let body = Body::make(alloc, longest_body(plant))?;
         let jobs = jobs_of(alloc, plant.volumes(), table)?;

@@ -5,7 +5,7 @@ use Rattle.std.proofs.lemmas.List.{append-nil, take_all}
 use Rattle.crash_plant.specs.Moments.{PlantState}
 use Rattle.pair_table.specs.declared.row.PairRow.{PairRow}
 use Rattle.site_means.proofs.ReadAll.{reads_none}
-use Rattle.xrecover.specs.Finishes.{Finishes}
+use Rattle.xrecover.specs.FinishedPairs.{FinishesPairs}
 use Rattle.xrecover.specs.Labels.{TreatsLabels}
 use Rattle.xrecover.specs.SideVolumes.{is_left}
 use Rattle.xrecover.proofs.Going.{Going, finished, going_first}
@@ -92,7 +92,7 @@ returns-clause-finishes g c =
     let whole : take c.loop-place.place rows ≡ rows = take_all c.loop-place.place rows (omega (arith, c.len-place-end.ensures.count, c.loop-place-test.false)) in
     let going = subst (λ (l : List PairRow). Going g.P.Plant.tells c.args.labelling left [] l c.loop-place.failed.items old cur) whole c.loop-place.invariant.going in
     let told_of : c.of.result ≡ c.loop-place.failed.items = search rules in
-    subst (λ (l : List ℕ). Finishes g.P.Plant.tells c.args.labelling rows left l old cur) (sym told_of) (finished g.P.Plant.tells c.args.labelling left rows c.loop-place.failed.items old cur going c.loop-place.invariant.treats)
+    subst (λ (l : List ℕ). FinishesPairs g.P.Plant.tells c.args.labelling rows left l old cur) (sym told_of) (finished g.P.Plant.tells c.args.labelling left rows c.loop-place.failed.items old cur going c.loop-place.invariant.treats)
 
 pub loop-place-preserved : goal.loop-place-preserved
 loop-place-preserved g c =

@@ -9,7 +9,7 @@ use Rattle.xrecover.specs.declared.recover_error.RecoverError.TheVariants.{Site}
 use Rattle.xrecover.specs.Answers.{TellsFaults}
 use Rattle.xrecover.specs.Labels.{KeepsLabels}
 use Rattle.xrc_journal.specs.declared.job.VolumeJob.{VolumeJob}
-use Rattle.xrecover.specs.Finishes.{Finishes}
+use Rattle.xrecover.specs.FinishedPairs.{FinishesPairs}
 use Rattle.xrecover.specs.SideVolumes.{AppliesSides, AreHome, is_left}
 use Rattle.xrecover.proofs.Fails.{tells_none, tells_site}
 use Rattle.xrecover.proofs.Meant.{read_walk, small_same}
@@ -121,7 +121,7 @@ returns-clause-works g c =
     let value : c.deref_mut.result.now ≡ was = search rules in
     let walk = subst (λ (l : List (VolumeJob _)). AppliesSides g.P.Plant.tells items (is_left l) (is_left now) a b) value c.redo_walk.ensures.applies in
     let after : c.deref-2.result.now ≡ now = c.deref-2.ensures.value ∙ written_whole c.args.tools.jobs.len c.redo_walk.new.jobs c.args.tools.jobs.items (omega (arith, c.redo_walk.ensures.jobs.count, c.redo_walk.ensures.applies.works.site.volumes, c.requires.ready.jobs.count)) (omega (arith, c.args.tools.jobs.ok.0)) in
-    let fin = subst (λ (l : List (VolumeJob _)). Finishes g.P.Plant.tells c.args.labelling rows (is_left l) c.finish_pairs.result b d) after c.finish_pairs.ensures.finishes in
+    let fin = subst (λ (l : List (VolumeJob _)). FinishesPairs g.P.Plant.tells c.args.labelling rows (is_left l) c.finish_pairs.result b d) after c.finish_pairs.ensures.finishes in
     all_works g.P.Plant.tells rows items (is_left was) (is_left now) a b walk ready.duplex ready.others c.args.labelling c.finish_pairs.result d fin
 
 pub returns-clause-failed : goal.returns-clause-failed
@@ -137,7 +137,7 @@ returns-clause-failed g c =
     let value : c.deref_mut.result.now ≡ was = search rules in
     let walk = subst (λ (l : List (VolumeJob _)). AppliesSides g.P.Plant.tells items (is_left l) (is_left now) a b) value c.redo_walk.ensures.applies in
     let after : c.deref-2.result.now ≡ now = c.deref-2.ensures.value ∙ written_whole c.args.tools.jobs.len c.redo_walk.new.jobs c.args.tools.jobs.items (omega (arith, c.redo_walk.ensures.jobs.count, c.redo_walk.ensures.applies.works.site.volumes, c.requires.ready.jobs.count)) (omega (arith, c.args.tools.jobs.ok.0)) in
-    let fin = subst (λ (l : List (VolumeJob _)). Finishes g.P.Plant.tells c.args.labelling rows (is_left l) c.finish_pairs.result b d) after c.finish_pairs.ensures.finishes in
+    let fin = subst (λ (l : List (VolumeJob _)). FinishesPairs g.P.Plant.tells c.args.labelling rows (is_left l) c.finish_pairs.result b d) after c.finish_pairs.ensures.finishes in
     all_faulty g.P.Plant.tells rows items (is_left was) (is_left now) a b walk ready.duplex ready.others c.args.labelling c.finish_pairs.result d fin
 
 pub returns-clause-redone : goal.returns-clause-redone
@@ -153,7 +153,7 @@ returns-clause-redone g c = λ told.
     let value : c.deref_mut.result.now ≡ was = search rules in
     let walk = subst (λ (l : List (VolumeJob _)). AppliesSides g.P.Plant.tells items (is_left l) (is_left now) a b) value c.redo_walk.ensures.applies in
     let after : c.deref-2.result.now ≡ now = c.deref-2.ensures.value ∙ written_whole c.args.tools.jobs.len c.redo_walk.new.jobs c.args.tools.jobs.items (omega (arith, c.redo_walk.ensures.jobs.count, c.redo_walk.ensures.applies.works.site.volumes, c.requires.ready.jobs.count)) (omega (arith, c.args.tools.jobs.ok.0)) in
-    let fin = subst (λ (l : List (VolumeJob _)). Finishes g.P.Plant.tells c.args.labelling rows (is_left l) c.finish_pairs.result b d) after c.finish_pairs.ensures.finishes in
+    let fin = subst (λ (l : List (VolumeJob _)). FinishesPairs g.P.Plant.tells c.args.labelling rows (is_left l) c.finish_pairs.result b d) after c.finish_pairs.ensures.finishes in
     all_redone g.P.Plant.tells rows items (is_left was) (is_left now) a b walk ready.duplex ready.others c.args.labelling c.finish_pairs.result d fin told (c.in_ok-redo_walk.ensures.content told)
 
 pub returns-clause-treats : goal.returns-clause-treats
@@ -169,7 +169,7 @@ returns-clause-treats g c = λ told.
     let value : c.deref_mut.result.now ≡ was = search rules in
     let walk = subst (λ (l : List (VolumeJob _)). AppliesSides g.P.Plant.tells items (is_left l) (is_left now) a b) value c.redo_walk.ensures.applies in
     let after : c.deref-2.result.now ≡ now = c.deref-2.ensures.value ∙ written_whole c.args.tools.jobs.len c.redo_walk.new.jobs c.args.tools.jobs.items (omega (arith, c.redo_walk.ensures.jobs.count, c.redo_walk.ensures.applies.works.site.volumes, c.requires.ready.jobs.count)) (omega (arith, c.args.tools.jobs.ok.0)) in
-    let fin = subst (λ (l : List (VolumeJob _)). Finishes g.P.Plant.tells c.args.labelling rows (is_left l) c.finish_pairs.result b d) after c.finish_pairs.ensures.finishes in
+    let fin = subst (λ (l : List (VolumeJob _)). FinishesPairs g.P.Plant.tells c.args.labelling rows (is_left l) c.finish_pairs.result b d) after c.finish_pairs.ensures.finishes in
     all_treats g.P.Plant.tells rows items (is_left was) (is_left now) a b walk ready.duplex ready.others c.args.labelling c.finish_pairs.result d fin told (c.in_ok-redo_walk.ensures.content told) (fin.treats told)
 
 pub returns-clause-once : goal.returns-clause-once
@@ -185,7 +185,7 @@ returns-clause-once g c =
     let value : c.deref_mut.result.now ≡ was = search rules in
     let walk = subst (λ (l : List (VolumeJob _)). AppliesSides g.P.Plant.tells items (is_left l) (is_left now) a b) value c.redo_walk.ensures.applies in
     let after : c.deref-2.result.now ≡ now = c.deref-2.ensures.value ∙ written_whole c.args.tools.jobs.len c.redo_walk.new.jobs c.args.tools.jobs.items (omega (arith, c.redo_walk.ensures.jobs.count, c.redo_walk.ensures.applies.works.site.volumes, c.requires.ready.jobs.count)) (omega (arith, c.args.tools.jobs.ok.0)) in
-    let fin = subst (λ (l : List (VolumeJob _)). Finishes g.P.Plant.tells c.args.labelling rows (is_left l) c.finish_pairs.result b d) after c.finish_pairs.ensures.finishes in
+    let fin = subst (λ (l : List (VolumeJob _)). FinishesPairs g.P.Plant.tells c.args.labelling rows (is_left l) c.finish_pairs.result b d) after c.finish_pairs.ensures.finishes in
     all_once g.P.Plant.tells rows items (is_left was) (is_left now) a b walk ready.duplex ready.others c.args.labelling c.finish_pairs.result d fin
 
 pub returns-clause-fault : goal.returns-clause-fault

@@ -21,7 +21,7 @@ pub record FinishesVolume (tells : Type 0) (labelling : Labelling) (row : PairRo
 
 -- Volumes that are left alone stay. Of the other duplex pairs' volumes each is finished, or it failed by its count. All that have failed
 -- are told, in the order of the rows.
-pub record Finishes (tells : Type 0) (labelling : Labelling) (rows : List PairRow) (left : ℕ → Bool) (failed : List ℕ) (old new : PlantState) : Type 0 where
+pub record FinishesPairs (tells : Type 0) (labelling : Labelling) (rows : List PairRow) (left : ℕ → Bool) (failed : List ℕ) (old new : PlantState) : Type 0 where
   pub works : Works tells (Recovers rows []) old new
   pub has_failed : ℕ → Bool
   pub listed : failed ≡ filter (λ v. left v || has_failed v) (duplex_devices rows)
