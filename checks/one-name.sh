@@ -23,6 +23,12 @@ def definitions(file):
                 yield item[1], line
 
 
+# Names that clash and are still to be changed, each with the next change of its crate: a change of a low crate proves all above it anew.
+TO_BE_CHANGED = {
+    "AreDrawn", "AreDurable", "AreLinked", "GoesForth", "HasRoom", "IsLast", "IsNext", "IsOfControl", "IsOfMark", "IsTold", "track_in",
+}
+
+
 def main():
     places = {}
     for file in sorted(glob.glob("crates/*/specs/**/*.antt", recursive=True)):
@@ -32,9 +38,10 @@ def main():
     offenders = {name: crates for name, crates in sorted(places.items()) if len(crates) > 1}
     for name, crates in offenders.items():
         print(f"{name}: {' '.join(place for its in crates.values() for place in its)}")
-    if offenders:
-        print(f"one-name: {len(offenders)} names stand in two crates or more", file=sys.stderr)
-    return 1 if offenders else 0
+    new = offenders.keys() - TO_BE_CHANGED
+    if new:
+        print(f"one-name: {len(new)} more names stand in two crates or more: {' '.join(sorted(new))}", file=sys.stderr)
+    return 1 if new else 0
 
 
 sys.exit(main())
