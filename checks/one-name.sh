@@ -1,7 +1,7 @@
 #!/bin/sh
 # Looks for names of definitions that stand in two crates: a `pub` item of a crate's specs/*.antt, with its fields and constructors
 # left out of account. A crate that passes on what another one defines (`pub use`) defines nothing. Prints each such name with its
-# places, and ends with status 1 if there is one.
+# places, and ends with status 1 if there is one that isn't known to clash.
 set -eu
 cd "$(dirname "$0")/.."
 exec python3 - <<'PYTHON'
