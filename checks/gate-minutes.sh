@@ -1,6 +1,7 @@
 #!/bin/sh
 # Runs `rt ci` at the top of the repository with the time since its start before each of its lines. At the end it prints two tables:
-# minutes and processor minutes by part, and the twelve dearest crates. It ends with rt ci's own status, and writes no file.
+# minutes and processor minutes by part, and processor minutes by crate, the dearest first. It ends with rt ci's own status, and writes no
+# file.
 #
 # Parts run side by side, so their minutes add up to more than the whole: a part's are those in which some process of it was there.
 # A process counts for a part by the words and the folder with which rt started it. The base of a crate's edits is two checks. The
@@ -20,7 +21,6 @@ import time
 TICKS = os.sysconf("SC_CLK_TCK")
 # The seconds between two looks at the processes.
 PAUSE = 0.25
-DEAREST = 12
 LIBRARIES, BASES, EDITS, TESTS, PROGRAMS = PARTS = ("libraries", "bases for edits", "edits", "tests", "programs")
 
 
@@ -171,7 +171,7 @@ def tell(tasks, edits, wall, processors):
     by_crate = {}
     for it in tasks:
         by_crate.setdefault(it.crate, []).append(it)
-    dearest = sorted(by_crate.items(), key=lambda it: -processor_minutes(it[1]))[:DEAREST]
+    dearest = sorted(by_crate.items(), key=lambda it: -processor_minutes(it[1]))
     each = lambda its: [processor_minutes([it for it in its if it.part == part]) for part in PARTS]
     table(("Crate, processor minutes", "all", *PARTS), [(name, processor_minutes(its), *each(its)) for name, its in dearest])
 
