@@ -14,7 +14,7 @@ use Rattle.xrecover.specs.declared.outcome.Outcome.{Outcome}
 use Rattle.xrecover.specs.declared.recover_error.RecoverError.{RecoverError}
 use Rattle.xrecover.specs.declared.recover_error.RecoverError.TheVariants.{Site, Other}
 use Rattle.xrecover.specs.Answers.{IsRecoverable}
-use Rattle.xrecover.specs.Pairs.{AreFaulty}
+use Rattle.xrecover.specs.Pairs.{AreFaulty, SparesOthers}
 use Rattle.xrecover.specs.declared.labelling.Labelling.{Labelling}
 use Rattle.xrecover.specs.RedoneVolumes.{Redone, meant_rows}
 use Rattle.xrecover.specs.Sights.{MeansAsRead, SeesSame, TellsLasting}
@@ -50,6 +50,8 @@ at_site tells labelling session a other = record {
   console_count = λ no. refl;
   console_once = omega arith;
   once = λ v. omega arith;
+  spared = λ told v none. refl;
+  early = λ told soon v. refl;
   changes = changes_of tells (RecoversMeant a) a a (works_here tells (meant_rows a a.bytes) (walked a a.bytes) a);
   labels = λ told. treats_read tells told labelling (meant_rows a a.bytes) (walked a a.bytes) a a (reads_none tells a);
   moments = λ told. reads_moments tells told a a (reads_none tells a);
@@ -68,7 +70,10 @@ error_lasts tells a b (Site (Fault Control)) none t = tt
 error_lasts tells a b (Site (Fault State)) none t = tt
 error_lasts tells a b (Site (Fault (Journal j))) none t = elim t [ inl still ↦ inl (changes_of tells Nothing a b still) | inr now ↦ inr now ]
 error_lasts tells a b (Site (Fault (Volume v))) none t = absurd (none refl)
-error_lasts tells a b (Site (TooSmallError d needed)) none t = tt
+error_lasts tells a b (Site (TooSmallError (Volume v) needed)) none t = t
+error_lasts tells a b (Site (TooSmallError Control needed)) none t = tt
+error_lasts tells a b (Site (TooSmallError State needed)) none t = tt
+error_lasts tells a b (Site (TooSmallError (Journal j) needed)) none t = tt
 error_lasts tells a b (Site NoMemory) none t = tt
 
 module _ (tells : Type 0) (labelling : Labelling) (session : List ℕ) (a b : PlantState) (e : RecoverError) (stop : Stop) (is : stop ≡ stop_of e) where
@@ -90,7 +95,9 @@ module _ (tells : Type 0) (labelling : Labelling) (session : List ℕ) (a b : Pl
         silent = λ quiet. k.works;
         console_count = λ no. k.works.console_faults;
         console_once = omega (arith, k.works.console_faults);
-        once = k.once;
+        once = k.volumes.once;
+        spared = k.volumes.others;
+        early = λ told early. k.volumes.early told e refl (is_early e (subst (λ (s : Stop). StopsEarly s) is early));
         changes = changes_of tells (RecoversMeant a) a b k.works;
         labels = k.labels;
         moments = k.moments;
@@ -109,6 +116,7 @@ pub record Told (tells : Type 0) (labelling : Labelling) (session : List ℕ) (a
   pub redone : tells → Redone labelling (meant_rows a a.bytes) (walked a a.bytes) failed a b
   pub counts : (d : Device) → IsExamined d → b.faults d ≡ a.faults d
   pub once : (v : ℕ) → b.faults (Volume v) ≤ a.faults (Volume v) + 1
+  pub spared : tells → SparesOthers (meant_rows a a.bytes) a.faults b.faults
   pub works : Works tells (RecoversMeant a) a b
   pub labels : tells → TreatsLabels labelling (meant_rows a a.bytes) (walked a a.bytes) a b
   pub moments : tells → AllFollow (SeesSame a) a b
@@ -186,6 +194,8 @@ module _ (tells : Type 0) (labelling : Labelling) (session : List ℕ) (a b c : 
     console_count = λ no. (k.whole no).console_count ∙ k.works.console_faults;
     console_once = omega (arith, k.by_one, k.works.console_faults);
     once = λ v. omega (arith, k.once v, k.front.only.faults (Volume v));
+    spared = λ told v none. k.front.only.faults (Volume v) ∙ k.spared told v none;
+    early = λ told. tt;
     changes = changes_then tells (RecoversMeant a) a b c k.works k.front.only k.later;
     labels = λ told. treats_console labelling tells (meant_rows a a.bytes) (walked a a.bytes) a b c told ((k.works.elapses told).kept Control).later (k.labels told) k.front.only;
     moments = λ told. follow_then (SeesSame a) tells a b c told ((k.works.elapses told).kept Control).later (k.moments told) k.front.only;
@@ -206,6 +216,8 @@ module _ (tells : Type 0) (labelling : Labelling) (session : List ℕ) (a b c : 
     console_count = λ no. (k.whole no).console_count ∙ k.works.console_faults;
     console_once = omega (arith, k.by_one, k.works.console_faults);
     once = λ v. omega (arith, k.once v, k.front.only.faults (Volume v));
+    spared = λ told v none. k.front.only.faults (Volume v) ∙ k.spared told v none;
+    early = λ told early. absurd (lines_late stop k.lines early);
     changes = changes_then tells (RecoversMeant a) a b c k.works k.front.only k.later;
     labels = λ told. treats_console labelling tells (meant_rows a a.bytes) (walked a a.bytes) a b c told ((k.works.elapses told).kept Control).later (k.labels told) k.front.only;
     moments = λ told. follow_then (SeesSame a) tells a b c told ((k.works.elapses told).kept Control).later (k.moments told) k.front.only;

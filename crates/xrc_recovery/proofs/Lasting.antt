@@ -1,5 +1,5 @@
 -- The status of a recovery, and the line that is said last.
-use Rattle.std.proofs.Common.{◌⊎◌, true, ◌≡◌, ◌≢◌, ◌≤◌, ◌+◌, ◌++◌, inl, inr, ℕ, List, [], Ok, Err, IsTrue, length, take, refl, sym, ◌∙◌, ap, subst, arith, append_assoc, length-append}
+use Rattle.std.proofs.Common.{◌⊎◌, true, ◌≡◌, ◌≢◌, ◌≤◌, ◌+◌, ◌++◌, inl, inr, ℕ, List, [], Some, None, Ok, Err, IsTrue, length, take, refl, sym, ◌∙◌, ap, subst, arith, append_assoc, length-append}
 use Rattle.std.proofs.lemmas.Bool.{cases_eq, cases_lt}
 use Rattle.std.proofs.lemmas.List.{take-append-le}
 use Rattle.std.proofs.Math.Seq.{take-append-add}
@@ -9,18 +9,19 @@ use Rattle.crash_plant.specs.declared.device.Device.TheVariants.{Control, State,
 use Rattle.crash_plant.specs.Choices.{AtNow}
 use Rattle.crash_plant.specs.Moments.{PlantState}
 use Rattle.crash_plant.specs.Calls.{Elapses, NoneRose, Says, WorksOnConsole}
-use Rattle.site_means.specs.Answers.{need}
+use Rattle.site_means.specs.Answers.{first_short, need}
 use Rattle.site_means.specs.Sight.{walked}
 use Rattle.xrecover.specs.declared.labelling.Labelling.{Labelling}
 use Rattle.xrecover.specs.RedoneVolumes.{meant_rows}
 use Rattle.xrecover.specs.Sights.{ChoosesAsRead, MeansAsRead, SeesSame}
+use Rattle.xrecover.specs.Answers.{IsTooSmall}
 use Rattle.xrecover.specs.Works.{Nothing, Works}
 use Rattle.xrecover.proofs.Works.{rose_later}
 use Rattle.xrc_status.specs.declared.stop.Stop.{Stop}
 use Rattle.xrc_status.specs.declared.stop.Stop.TheVariants.{NoMemory, BadWords, ConsoleFault, BadLine, JournalFault, ControlFault, StateFault, BadHeader, HeaderFault, NoSession, OtherSession, Damaged, VolumeFault, TooSmall, BadSite, Spent}
 use Rattle.xrc_status.specs.Saying.{SaidWhole, SaysLast}
 use Rattle.xrc_status.specs.Stops.{last_line, status_of}
-use Rattle.xrc_recovery.specs.Stops.{HasRisen, StopsEarly, fault_of}
+use Rattle.xrc_recovery.specs.Stops.{CallsFor, HasRisen, IsShort, StopsEarly, fault_of}
 use Rattle.xrc_recovery.specs.Reports.{Changes, Reports, ReportsAll, report_of}
 use Rattle.xrc_recovery.specs.Recoveries.{RecoversMeant, RecoversSession, StopLasts}
 use Rattle.xrc_recovery.specs.Statuses.{EndsRecovery, EndsSo, ReportsThen, SaysThen, ends_recovery, tells_meaning}
@@ -195,6 +196,33 @@ module _ (tells : Type 0) (old new : PlantState) where
   late_lasts BadSite last is = absurd (omega (arith, is))
   late_lasts Spent last is = absurd (omega (arith, is))
 
+  module _ (session : List ℕ) (long : first_short old ≡ None) where
+    -- A volume is too small behind a meaning.
+    by_device : (d : Device) (needed : ℕ) → StopLasts tells old new (TooSmall d needed) → IsShort old d needed ⊎ IsTooSmall old session d needed → AtNow (MeansAsRead old) new
+    by_device d needed last (inl short) = absurd (let same = sym long ∙ short.first in cc)
+    by_device Control needed last (inr small) = absurd (let same = small.device in cc)
+    by_device State needed last (inr small) = absurd (let same = small.device in cc)
+    by_device (Journal j) needed last (inr small) = absurd (let same = small.device in cc)
+    by_device (Volume v) needed last (inr small) = last
+
+    small_lasts : (stop : Stop) → StopLasts tells old new stop → CallsFor old session stop → status_of stop ≡ 14 → AtNow (MeansAsRead old) new
+    small_lasts (TooSmall d needed) last calls is = by_device d needed last calls
+    small_lasts NoMemory last calls is = absurd (omega (arith, is))
+    small_lasts BadWords last calls is = absurd (omega (arith, is))
+    small_lasts ConsoleFault last calls is = absurd (omega (arith, is))
+    small_lasts (BadLine n) last calls is = absurd (omega (arith, is))
+    small_lasts (JournalFault j) last calls is = absurd (omega (arith, is))
+    small_lasts ControlFault last calls is = absurd (omega (arith, is))
+    small_lasts StateFault last calls is = absurd (omega (arith, is))
+    small_lasts (BadHeader trace place) last calls is = absurd (omega (arith, is))
+    small_lasts (HeaderFault trace) last calls is = absurd (omega (arith, is))
+    small_lasts NoSession last calls is = absurd (omega (arith, is))
+    small_lasts (OtherSession name) last calls is = absurd (omega (arith, is))
+    small_lasts (Damaged d place) last calls is = absurd (omega (arith, is))
+    small_lasts VolumeFault last calls is = absurd (omega (arith, is))
+    small_lasts BadSite last calls is = absurd (omega (arith, is))
+    small_lasts Spent last calls is = absurd (omega (arith, is))
+
 -- ---- counts
 
 -- A count that rose before calls that don't lower it has risen over all of them.
@@ -350,10 +378,13 @@ ends_done tells labelling session a b v e = record {
   console_count = λ is. e.console_count (λ is. cc);
   console_once = e.console_once;
   once = e.once;
+  spared = e.spared;
+  uncalled = λ told other. absurd (other refl);
   changes = e.changes;
   labels = e.labels;
   moments = e.moments;
   lasts = λ told is. e.lasts told;
+  small = λ told long is. absurd (omega (arith, is));
   other = λ told is. absurd (omega (arith, is));
   late = λ told is. absurd (omega (arith, is));
   unwritten = λ other. absurd (other refl);
@@ -397,10 +428,13 @@ module _ (tells : Type 0) (labelling : Labelling) (session : List ℕ) (a b c : 
         console_count = λ is. absurd (not_done stop is);
         console_once = console_calls a b c stop last.console_once (λ no. e.console_count (λ is. no (let same : stop ≡ ConsoleFault = cc in same))) e.console_once (λ is. ap (λ (s : PlantState). s.console_faults) (quiet is));
         once = λ v. omega (arith, e.once v, o.faults (Volume v));
+        spared = λ told v none. o.faults (Volume v) ∙ e.spared told v none;
+        uncalled = λ told other three five thirteen v. o.faults (Volume v) ∙ e.early told (is_early_stop stop three five thirteen) v;
         changes = changes_more tells (RecoversMeant a) a b c e.changes o last.later;
         labels = λ told. treats_console labelling tells (meant_rows a a.bytes) (walked a a.bytes) a b c told ((e.changes.elapses told).kept Control).later (e.labels told) o;
         moments = λ told. follow_then (SeesSame a) tells a b c told ((e.changes.elapses told).kept Control).later (e.moments told) o;
         lasts = λ told is. now_then (MeansAsRead a) tells b c told (meaning_lasts tells a b stop (e.lasts told) is) o;
+        small = λ told long is. now_then (MeansAsRead a) tells b c told (small_lasts tells a b session long stop (e.lasts told) (e.called_for told) is) o;
         other = λ told is. now_then (ChoosesAsRead a) tells b c told (other_lasts tells a b stop (e.lasts told) is) o;
         late = λ told is. elim (late_lasts tells a b stop (e.lasts told) is) [
           | inl none ↦ inl (changes_more tells Nothing a b c none o last.later)

@@ -1,7 +1,7 @@
 -- What a recovery has done where it is done or stopped.
 use Rattle.std.specs.Prelude.{◌≡◌, ◌≢◌, ◌≤◌, ◌+◌, ◌↔◌, ◌⊎◌, ℕ, List, [], Some, Result, Ok, Err, OnOk, IfErr, IfOk, IsErrOf}
 use Rattle.crash_plant.specs.declared.device.Device.{Device}
-use Rattle.crash_plant.specs.declared.device.Device.TheVariants.{Volume}
+use Rattle.crash_plant.specs.declared.device.Device.TheVariants.{Control, State, Journal, Volume}
 use Rattle.crash_plant.specs.Moments.{PlantState}
 use Rattle.crash_plant.specs.Calls.{NoneRose}
 use Rattle.crash_plant.specs.Choices.{AllFollow, AtNow}
@@ -12,8 +12,8 @@ use Rattle.xrecover.specs.declared.labelling.Labelling.{Labelling}
 use Rattle.xrecover.specs.declared.outcome.Outcome.{Outcome}
 use Rattle.xrecover.specs.declared.recover_error.RecoverError.{RecoverError}
 use Rattle.xrecover.specs.declared.recover_error.RecoverError.TheVariants.{Site}
-use Rattle.xrecover.specs.Answers.{IsEarly, IsGoodOrCalledFor, IsRecoverable, TellsFaults}
-use Rattle.xrecover.specs.Pairs.{AreFaulty}
+use Rattle.xrecover.specs.Answers.{CountsVolumes, IsEarly, IsGoodOrCalledFor, IsRecoverable, TellsFaults}
+use Rattle.xrecover.specs.Pairs.{AreFaulty, SparesOthers}
 use Rattle.xrecover.specs.RedoneVolumes.{Recovers, Redone, meant_rows}
 use Rattle.xrecover.specs.Sights.{ChoosesAsRead, MeansAsRead, SeesSame, TellsLasting}
 use Rattle.xrecover.specs.Works.{Nothing, Works}
@@ -38,7 +38,10 @@ StopLasts tells old new ConsoleFault = AtNow (MeansAsRead old) new
 StopLasts tells old new NoMemory = Unit {0}
 StopLasts tells old new ControlFault = Unit {0}
 StopLasts tells old new StateFault = Unit {0}
-StopLasts tells old new (TooSmall d needed) = Unit {0}
+StopLasts tells old new (TooSmall (Volume v) needed) = AtNow (MeansAsRead old) new
+StopLasts tells old new (TooSmall Control needed) = Unit {0}
+StopLasts tells old new (TooSmall State needed) = Unit {0}
+StopLasts tells old new (TooSmall (Journal j) needed) = Unit {0}
 StopLasts tells old new BadSite = Unit {0}
 StopLasts tells old new BadWords = Unit {0}
 StopLasts tells old new (BadLine n) = Unit {0}
@@ -57,7 +60,7 @@ pub record RedoesSession (tells : Type 0) (labelling : Labelling) (session : Lis
   pub short : (d : Device) → first_short old ≡ Some d → result ≡ Err (Site (TooSmallError d (need d)))
   pub cause : TellsFaults old.faults new.faults (λ d. IsErrOf result (Site (Fault d)))
   pub failed : IfOk result (λ o. AreFaulty o.means.table.rows old.faults new.faults o.failed)
-  pub once : (v : ℕ) → new.faults (Volume v) ≤ old.faults (Volume v) + 1
+  pub volumes : CountsVolumes tells (meant_rows old old.bytes) old.faults new.faults result
   pub redone : tells → IfOk result (λ o. Redone labelling (meant_rows old old.bytes) (walked old old.bytes) o.failed old new)
   pub works : Works tells (RecoversMeant old) old new
   pub labels : tells → TreatsLabels labelling (meant_rows old old.bytes) (walked old old.bytes) old new
@@ -84,8 +87,11 @@ pub record RecoversSession (tells : Type 0) (labelling : Labelling) (session : L
   pub silent : IfErr result (λ stop. ¬ HasLines stop → Works tells (RecoversMeant old) old new)
   pub console_count : result ≢ Err ConsoleFault → new.console_faults ≡ old.console_faults
   pub console_once : new.console_faults ≤ old.console_faults + 1
-  -- A volume is left at its first fault.
+  -- A volume is left at its first fault. No other volume is called than those of duplex pairs, and none where a stop comes before anything
+  -- is written.
   pub once : (v : ℕ) → new.faults (Volume v) ≤ old.faults (Volume v) + 1
+  pub spared : tells → SparesOthers (meant_rows old old.bytes) old.faults new.faults
+  pub early : tells → IfErr result (λ stop. StopsEarly stop → (v : ℕ) → new.faults (Volume v) ≡ old.faults (Volume v))
   -- At every moment only labels of duplex pairs' volumes, and slots of tracks of which the walk has an item, differ; a crash leaves what
   -- means the same, with the same tracks. Want of memory comes before anything is written, as most stops do.
   pub changes : Changes tells (RecoversMeant old) old new

@@ -1,5 +1,5 @@
 -- The status that a recovery or an advance ends with: what it stands for, and what was done and said by then.
-use Rattle.std.specs.Prelude.{◌≡◌, ◌≢◌, ◌≤◌, ◌+◌, ◌↔◌, ◌⊎◌, ◌++◌, ◌==◌, ◌||◌, ℕ, List, [], Bool, IsTrue, Some, length, take}
+use Rattle.std.specs.Prelude.{◌≡◌, ◌≢◌, ◌≤◌, ◌+◌, ◌↔◌, ◌⊎◌, ◌++◌, ◌==◌, ◌||◌, ℕ, List, [], Bool, IsTrue, Some, None, length, take}
 use Rattle.xrc_edge.specs.Causes.{Rose}
 use Rattle.crash_plant.specs.declared.device.Device.{Device}
 use Rattle.crash_plant.specs.declared.device.Device.TheVariants.{Volume}
@@ -9,6 +9,7 @@ use Rattle.crash_plant.specs.Choices.{AllFollow, AtNow}
 use Rattle.site_means.specs.Answers.{IsExamined, first_short, need}
 use Rattle.site_means.specs.Sight.{walked}
 use Rattle.xrecover.specs.declared.labelling.Labelling.{Labelling}
+use Rattle.xrecover.specs.Pairs.{SparesOthers}
 use Rattle.xrecover.specs.RedoneVolumes.{Recovers, meant_rows}
 use Rattle.xrecover.specs.Sights.{ChoosesAsRead, MeansAsRead, SeesSame}
 use Rattle.xrecover.specs.Works.{Nothing}
@@ -81,15 +82,18 @@ pub record EndsRecovery (tells : Type 0) (labelling : Labelling) (session : List
   pub counts : status ≡ 0 → (d : Device) → IsExamined d → new.faults d ≡ old.faults d
   pub console_count : status ≡ 0 → new.console_faults ≡ old.console_faults
   pub console_once : new.console_faults ≤ old.console_faults + 1
-  -- A volume is left at its first fault.
+  -- A volume is left at its first fault. No other volume is called than those of duplex pairs, and at most statuses none.
   pub once : (v : ℕ) → new.faults (Volume v) ≤ old.faults (Volume v) + 1
+  pub spared : tells → SparesOthers (meant_rows old old.bytes) old.faults new.faults
+  pub uncalled : tells → status ≢ 0 → status ≢ 3 → status ≢ 5 → status ≢ 13 → (v : ℕ) → new.faults (Volume v) ≡ old.faults (Volume v)
   -- At every moment only labels of duplex pairs' volumes, and slots of tracks of which the walk has an item, differ; a crash leaves
   -- what means the same, with the same tracks. At most statuses nothing was written.
   pub changes : Changes tells (Recovers (meant_rows old old.bytes) (walked old old.bytes)) old new
   pub moments : tells → AllFollow (SeesSame old) old new
-  -- What a status tells of the devices is so of whatever a crash leaves now, so that a later recovery tells the same. At a journal's fault
-  -- nothing was written, or the rest is so.
+  -- What a status tells of the devices is so of whatever a crash leaves now, so that a later recovery tells the same: at 14 of a volume,
+  -- too. At a journal's fault nothing was written, or the rest is so.
   pub lasts : tells → IsTrue (tells_meaning status) → AtNow (MeansAsRead old) new
+  pub small : tells → first_short old ≡ None → status ≡ 14 → AtNow (MeansAsRead old) new
   pub other : tells → status ≡ 11 → AtNow (ChoosesAsRead old) new
   pub late : tells → status ≡ 5 → Changes tells Nothing old new ⊎ AtNow (MeansAsRead old) new
   -- A recovery writes a label once the slots of its volume are redone and durable, and at each status a duplex pair's volume has the

@@ -16,7 +16,7 @@ use Rattle.xrecover.specs.declared.labelling.Labelling.{Labelling}
 use Rattle.xrecover.specs.declared.labelling.Labelling.TheVariants.{AsPrimary, AsItIs}
 use Rattle.xrecover.specs.FinishedPairs.{FinishesPairs}
 use Rattle.xrecover.specs.Labels.{KeepsLabels, LabelsLast, TreatsLabels}
-use Rattle.xrecover.specs.Pairs.{AreFaulty, HasDuplex, duplex_devices, is_duplex, is_duplex_of}
+use Rattle.xrecover.specs.Pairs.{AreFaulty, HasDuplex, SparesOthers, duplex_devices, is_duplex, is_duplex_of}
 use Rattle.xrecover.specs.RedoneVolumes.{Draws, Recovers, Redone, SameLabel}
 use Rattle.xrecover.specs.SideVolumes.{AppliesSides, OfVolumes}
 use Rattle.xrecover.specs.Works.{Works}
@@ -79,6 +79,9 @@ module _ (tells : Type 0) (rows : List PairRow) (items : List Item) (was left : 
     | inr live ↦ (walk.count v live).by_one
   ]
 
+  pub walk_spared : SparesOthers rows a.faults b.faults
+  walk_spared v none = walk.still v (others v none)
+
   -- ---- and the volumes finished
 
   module _ (labelling : Labelling) (failed : List ℕ) (c : PlantState) (fin : FinishesPairs tells labelling rows left failed b c) where
@@ -132,6 +135,11 @@ module _ (tells : Type 0) (rows : List PairRow) (items : List Item) (was left : 
 
     pub all_once : (v : ℕ) → c.faults (Volume v) ≤ a.faults (Volume v) + 1
     all_once v = (counted v).by_one
+
+    pub all_spared : SparesOthers rows a.faults c.faults
+    all_spared v none =
+        let fine : fin.has_failed v ≡ false = elim (cases_Bool (fin.has_failed v)) [ inl bad ↦ absurd (none (fin.are_duplex v bad)) | inr fine ↦ fine ] in
+        counted_stays v fine ∙ walk_spared v none
 
     -- ---- what they hold
 

@@ -1,5 +1,5 @@
 -- What the examination of a session's site answers, and what a recovery answers.
-use Rattle.std.specs.Prelude.{◌≡◌, ◌≢◌, ◌⊎◌, ℕ, List, Some, None, Result, Ok, Err, IsErrOf}
+use Rattle.std.specs.Prelude.{◌≡◌, ◌≢◌, ◌⊎◌, ◌≤◌, ◌+◌, ℕ, List, Some, None, Result, Ok, Err, IsErrOf}
 use Rattle.xrc_edge.specs.Causes.{Rose}
 use Rattle.crash_plant.specs.declared.device.Device.{Device}
 use Rattle.crash_plant.specs.declared.device.Device.TheVariants.{Control, State, Journal, Volume}
@@ -17,7 +17,7 @@ use Rattle.site_means.specs.Answers.{IsChosen, IsExamined, IsInTurn, Mean, first
 use Rattle.volume_label.specs.Labels.{volume_need}
 use Rattle.xrecover.specs.declared.recover_error.RecoverError.{RecoverError}
 use Rattle.xrecover.specs.declared.recover_error.RecoverError.TheVariants.{Site, Other}
-use Rattle.xrecover.specs.Pairs.{first_small}
+use Rattle.xrecover.specs.Pairs.{SparesOthers, first_small}
 
 -- The chosen mark names this session.
 pub record IsOf (plant : PlantState) (session : List ℕ) : Type 0 where
@@ -106,3 +106,12 @@ IsLate plant e = (j : ℕ) × (e ≡ Site (Fault (Journal j))) × IsInTurn plant
 -- each other answer
 abbrev pub IsEarly : RecoverError → Type 0
 IsEarly e = ¬ EndsLate e
+
+-- ---- counts of volumes
+
+-- Whatever is answered, a volume's count rises by one at most. That of a volume that is no duplex pair's stays, and so does each where the
+-- answer comes before anything is written.
+pub record CountsVolumes {X : Type 0} (tells : Type 0) (rows : List PairRow) (old new : Device → ℕ) (result : Result X RecoverError) : Type 0 where
+  pub once : (v : ℕ) → new (Volume v) ≤ old (Volume v) + 1
+  pub others : tells → SparesOthers rows old new
+  pub early : tells → (e : RecoverError) → IsErrOf result e → IsEarly e → (v : ℕ) → new (Volume v) ≡ old (Volume v)

@@ -37,6 +37,10 @@ first_small plant rows = find (is_small plant) rows
 abbrev pub duplex_devices : List PairRow → List ℕ
 duplex_devices rows = map (λ r. r.device) (filter (λ r. is_duplex r.state) rows)
 
+-- No count of a volume changes but that of a duplex pair's.
+abbrev pub SparesOthers : List PairRow → (before now : Device → ℕ) → Type 0
+SparesOthers rows before now = (v : ℕ) → ¬ HasDuplex rows v → now (Volume v) ≡ before (Volume v)
+
 -- The devices that failed are those of the duplex pairs whose counts rose, by one each, in the order of the rows. No other volume's
 -- count rose.
 pub record AreFaulty (rows : List PairRow) (before now : Device → ℕ) (failed : List ℕ) : Type 0 where

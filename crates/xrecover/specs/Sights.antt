@@ -1,7 +1,7 @@
 -- What a crash leaves of a recovery: what is meant, the content of each track, and whether a later recovery tells the same.
 use Rattle.std.specs.Prelude.{◌≡◌, ◌⊎◌, ℕ, Result, Ok, Err}
 use Rattle.crash_plant.specs.declared.device.Device.{Device}
-use Rattle.crash_plant.specs.declared.device.Device.TheVariants.{Control}
+use Rattle.crash_plant.specs.declared.device.Device.TheVariants.{Control, State, Journal, Volume}
 use Rattle.crash_plant.specs.Calls.{IsPart}
 use Rattle.crash_plant.specs.Choices.{AtNow, Choice}
 use Rattle.crash_plant.specs.Moments.{PlantState, IsDurable, on}
@@ -50,5 +50,8 @@ TellsLasting tells old new (Err (Other name)) = AtNow (ChoosesAsRead old) new
 TellsLasting tells old new (Err (Site NoSession)) = AtNow (MeansAsRead old) new
 TellsLasting tells old new (Err (Site (Damaged d place))) = AtNow (MeansAsRead old) new
 TellsLasting tells old new (Err (Site (Fault d))) = Works tells Nothing old new ⊎ AtNow (MeansAsRead old) new
-TellsLasting tells old new (Err (Site (TooSmall d needed))) = Unit {0}
+TellsLasting tells old new (Err (Site (TooSmall (Volume v) needed))) = AtNow (MeansAsRead old) new
+TellsLasting tells old new (Err (Site (TooSmall Control needed))) = Unit {0}
+TellsLasting tells old new (Err (Site (TooSmall State needed))) = Unit {0}
+TellsLasting tells old new (Err (Site (TooSmall (Journal j) needed))) = Unit {0}
 TellsLasting tells old new (Err (Site NoMemory)) = Unit {0}

@@ -9,7 +9,7 @@ ghost use Rattle.pair_table.specs.Tables.{are_below};
 ghost use Rattle.site_means.specs.declared.reading.FirstRead.TheVariants.{Synced};
 ghost use Rattle.site_means.specs.declared.site_error.SiteError.{SiteError as SiteErrorValue};
 ghost use Rattle.site_means.specs.declared.site_error.SiteError.TheVariants.{Fault, TooSmall};
-ghost use Rattle.site_means.specs.Answers.{HasSpot, IsChosen, IsExamined, IsOfControl, IsRead, ReadsAll, first_short, need as site_need};
+ghost use Rattle.site_means.specs.Answers.{AllDurable, HasSpot, IsChosen, IsExamined, IsOfControl, IsRead, ReadsAll, first_short, need as site_need};
 ghost use Rattle.volume_label.specs.Labels.{volume_need as volume_need};
 ghost use Rattle.xrecover.specs.declared.recover_error.RecoverError.{RecoverError as RecoverErrorValue};
 ghost use Rattle.xrecover.specs.declared.recover_error.RecoverError.TheVariants.{Other, Site};
@@ -155,6 +155,7 @@ pub(crate) fn read_recoverable<P: Plant>(
     ensures below { IfOk result (λ reading. IsTrue (are_below (P.state plant.old).volumes reading.means.table.rows)) }
     ensures long { IfOk result (λ reading. first_small (P.state plant.old) reading.means.table.rows ≡ None) }
     ensures durable { P.tells → TellsDurable (P.state plant.old) (P.state plant.new) result }
+    ensures small { P.tells → (v needed : ℕ) → IsErrOf result (Site (TooSmall (Volume v) needed)) → AllDurable (P.state plant.old) (P.state plant.new) }
     ensures fails { FailsSo (P.state plant.old).faults (P.state plant.new).faults result }
     ensures reads { ReadsAll P.tells (P.state plant.old) (P.state plant.new) }
 {

@@ -14,8 +14,8 @@ ghost use Rattle.site_means.specs.Sight.{walked};
 ghost use Rattle.site_means.specs.Steps.{HoldsEveryBody};
 ghost use Rattle.xrecover.specs.declared.recover_error.RecoverError.{RecoverError as RecoverErrorValue};
 ghost use Rattle.xrecover.specs.declared.recover_error.RecoverError.TheVariants.{Site};
-ghost use Rattle.xrecover.specs.Pairs.{AreFaulty, first_small};
-ghost use Rattle.xrecover.specs.Answers.{IsEarly, IsLate, IsRecoverable, IsGoodOrCalledFor, TellsFaults};
+ghost use Rattle.xrecover.specs.Pairs.{AreFaulty, SparesOthers, first_small};
+ghost use Rattle.xrecover.specs.Answers.{CountsVolumes, IsEarly, IsLate, IsRecoverable, IsGoodOrCalledFor, TellsFaults};
 ghost use Rattle.xrecover.specs.Works.{Nothing, Works};
 ghost use Rattle.xrecover.specs.declared.labelling.Labelling.TheVariants.{AsItIs, AsPrimary};
 ghost use Rattle.xrecover.specs.RedoneVolumes.{Recovers, Redone, meant_rows};
@@ -63,6 +63,7 @@ pub fn redo<R: Threads + Sync, P: Plant>(
     ensures unlabelled { P.tells → OnErr result (KeepsLabels (P.state plant.old) (P.state plant.new)) }
     // Why it fails, and which counts rise.
     ensures once { (v : ℕ) → (P.state plant.new).faults (Volume v) ≤ (P.state plant.old).faults (Volume v) + 1 }
+    ensures spared { SparesOthers reading.now.means.table.rows (P.state plant.old).faults (P.state plant.new).faults }
     ensures late { P.tells → (e : RecoverErrorValue) → IsErrOf result e → IsLate (P.state plant.old) e }
     ensures fault { TellsFaults (P.state plant.old).faults (P.state plant.new).faults (λ d. IsErrOf result (Site (Fault d))) }
 {
@@ -89,7 +90,7 @@ pub(crate) fn redo_site<R: Threads + Sync, P: Plant>(
     ensures short { (d : AnyDevice) → first_short (P.state plant.old) ≡ Some d → result ≡ Err (Site (TooSmall d (need d))) }
     ensures cause { TellsFaults (P.state plant.old).faults (P.state plant.new).faults (λ d. IsErrOf result (Site (Fault d))) }
     ensures failed { IfOk result (λ o. AreFaulty o.means.table.rows (P.state plant.old).faults (P.state plant.new).faults o.failed) }
-    ensures once { (v : ℕ) → (P.state plant.new).faults (Volume v) ≤ (P.state plant.old).faults (Volume v) + 1 }
+    ensures volumes { CountsVolumes P.tells (meant_rows (P.state plant.old) (P.state plant.old).bytes) (P.state plant.old).faults (P.state plant.new).faults result }
     ensures redone { P.tells → IfOk result (λ o. Redone labelling (meant_rows (P.state plant.old) (P.state plant.old).bytes) (walked (P.state plant.old) (P.state plant.old).bytes) o.failed (P.state plant.old) (P.state plant.new)) }
     ensures works { Works P.tells (Recovers (meant_rows (P.state plant.old) (P.state plant.old).bytes) (walked (P.state plant.old) (P.state plant.old).bytes)) (P.state plant.old) (P.state plant.new) }
     ensures treats { P.tells → TreatsLabels labelling (meant_rows (P.state plant.old) (P.state plant.old).bytes) (walked (P.state plant.old) (P.state plant.old).bytes) (P.state plant.old) (P.state plant.new) }
@@ -129,10 +130,11 @@ pub fn recover<R: Threads + Sync, P: Plant>(
     ensures ok { P.tells → IsGoodOrCalledFor (P.state plant.old) session (λ o. IsRecoverable (P.state plant.old) session o.means) result }
     ensures short { (d : AnyDevice) → first_short (P.state plant.old) ≡ Some d → result ≡ Err (Site (TooSmall d (need d))) }
     // Why it fails: a fault is of a device whose count rose, no other count of the control, the state or a journal changes, and the
-    // failed devices are those of duplex pairs whose counts rose. A volume is left at its first fault, whatever is answered.
+    // failed devices are those of duplex pairs whose counts rose. A volume is left at its first fault, whatever is answered, and no
+    // other volume is called.
     ensures cause { TellsFaults (P.state plant.old).faults (P.state plant.new).faults (λ d. IsErrOf result (Site (Fault d))) }
     ensures failed { IfOk result (λ o. AreFaulty o.means.table.rows (P.state plant.old).faults (P.state plant.new).faults o.failed) }
-    ensures once { (v : ℕ) → (P.state plant.new).faults (Volume v) ≤ (P.state plant.old).faults (Volume v) + 1 }
+    ensures volumes { CountsVolumes P.tells (meant_rows (P.state plant.old) (P.state plant.old).bytes) (P.state plant.old).faults (P.state plant.new).faults result }
     // Each duplex pair's volume that isn't among them holds what the devices meant, is labelled as its primary, and is durable.
     ensures redone { P.tells → IfOk result (λ o. Redone AsPrimary (meant_rows (P.state plant.old) (P.state plant.old).bytes) (walked (P.state plant.old) (P.state plant.old).bytes) o.failed (P.state plant.old) (P.state plant.new)) }
     // At every moment only labels of duplex pairs' volumes, and slots of tracks of which the walk has an item, differ.
@@ -167,10 +169,11 @@ pub fn advance<R: Threads + Sync, P: Plant>(
     ensures ok { P.tells → IsGoodOrCalledFor (P.state plant.old) session (λ o. IsRecoverable (P.state plant.old) session o.means) result }
     ensures short { (d : AnyDevice) → first_short (P.state plant.old) ≡ Some d → result ≡ Err (Site (TooSmall d (need d))) }
     // Why it fails: a fault is of a device whose count rose, no other count of the control, the state or a journal changes, and the
-    // failed devices are those of duplex pairs whose counts rose. A volume is left at its first fault, whatever is answered.
+    // failed devices are those of duplex pairs whose counts rose. A volume is left at its first fault, whatever is answered, and no
+    // other volume is called.
     ensures cause { TellsFaults (P.state plant.old).faults (P.state plant.new).faults (λ d. IsErrOf result (Site (Fault d))) }
     ensures failed { IfOk result (λ o. AreFaulty o.means.table.rows (P.state plant.old).faults (P.state plant.new).faults o.failed) }
-    ensures once { (v : ℕ) → (P.state plant.new).faults (Volume v) ≤ (P.state plant.old).faults (Volume v) + 1 }
+    ensures volumes { CountsVolumes P.tells (meant_rows (P.state plant.old) (P.state plant.old).bytes) (P.state plant.old).faults (P.state plant.new).faults result }
     // Each duplex pair's volume that isn't among them holds what the devices meant, and is durable.
     ensures redone { P.tells → IfOk result (λ o. Redone AsItIs (meant_rows (P.state plant.old) (P.state plant.old).bytes) (walked (P.state plant.old) (P.state plant.old).bytes) o.failed (P.state plant.old) (P.state plant.new)) }
     // At every moment nothing differs but what may in a recovery, and of that no label does: each has its 14 bytes from before, in what

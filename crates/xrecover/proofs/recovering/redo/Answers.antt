@@ -14,7 +14,7 @@ use Rattle.xrecover.specs.SideVolumes.{AppliesSides, AreHome, is_left}
 use Rattle.xrecover.proofs.Fails.{tells_none, tells_site}
 use Rattle.xrecover.proofs.Meant.{read_walk, small_same}
 use Rattle.xrecover.proofs.LentSides.{written_whole}
-use Rattle.xrecover.proofs.RedoneSides.{all_faulty, all_once, all_redone, all_treats, all_works, walk_labels, walk_once, walk_treats, walk_works}
+use Rattle.xrecover.proofs.RedoneSides.{all_faulty, all_once, all_redone, all_spared, all_treats, all_works, walk_labels, walk_once, walk_spared, walk_treats, walk_works}
 use Rattle.xrecover.proofs.recovering.redo.Goals as goal
 
 pub redo_walk-requires-clause-walk : goal.redo_walk-requires-clause-walk
@@ -88,6 +88,19 @@ returns-in_err-redo_walk-clause-once g c =
     let value : c.deref_mut.result.now ≡ was = search rules in
     let walk = subst (λ (l : List (VolumeJob _)). AppliesSides g.P.Plant.tells items (is_left l) (is_left now) a b) value c.redo_walk.ensures.applies in
     walk_once g.P.Plant.tells rows items (is_left was) (is_left now) a b walk ready.duplex ready.others
+
+pub returns-in_err-redo_walk-clause-spared : goal.returns-in_err-redo_walk-clause-spared
+returns-in_err-redo_walk-clause-spared g c =
+    let a = g.P.Plant.state c.args.plant.now in
+    let b = g.P.Plant.state c.redo_walk.new.plant in
+    let ready = c.requires.ready in
+    let items = walked a a.bytes in
+    let rows = c.args.reading.now.means.table.rows in
+    let was = c.args.tools.jobs.items in
+    let now = c.redo_walk.new.jobs in
+    let value : c.deref_mut.result.now ≡ was = search rules in
+    let walk = subst (λ (l : List (VolumeJob _)). AppliesSides g.P.Plant.tells items (is_left l) (is_left now) a b) value c.redo_walk.ensures.applies in
+    walk_spared g.P.Plant.tells rows items (is_left was) (is_left now) a b walk ready.duplex ready.others
 
 pub returns-in_err-redo_walk-clause-late : goal.returns-in_err-redo_walk-clause-late
 returns-in_err-redo_walk-clause-late g c = λ told e is.
@@ -187,6 +200,22 @@ returns-clause-once g c =
     let after : c.deref-2.result.now ≡ now = c.deref-2.ensures.value ∙ written_whole c.args.tools.jobs.len c.redo_walk.new.jobs c.args.tools.jobs.items (omega (arith, c.redo_walk.ensures.jobs.count, c.redo_walk.ensures.applies.works.site.volumes, c.requires.ready.jobs.count)) (omega (arith, c.args.tools.jobs.ok.0)) in
     let fin = subst (λ (l : List (VolumeJob _)). FinishesPairs g.P.Plant.tells c.args.labelling rows (is_left l) c.finish_pairs.result b d) after c.finish_pairs.ensures.finishes in
     all_once g.P.Plant.tells rows items (is_left was) (is_left now) a b walk ready.duplex ready.others c.args.labelling c.finish_pairs.result d fin
+
+pub returns-clause-spared : goal.returns-clause-spared
+returns-clause-spared g c =
+    let a = g.P.Plant.state c.args.plant.now in
+    let b = g.P.Plant.state c.redo_walk.new.plant in
+    let d = g.P.Plant.state c.finish_pairs.new.plant in
+    let ready = c.requires.ready in
+    let items = walked a a.bytes in
+    let rows = c.args.reading.now.means.table.rows in
+    let was = c.args.tools.jobs.items in
+    let now = c.redo_walk.new.jobs in
+    let value : c.deref_mut.result.now ≡ was = search rules in
+    let walk = subst (λ (l : List (VolumeJob _)). AppliesSides g.P.Plant.tells items (is_left l) (is_left now) a b) value c.redo_walk.ensures.applies in
+    let after : c.deref-2.result.now ≡ now = c.deref-2.ensures.value ∙ written_whole c.args.tools.jobs.len c.redo_walk.new.jobs c.args.tools.jobs.items (omega (arith, c.redo_walk.ensures.jobs.count, c.redo_walk.ensures.applies.works.site.volumes, c.requires.ready.jobs.count)) (omega (arith, c.args.tools.jobs.ok.0)) in
+    let fin = subst (λ (l : List (VolumeJob _)). FinishesPairs g.P.Plant.tells c.args.labelling rows (is_left l) c.finish_pairs.result b d) after c.finish_pairs.ensures.finishes in
+    all_spared g.P.Plant.tells rows items (is_left was) (is_left now) a b walk ready.duplex ready.others c.args.labelling c.finish_pairs.result d fin
 
 pub returns-clause-fault : goal.returns-clause-fault
 returns-clause-fault g c = tells_none _ _ _ (λ (d : Device). Site (Fault d)) (λ d here. c.finish_pairs.ensures.counts d here ∙ c.in_ok-redo_walk.ensures.fault.others d here (λ is. cc))

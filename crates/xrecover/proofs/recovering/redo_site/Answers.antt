@@ -1,4 +1,4 @@
-use Rattle.std.proofs.Common.{◌≡◌, ◌∙◌, ℕ, List, Result, Err, refl, sym, subst, arith, rules}
+use Rattle.std.proofs.Common.{◌≡◌, ◌∙◌, ℕ, List, Result, Err, refl, sym, ap, subst, arith, rules}
 use Rattle.std.proofs.lemmas.Result.{err_from_is_err_and}
 use Rattle.std.specs.Prelude.{IsErrOf}
 use Rattle.crash_plant.specs.declared.device.Device.{Device}
@@ -10,10 +10,10 @@ use Rattle.site_means.specs.declared.site_error.SiteError.TheVariants.{Fault, No
 use Rattle.xrecover.specs.declared.recover_error.RecoverError.{RecoverError}
 use Rattle.xrecover.specs.declared.recover_error.RecoverError.TheVariants.{Site}
 use Rattle.site_means.specs.declared.reading.SiteReading.{SiteReading}
-use Rattle.xrecover.specs.Answers.{EndsLate, IsRecoverable, IsGoodOrCalledFor, TellsFaults}
+use Rattle.xrecover.specs.Answers.{CountsVolumes, EndsLate, IsRecoverable, IsGoodOrCalledFor, TellsFaults}
 use Rattle.xrecover.specs.RedoneVolumes.{Recovers, meant_rows}
 use Rattle.xrecover.proofs.Fails.{so_good, tells_again, tells_memory, tells_none, tells_so}
-use Rattle.xrecover.proofs.Finish.{all_redone, all_treated, all_works, ends_late, lasting_late, lasting_read, late_says, no_writes, once_since}
+use Rattle.xrecover.proofs.Finish.{all_redone, all_treated, all_works, counts_read, counts_since, ends_late, err_error, lasting_late, lasting_read, late_says, no_writes, rows_are}
 use Rattle.xrecover.proofs.Labels.{treats_read}
 use Rattle.xrecover.proofs.Meant.{small_same}
 use Rattle.xrecover.proofs.Works.{works_reads}
@@ -144,23 +144,38 @@ returns-clause-cause g c =
     let new = g.P.Plant.state c.redo.new.plant in
     tells_none old.faults new.faults _ (λ (d : Device). Site (Fault d)) (λ d here. c.in_ok-failed.ensures.fault.others d here (λ is. cc) ∙ so_good old.faults one.faults c.in_ok-reading.reading c.in_ok-reading.ensures.fails d)
 
-pub returns-in_err-reading-clause-once : goal.returns-in_err-reading-clause-once
-returns-in_err-reading-clause-once g c = λ v. let same = c.read_recoverable.ensures.reads.only.others_faults (Volume v) (λ is. is) in omega (arith, same)
-
-pub returns-in_err-tools-clause-once : goal.returns-in_err-tools-clause-once
-returns-in_err-tools-clause-once g c = λ v. let same = c.read_recoverable.ensures.reads.only.others_faults (Volume v) (λ is. is) in omega (arith, same)
-
-pub returns-in_err-failed-clause-once : goal.returns-in_err-failed-clause-once
-returns-in_err-failed-clause-once g c =
+pub returns-in_err-reading-clause-volumes : goal.returns-in_err-reading-clause-volumes
+returns-in_err-reading-clause-volumes g c =
     let old = g.P.Plant.state c.args.plant.now in
     let one = g.P.Plant.state c.read_recoverable.new.plant in
-    once_since old.faults one.faults (g.P.Plant.state c.redo.new.plant).faults (so_good old.faults one.faults c.in_ok-reading.reading c.in_ok-reading.ensures.fails) c.redo.ensures.once
+    counts_read g.P.Plant.tells (meant_rows old old.bytes) old.faults one.faults c.from_residual.result (λ v. c.read_recoverable.ensures.reads.only.others_faults (Volume v) (λ is. is))
 
-pub returns-clause-once : goal.returns-clause-once
-returns-clause-once g c =
+pub returns-in_err-tools-clause-volumes : goal.returns-in_err-tools-clause-volumes
+returns-in_err-tools-clause-volumes g c =
     let old = g.P.Plant.state c.args.plant.now in
     let one = g.P.Plant.state c.read_recoverable.new.plant in
-    once_since old.faults one.faults (g.P.Plant.state c.redo.new.plant).faults (so_good old.faults one.faults c.in_ok-reading.reading c.in_ok-reading.ensures.fails) c.redo.ensures.once
+    counts_read g.P.Plant.tells (meant_rows old old.bytes) old.faults one.faults c.from_residual-in_err-tools.result (λ v. c.read_recoverable.ensures.reads.only.others_faults (Volume v) (λ is. is))
+
+pub returns-in_err-failed-clause-volumes : goal.returns-in_err-failed-clause-volumes
+returns-in_err-failed-clause-volumes g c =
+    let old = g.P.Plant.state c.args.plant.now in
+    let one = g.P.Plant.state c.read_recoverable.new.plant in
+    let new = g.P.Plant.state c.redo.new.plant in
+    let rows = c.in_ok-reading.reading.means.table.rows in
+    let k = c.in_err-failed.field-0.0 in
+    let is : c.from_residual-in_err-failed.result ≡ Err k = search rules in
+    subst (λ (r : Result Outcome RecoverError). CountsVolumes g.P.Plant.tells (meant_rows old old.bytes) old.faults new.faults r) (sym is)
+    (counts_since old.faults one.faults new.faults (so_good old.faults one.faults c.in_ok-reading.reading c.in_ok-reading.ensures.fails) g.P.Plant.tells rows (meant_rows old old.bytes) (λ told. rows_are g.P.Plant.tells old one c.read_recoverable.ensures.reads c.args.session c.in_ok-reading.reading.means (λ told. (c.in_ok-reading.ensures.says told).0) new told)
+    c.redo.ensures.once c.redo.ensures.spared (Err k) (λ told e same early. early (subst (λ (x : RecoverError). EndsLate x) (err_error k e same) (ends_late one k (c.in_err-failed.ensures.late told k refl)))))
+
+pub returns-clause-volumes : goal.returns-clause-volumes
+returns-clause-volumes g c =
+    let old = g.P.Plant.state c.args.plant.now in
+    let one = g.P.Plant.state c.read_recoverable.new.plant in
+    let new = g.P.Plant.state c.redo.new.plant in
+    let rows = c.in_ok-reading.reading.means.table.rows in
+    counts_since old.faults one.faults new.faults (so_good old.faults one.faults c.in_ok-reading.reading c.in_ok-reading.ensures.fails) g.P.Plant.tells rows (meant_rows old old.bytes) (λ told. rows_are g.P.Plant.tells old one c.read_recoverable.ensures.reads c.args.session c.in_ok-reading.reading.means (λ told. (c.in_ok-reading.ensures.says told).0) new told)
+    c.redo.ensures.once c.redo.ensures.spared _ (λ told e same early. cc)
 
 -- ---- what lasts
 
@@ -170,7 +185,7 @@ returns-in_err-reading-clause-lasts g c = λ told.
     let one = g.P.Plant.state c.read_recoverable.new.plant in
     let e = c.in_err-reading.field-0.0 in
     let is : c.from_residual.result ≡ Err e = search rules in
-    subst (λ (r : Result Outcome RecoverError). TellsLasting g.P.Plant.tells old one r) (sym is) (lasting_read SiteReading Outcome g.P.Plant.tells told old one c.read_recoverable.ensures.reads e (c.in_err-reading.ensures.durable told))
+    subst (λ (r : Result Outcome RecoverError). TellsLasting g.P.Plant.tells old one r) (sym is) (lasting_read SiteReading Outcome g.P.Plant.tells told old one c.read_recoverable.ensures.reads e (c.in_err-reading.ensures.durable told) (λ v needed same. c.in_err-reading.ensures.small told v needed (ap (λ (k : RecoverError). let r : Result SiteReading RecoverError = Err k in r) same)))
 
 pub returns-in_err-tools-clause-lasts : goal.returns-in_err-tools-clause-lasts
 returns-in_err-tools-clause-lasts g c = λ told.
