@@ -1,5 +1,6 @@
 -- How the blocks of a region are linked: runs of blocks, each naming the next. The free blocks are one run, each chain is another.
 use Rattle.std.specs.Prelude.{◌≡◌, ℕ, zero, suc, ◌+◌, ◌-◌, ◌*◌, ◌<◌, ◌^◌, List, [], ◌∷◌, ◌++◌, length, get_or, take, sum_by}
+use Rattle.xrc_edge.specs.declared.block.TheConstants.{BLOCK}
 use Rattle.block_region.specs.Blocks.{blocks_of, block_at}
 
 -- the block that so many steps lead to
@@ -10,7 +11,7 @@ hop next (suc n) first = get_or next (hop next n first) 0
 -- of the bytes of a length that a run holds from a block on, those in its first so many blocks
 abbrev pub gathered : (bytes next : List ℕ) → (first len count : ℕ) → List ℕ
 gathered bytes next first len zero = []
-gathered bytes next first len (suc n) = gathered bytes next first len n ++ take (len - 512 * n) (block_at bytes (hop next n first))
+gathered bytes next first len (suc n) = gathered bytes next first len n ++ take (len - BLOCK * n) (block_at bytes (hop next n first))
 
 -- the bytes of a length that a run holds from a block on
 abbrev pub run_bytes : (bytes next : List ℕ) → (first len : ℕ) → List ℕ
@@ -39,7 +40,7 @@ run_count free lens (suc first) = blocks_of (get_or lens first 0)
 -- The runs of a region are sound: each block lies in one run, at one place.
 pub record AreRunsSound (bytes next lens : List ℕ) (first_free free : ℕ) : Type 0 where
   pub few : length next < 2 ^ 32
-  pub sized : length bytes ≡ 512 * length next
+  pub sized : length bytes ≡ BLOCK * length next
   pub rows : length lens ≡ length next
   pub within : (run k : ℕ) → k < run_count free lens run → hop next k (run_first first_free run) < length next
   pub apart : (run other k l : ℕ) → k < run_count free lens run → l < run_count free lens other

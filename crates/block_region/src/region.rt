@@ -1,6 +1,7 @@
 //! A region of blocks.
 
-ghost use Rattle.std.specs.Prelude.{◌≡◌, ◌+◌, ◌<◌, ◌≤◌, ◌^◌, ◌↔◌, [], length, IfOk, OnErr, IsErr, IfErr};
+ghost use Rattle.std.specs.Prelude.{◌≡◌, ◌+◌, ◌<◌, ◌≤◌, ◌↔◌, [], length, IfOk, OnErr, IsErr, IfErr};
+ghost use Rattle.xrc_edge.specs.declared.limits.TheConstants.{LONGEST_TRACE};
 ghost use Rattle.block_region.specs.Blocks.{blocks_of};
 ghost use Rattle.block_region.specs.Regions.{empty_region, chain_bytes_at, chain_bytes, Holds, with_chain, without_chain, block_count, taken_blocks, free_blocks};
 
@@ -60,7 +61,7 @@ impl Region {
 
     /// Keeps bytes in a new chain. Full exactly where they need more blocks than are free; the region is then as before.
     pub fn take(&mut self, bytes: &[u8]) -> Result<Chain, Full>
-        requires { length bytes.now ≤ 2 ^ 40 }
+        requires { length bytes.now ≤ LONGEST_TRACE }
         ensures len { IfOk result (λ chain. chain.len ≡ length bytes.now) }
         ensures fresh { IfOk result (λ chain. chain_bytes_at self.old chain.first ≡ []) }
         ensures taken { IfOk result (λ chain. self.new ≡ with_chain self.old chain.first bytes.now) }

@@ -97,8 +97,8 @@ up_to_no_more recs i after rec is lt at so_far above =
     let here = left_at recs i rec lt at in
     let rises = rises_behind_first 0 i recs (drop (i + 1) recs) rec (track_rises recs is) here in
     let test : nat_le rec.number after ≡ false = lt-leb rec.number after above in
-    let behind : up_to after (drop (i + 1) recs) ≡ [] = none_up_to after rec.number (drop (i + 1) recs) (omega (arith, above)) rises in
-    let none : up_to after (drop i recs) ≡ [] = ap (up_to after) here ∙ rw test behind in
+    let later_none : up_to after (drop (i + 1) recs) ≡ [] = none_up_to after rec.number (drop (i + 1) recs) (omega (arith, above)) rises in
+    let none : up_to after (drop i recs) ≡ [] = ap (up_to after) here ∙ rw test later_none in
     sym (so_far ∙ ap (λ (t : List Rec). take i recs ++ t) none ∙ append-nil (take i recs))
 
 pub up_to_more : (recs : List Rec) (i after : ℕ) (rec : Rec) → i < length recs → rec ≡ get_or recs i rec → up_to after recs ≡ take i recs ++ up_to after (drop i recs) → rec.number ≤ after

@@ -1,7 +1,6 @@
 //! The numbers of a track, of the slots of a volume, and of the writes that wait. Each is said here alone.
 
-use tod_stamp::TRACKS_OF_CYLINDER;
-use xrc_edge::BLOCK;
+use xrc_edge::{BLOCK, TRACKS_OF_CYLINDER};
 
 /// The sizes of a track's records add up to at most this.
 pub const CAPACITY: usize = 56_664;

@@ -9,7 +9,8 @@ use Rattle.pair_table.specs.declared.row.PairRow.{PairRow}
 use Rattle.pair_table.specs.Tables.{Table}
 use Rattle.row_changes.specs.Changes.{Due, Timed, after_changes, may_all_come, may_end}
 use Rattle.row_changes.specs.Changes.Due.{NoneDue}
-use Rattle.row_changes.specs.Spans.{AreCounted, Toward, all_broke, is_hit_at, is_settled}
+use Rattle.row_changes.specs.Spans.{AreCounted, Toward, all_broke, is_hit_at}
+use Rattle.pair_table.specs.States.{is_settled}
 use Rattle.xrc_command.specs.declared.line.Line.{Line}
 use Rattle.consistency.specs.Stages.{AreAfterLine, AreOnTheWay, IsTime, ScriptRun, Stage, accepts_end, breaks_of, names_of}
 use Rattle.consistency.specs.Steps.{IsCommanded, IsLineStep, commanded, is_active, table_after_line, table_on_the_way}

@@ -5,52 +5,42 @@ use Rattle.std.specs.List.{All, list_all}
 use Rattle.std.proofs.lemmas.Bool.{and_parts, eqb-true, leb-true}
 use Rattle.std.proofs.lemmas.List.Elements.{All-cons, All-nil}
 use Rattle.std.proofs.lemmas.List.Sums.{sum_by-cons}
-use Rattle.pair_table.specs.declared.level.Level.{Level}
-use Rattle.pair_table.specs.declared.level.Level.TheVariants.{Session as SessionLevel, Volume as VolumeLevel}
 use Rattle.pair_table.specs.declared.row.PairRow.{PairRow}
 use Rattle.pair_table.specs.declared.row.PairState.{PairState}
-use Rattle.pair_table.specs.declared.row.SuspendCause.TheVariants.{Device as ByDevice, Session as BySession}
+use Rattle.pair_table.specs.declared.row.SuspendCause.TheVariants.{Device as ByDevice}
 use Rattle.pair_table.specs.Devices.{is_among}
 use Rattle.pair_table.specs.Rows.{is_suspended}
 use Rattle.pair_table.specs.Tables.{in_state}
-use Rattle.row_changes.specs.Changes.{RowChange, Timed, reached_row, row_after_change, since, suspended_by}
+use Rattle.row_changes.specs.Changes.{FaultReach, RowChange, Timed, reach_of, reached_row, row_after_change, since, suspended_by}
 use Rattle.row_changes.specs.Changes.RowChange.{Break, Hit, MarkedHit, Mature, Reached}
 use Rattle.row_changes.specs.Spans.{hit_count, hits, is_hit_at}
 use Rattle.row_changes.proofs.Functions.{after_rows, row_after}
+use Rattle.row_changes.proofs.Reaching.{reached_state}
 use Rattle.xrc_command.specs.declared.line.Line.{Line}
 use Rattle.consistency.specs.Stages.{ScriptRun}
 use Rattle.consistency.specs.Leads.{Point}
 use Rattle.consistency.specs.Ways.{IsCommanding, Leg, commanded_point, hits_stand}
 use Rattle.consistency.proofs.Hits.{no_other}
 
-module _ (level : Level) (time : ℕ) where
+module _ (reach : FaultReach) (time : ℕ) where
   -- the state in which its device's failure leaves a row
   abbrev Struck : PairState
   Struck = since ByDevice time
 
-  suspended_stays : (r : PairRow) → r.state ≡ Struck → suspended_by BySession time r ≡ r
-  suspended_stays r is = ap (λ (state : PairState). if is_suspended state then r else in_state (since BySession time) r) is
-
   -- A row's device, and its state where it was struck, stay while others are reached.
-  reached_stays : (level : Level) (devices : List ℕ) (r : PairRow) → r.state ≡ Struck → reached_row level devices time r ≡ r
-  reached_stays VolumeLevel devices r is = refl
-  reached_stays SessionLevel devices r is = by_case (is_among r.device devices)
+  reached_stays : (devices : List ℕ) (r : PairRow) → r.state ≡ Struck → reached_row reach devices time r ≡ r
+  reached_stays devices r is = by_case (reach.reaches devices r)
     where
-      by_case : (b : Bool) → (if b then r else suspended_by BySession time r) ≡ r
-      by_case true = refl
-      by_case false = suspended_stays r is
+      by_case : (b : Bool) → (if b then suspended_by reach.cause time r else r) ≡ r
+      by_case true = ap (λ (state : PairState). if is_suspended state then r else in_state (since reach.cause time) r) is
+      by_case false = refl
 
-  same_device : (b : Bool) (x y : PairRow) (device : ℕ) → x.device ≡ device → y.device ≡ device → (if b then x else y).device ≡ device
-  same_device true x y device one two = one
-  same_device false x y device one two = two
-
-  reached_device : (level : Level) (devices : List ℕ) (r : PairRow) → (reached_row level devices time r).device ≡ r.device
-  reached_device VolumeLevel devices r = refl
-  reached_device SessionLevel devices r = same_device (is_among r.device devices) r (suspended_by BySession time r) r.device refl (same_device (is_suspended r.state) r (in_state (since BySession time) r) r.device refl refl)
+  reached_device : (devices : List ℕ) (r : PairRow) → (reached_row reach devices time r).device ≡ r.device
+  reached_device devices r = ap (λ (x : PairRow). x.device) (reached_state reach devices time r)
 
   -- One hit leaves a row its device. It strikes the row of its device, and leaves a struck row so.
   abbrev Stands : (t : Timed) (r : PairRow) → Type 0
-  Stands t r = ((row_after_change level t r).device ≡ r.device) × ((r.state ≡ Struck) ⊎ (hits r.device t ≡ true) → (row_after_change level t r).state ≡ Struck)
+  Stands t r = ((row_after_change reach t r).device ≡ r.device) × ((r.state ≡ Struck) ⊎ (hits r.device t ≡ true) → (row_after_change reach t r).state ≡ Struck)
 
   hit_stands : (at : ℕ) (change : RowChange) (r : PairRow) → is_hit_at time (record { time = at; change = change }) ≡ true → Stands (record { time = at; change = change }) r
   hit_stands at (Hit devices) r is = subst (λ (n : ℕ). Stands (record { time = n; change = Hit devices }) r) (sym (eqb-true at time (left_of (at == time) is))) (by_case (is_among r.device devices) refl)
@@ -60,11 +50,11 @@ module _ (level : Level) (time : ℕ) where
       left_of false e = absurd cc
 
       by_case : (b : Bool) → is_among r.device devices ≡ b → Stands (record { time = time; change = Hit devices }) r
-      by_case true among = rw among (reached_device level devices (in_state Struck r), λ struck. ap (λ (x : PairRow). x.state) (reached_stays level devices (in_state Struck r) refl))
-      by_case false among = rw among (reached_device level devices r, still)
+      by_case true among = rw among (reached_device devices (in_state Struck r), λ struck. ap (λ (x : PairRow). x.state) (reached_stays devices (in_state Struck r) refl))
+      by_case false among = rw among (reached_device devices r, still)
         where
-          still : (r.state ≡ Struck) ⊎ (false ≡ true) → (reached_row level devices time r).state ≡ Struck
-          still (inl struck) = ap (λ (x : PairRow). x.state) (reached_stays level devices r struck) ∙ struck
+          still : (r.state ≡ Struck) ⊎ (false ≡ true) → (reached_row reach devices time r).state ≡ Struck
+          still (inl struck) = ap (λ (x : PairRow). x.state) (reached_stays devices r struck) ∙ struck
           still (inr never) = absurd cc
   hit_stands at (MarkedHit devices) r is = absurd (no_other (at == time) is)
   hit_stands at (Reached devices) r is = absurd (no_other (at == time) is)
@@ -73,16 +63,16 @@ module _ (level : Level) (time : ℕ) where
 
   -- Hits that stand, where each of these rows comes from the one before.
   abbrev AllStand : (behind : List Timed) (r : PairRow) → Type 0
-  AllStand behind r = ((row_after level behind r).device ≡ r.device) × ((r.state ≡ Struck) ⊎ (0 < hit_count r.device behind) → (row_after level behind r).state ≡ Struck)
+  AllStand behind r = ((row_after reach behind r).device ≡ r.device) × ((r.state ≡ Struck) ⊎ (0 < hit_count r.device behind) → (row_after reach behind r).state ≡ Struck)
 
-  one_then : (t : Timed) (behind : List Timed) (r : PairRow) → Stands t r → AllStand behind (row_after_change level t r) → AllStand (t ∷ behind) r
+  one_then : (t : Timed) (behind : List Timed) (r : PairRow) → Stands t r → AllStand behind (row_after_change reach t r) → AllStand (t ∷ behind) r
   one_then t behind r one rest = (rest.0 ∙ one.0, struck_then)
     where
-      by_hit : (b : Bool) → hits r.device t ≡ b → 0 < hit_count r.device (t ∷ behind) → (row_after level (t ∷ behind) r).state ≡ Struck
+      by_hit : (b : Bool) → hits r.device t ≡ b → 0 < hit_count r.device (t ∷ behind) → (row_after reach (t ∷ behind) r).state ≡ Struck
       by_hit true is some = rest.1 (inl (one.1 (inr is)))
       by_hit false is some = rest.1 (inr (subst (λ (n : ℕ). 0 < hit_count n behind) (sym one.0) (omega (arith, some, sum_by-cons (λ x. cond (hits r.device x) 1 0) t behind, ap {B = ℕ} (λ (b : Bool). cond b 1 0) is))))
 
-      struck_then : (r.state ≡ Struck) ⊎ (0 < hit_count r.device (t ∷ behind)) → (row_after level (t ∷ behind) r).state ≡ Struck
+      struck_then : (r.state ≡ Struck) ⊎ (0 < hit_count r.device (t ∷ behind)) → (row_after reach (t ∷ behind) r).state ≡ Struck
       struck_then (inl struck) = rest.1 (inl (one.1 (inl struck)))
       struck_then (inr some) = by_hit (hits r.device t) refl some
 
@@ -94,22 +84,22 @@ module _ (level : Level) (time : ℕ) where
       done (inr some) = absurd (omega (arith, some))
   all_stand (t ∷ behind) r are =
       let parts = and_parts (is_hit_at time t) (list_all (is_hit_at time) behind) are in
-      one_then t behind r (hit_stands t.time t.change r parts.0) (all_stand behind (row_after_change level t r) parts.1)
+      one_then t behind r (hit_stands t.time t.change r parts.0) (all_stand behind (row_after_change reach t r) parts.1)
 
   -- Of rows behind hits, those are struck that the hits hold as often as a mark does, where the mark holds them.
-  pub rows_stand : (marked behind : List Timed) (rows : List PairRow) → list_all (is_hit_at time) behind ≡ true → hits_stand marked behind (map (row_after level behind) rows) ≡ true
-      → All (λ r. 0 < hit_count r.device marked → r.state ≡ Struck) (map (row_after level behind) rows)
+  pub rows_stand : (marked behind : List Timed) (rows : List PairRow) → list_all (is_hit_at time) behind ≡ true → hits_stand marked behind (map (row_after reach behind) rows) ≡ true
+      → All (λ r. 0 < hit_count r.device marked → r.state ≡ Struck) (map (row_after reach behind) rows)
   rows_stand marked behind [] are stand = All-nil (λ (r : PairRow). 0 < hit_count r.device marked → r.state ≡ Struck)
   rows_stand marked behind (r ∷ rows) are stand =
-      All-cons (λ (x : PairRow). 0 < hit_count x.device marked → x.state ≡ Struck) (row_after level behind r) (map (row_after level behind) rows) here (rows_stand marked behind rows are parts.1)
+      All-cons (λ (x : PairRow). 0 < hit_count x.device marked → x.state ≡ Struck) (row_after reach behind r) (map (row_after reach behind) rows) here (rows_stand marked behind rows are parts.1)
     where
-      parts : (let new = row_after level behind r in (nat_le (hit_count new.device marked) (hit_count new.device behind) ≡ true) × (hits_stand marked behind (map (row_after level behind) rows) ≡ true))
-      parts = let new = row_after level behind r in and_parts (nat_le (hit_count new.device marked) (hit_count new.device behind)) (hits_stand marked behind (map (row_after level behind) rows)) stand
+      parts : (let new = row_after reach behind r in (nat_le (hit_count new.device marked) (hit_count new.device behind) ≡ true) × (hits_stand marked behind (map (row_after reach behind) rows) ≡ true))
+      parts = let new = row_after reach behind r in and_parts (nat_le (hit_count new.device marked) (hit_count new.device behind)) (hits_stand marked behind (map (row_after reach behind) rows)) stand
 
-      here : 0 < hit_count (row_after level behind r).device marked → (row_after level behind r).state ≡ Struck
+      here : 0 < hit_count (row_after reach behind r).device marked → (row_after reach behind r).state ≡ Struck
       here some =
           let one = all_stand behind r are in
-          let as_often = leb-true (hit_count (row_after level behind r).device marked) (hit_count (row_after level behind r).device behind) parts.0 in
+          let as_often = leb-true (hit_count (row_after reach behind r).device marked) (hit_count (row_after reach behind r).device behind) parts.0 in
           one.1 (inr (subst (λ (n : ℕ). 0 < hit_count n behind) one.0 (omega (arith, some, as_often))))
 
 -- Behind the command each row whose device the mark hit is suspended by its device.
@@ -117,6 +107,7 @@ pub marked_rows_stand : (run : ScriptRun) (asked : Option Line) (l : Leg) (q : P
     → All (λ r. 0 < hit_count r.device l.marked → r.state ≡ since ByDevice l.point.time) q.rows
 marked_rows_stand run asked l q behind goes commanding =
     let effect = commanding.active goes in
-    let rows_are = effect.leads.leads.rows ∙ after_rows run.level behind (commanded_point run commanding.line l.point).rows in
+    let start = (commanded_point run commanding.line l.point).rows in
+    let rows_are = effect.leads.leads.rows ∙ after_rows run.level behind start in
     subst (λ (rows : List PairRow). All (λ r. 0 < hit_count r.device l.marked → r.state ≡ since ByDevice l.point.time) rows) (sym rows_are)
-    (rows_stand run.level l.point.time l.marked behind (commanded_point run commanding.line l.point).rows effect.leads.are_hits (subst (λ (rows : List PairRow). hits_stand l.marked behind rows ≡ true) rows_are commanding.stand))
+    (rows_stand (reach_of run.level start) l.point.time l.marked behind start effect.leads.are_hits (subst (λ (rows : List PairRow). hits_stand l.marked behind rows ≡ true) rows_are commanding.stand))

@@ -9,22 +9,19 @@ use Rattle.tod_stamp.specs.Names.{is_serial}
 use Rattle.pair_table.specs.declared.command.Command.{Command}
 use Rattle.pair_table.specs.declared.command.Command.TheVariants.{Start, AddPair, DelPair, Suspend, Query, End}
 use Rattle.pair_table.specs.declared.level.Level.{Level}
-use Rattle.pair_table.specs.declared.level.Level.TheVariants.{Volume as VolumeLevel, Session as SessionLevel}
 use Rattle.pair_table.specs.declared.names.NamedDevice.{NamedDevice}
 use Rattle.pair_table.specs.declared.names.NamedVolume.{NamedVolume}
 use Rattle.pair_table.specs.declared.row.PairRow.{PairRow}
 use Rattle.pair_table.specs.declared.row.PairState.TheVariants.{Pending, Suspended}
-use Rattle.pair_table.specs.declared.row.SuspendCause.{SuspendCause}
-use Rattle.pair_table.specs.declared.row.SuspendCause.TheVariants.{Command as ByCommand, Device as ByDevice, Session as BySession, Control as ByControl}
+use Rattle.pair_table.specs.declared.row.SuspendCause.TheVariants.{Command as ByCommand}
 use Rattle.pair_table.specs.Commands.{accepted, add_to, is_chosen, is_to_suspend, new_row, new_row_for, rows_after, suspended_since}
-use Rattle.pair_table.specs.Devices.{is_among}
 use Rattle.pair_table.specs.Naming.{label_in, lower, primary_of}
 use Rattle.pair_table.specs.Refusals.{is_of_primary, refusal, row_of_primary}
 use Rattle.pair_table.specs.Rows.{is_suspended}
 use Rattle.pair_table.specs.Tables.{Table, in_state, is_of}
 use Rattle.pair_table.proofs.FindLaws.{found_all}
-use Rattle.row_changes.specs.Changes.{RowChange, Timed, after_change, after_changes, hit_row, reached_row, row_after_change, since, suspended_by}
-use Rattle.row_changes.specs.Changes.RowChange.{Break, Hit, MarkedHit, Mature, Reached}
+use Rattle.row_changes.specs.Changes.{Timed, after_change, after_changes, reach_of, row_after_change}
+use Rattle.row_changes.proofs.Reaching.{changes_state}
 use Rattle.xrc_command.specs.declared.line.Line.{Line}
 use Rattle.consistency.specs.Stages.{ScriptRun, Stage, breaks_of, names_of}
 use Rattle.consistency.specs.Courses.{Answered, IsAnswered, IsCourse, stage_at}
@@ -39,32 +36,14 @@ either_way : (b : Bool) (x y r : PairRow) → has_row_serials x ≡ has_row_seri
 either_way true x y r first second = first
 either_way false x y r first second = second
 
-suspended_serials : (cause : SuspendCause) (time : ℕ) (r : PairRow) → has_row_serials (suspended_by cause time r) ≡ has_row_serials r
-suspended_serials cause time r = either_way (is_suspended r.state) r (in_state (since cause time) r) r refl refl
-
-hit_serials : (devices : List ℕ) (time : ℕ) (r : PairRow) → has_row_serials (hit_row devices time r) ≡ has_row_serials r
-hit_serials devices time r = either_way (is_among r.device devices) (in_state (since ByDevice time) r) r r refl refl
-
-reached_serials : (level : Level) (devices : List ℕ) (time : ℕ) (r : PairRow) → has_row_serials (reached_row level devices time r) ≡ has_row_serials r
-reached_serials VolumeLevel devices time r = refl
-reached_serials SessionLevel devices time r = either_way (is_among r.device devices) r (suspended_by BySession time r) r refl (suspended_serials BySession time r)
-
-row_serials : (level : Level) (time : ℕ) (change : RowChange) (r : PairRow) → has_row_serials (row_after_change level (record { time = time; change = change }) r) ≡ has_row_serials r
-row_serials level time (Mature device state) r = either_way (is_of device r) (in_state state r) r r refl refl
-row_serials level time (Break control) r = either_way (r.control == control) (suspended_by ByControl time r) r r (suspended_serials ByControl time r) refl
-row_serials level time (Hit devices) r = reached_serials level devices time (hit_row devices time r) ∙ hit_serials devices time r
-row_serials level time (MarkedHit devices) r = hit_serials devices time r
-row_serials level time (Reached devices) r = reached_serials level devices time r
-
-rows_serials : (level : Level) (t : Timed) (rows : List PairRow) → list_all has_row_serials (after_change level t rows) ≡ list_all has_row_serials rows
-rows_serials level t [] = refl
-rows_serials level t (r ∷ rows) =
-    ap (λ (b : Bool). b && list_all has_row_serials (after_change level t rows)) (row_serials level t.time t.change r) ∙ ap (λ (b : Bool). has_row_serials r && b) (rows_serials level t rows)
+mapped_serials : (f : PairRow → PairRow) → ((r : PairRow) → has_row_serials (f r) ≡ has_row_serials r) → (rows : List PairRow) → list_all has_row_serials (map f rows) ≡ list_all has_row_serials rows
+mapped_serials f same [] = refl
+mapped_serials f same (r ∷ rows) = ap (λ (b : Bool). b && list_all has_row_serials (map f rows)) (same r) ∙ ap (λ (b : Bool). has_row_serials r && b) (mapped_serials f same rows)
 
 -- Changes leave the names of rows.
 changed_serials : (level : Level) (changes : List Timed) (rows : List PairRow) → list_all has_row_serials (after_changes level changes rows) ≡ list_all has_row_serials rows
 changed_serials level [] rows = refl
-changed_serials level (t ∷ changes) rows = changed_serials level changes (after_change level t rows) ∙ rows_serials level t rows
+changed_serials level (t ∷ changes) rows = changed_serials level changes (after_change level t rows) ∙ mapped_serials (row_after_change (reach_of level rows) t) (λ r. ap has_row_serials (changes_state (reach_of level rows) t r)) rows
 
 pub names_on_the_way : (level : Level) (changes : List Timed) (table : Table) → HasNames table → HasNames (table_on_the_way level changes table)
 names_on_the_way level changes table names = record { named = names.named; serials = changed_serials level changes table.rows ∙ names.serials }
@@ -82,10 +61,6 @@ label_found serial (x ∷ labels) l is all = choose (bytes_eq x.serial serial) r
     choose : (b : Bool) → bytes_eq x.serial serial ≡ b → (let later : Option NamedDevice = label_in serial labels in cond b (Some (lower x later)) later ≡ Some l) → (label_in serial labels ≡ Some l → is_serial serial ≡ true) → is_serial serial ≡ true
     choose true same is next = ap is_serial (sym ((bytes_eq-Decides x.serial serial).0 same)) ∙ parts.0
     choose false other is next = next is
-
-mapped_serials : (f : PairRow → PairRow) → ((r : PairRow) → has_row_serials (f r) ≡ has_row_serials r) → (rows : List PairRow) → list_all has_row_serials (map f rows) ≡ list_all has_row_serials rows
-mapped_serials f same [] = refl
-mapped_serials f same (r ∷ rows) = ap (λ (b : Bool). b && list_all has_row_serials (map f rows)) (same r) ∙ ap (λ (b : Bool). has_row_serials r && b) (mapped_serials f same rows)
 
 filtered_serials : (keep : PairRow → Bool) (rows : List PairRow) → list_all has_row_serials rows ≡ true → list_all has_row_serials (filter keep rows) ≡ true
 filtered_serials keep [] all = refl

@@ -16,12 +16,12 @@ use Rattle.pair_table.specs.Rows.{is_suspended}
 use Rattle.site_means.specs.declared.means.Means.{Means}
 use Rattle.site_means.specs.Images.{shape_of}
 use Rattle.tod_stamp.specs.declared.stamp.Stamp.{Stamp}
-use Rattle.tod_stamp.specs.declared.limits.TheConstants.{TRACKS_OF_CYLINDER}
+use Rattle.xrc_edge.specs.declared.limits.TheConstants.{TRACKS_OF_CYLINDER}
 use Rattle.consistency.specs.Stages.{ScriptRun, names_of, tracks_of_row}
 use Rattle.consistency.specs.Bearing.{ShowsPoint}
 use Rattle.consistency.specs.PointLaws.{IsWalked}
 use Rattle.consistency.specs.Leads.{Point}
-use Rattle.record_rows.specs.Hits.{is_by_device}
+use Rattle.pair_table.specs.States.{is_by_device}
 use Rattle.consistency.specs.Owing.{HasBeenDuplex, has_pair_in, is_changed, is_meant_in, owes_in, owes_track, tracks_asked, tracks_owed, was_duplex}
 use Rattle.consistency.specs.Ways.{PassedPoint, Way}
 use Rattle.passages.proofs.Since.{WasSince, moments_tell, points_tell}

@@ -16,7 +16,8 @@ use Rattle.pair_table.specs.declared.row.PairState.TheVariants.{Pending, Copy, D
 use Rattle.pair_table.specs.declared.row.SuspendCause.{SuspendCause}
 use Rattle.pair_table.specs.declared.row.SuspendCause.TheVariants.{Command, Device, Session, Control}
 use Rattle.pair_table.specs.Tables.{Table}
-use Rattle.xquery_report.specs.Reports.{cause_part, control_line, control_lines, control_part, report_text, row_line, session_line, state_part}
+use Rattle.pair_table.specs.States.{cause_word}
+use Rattle.xquery_report.specs.Reports.{control_line, control_lines, control_part, report_text, row_line, session_line, state_part}
 use Rattle.consistency.specs.Replies.{are_reply, has_reply, is_answer, is_reply_line, is_stamp}
 use Rattle.consistency.specs.Times.{AreWhole, times_in_words, times_said, whole_lines}
 use Rattle.consistency.proofs.Pieces.{feed_whole, line_ended, lines_append, times_append, whole_append}
@@ -150,23 +151,11 @@ controls_tell time number (broken ∷ controls) = both_tell time [] [] (control_
 
 -- ---- the lines of pairs
 
-abbrev cause_word : SuspendCause → List ℕ
-cause_word Command = codes "COMMAND"
-cause_word Device = codes "DEVICE"
-cause_word Session = codes "SESSION"
-cause_word Control = codes "CONTROL"
-
 cause_quiet : (cause : SuspendCause) {others : List (List ℕ)} → AreQuiet others → AreQuiet (cause_word cause ∷ others)
 cause_quiet Command rest = quiet_then (refl, refl) (refl, refl) rest
 cause_quiet Device rest = quiet_then (refl, refl) (refl, refl) rest
 cause_quiet Session rest = quiet_then (refl, refl) (refl, refl) rest
 cause_quiet Control rest = quiet_then (refl, refl) (refl, refl) rest
-
-cause_spaced : (cause : SuspendCause) → 32 ∷ cause_word cause ≡ cause_part cause
-cause_spaced Command = refl
-cause_spaced Device = refl
-cause_spaced Session = refl
-cause_spaced Control = refl
 
 abbrev state_words : PairState → List (List ℕ)
 state_words Pending = codes "PENDING" ∷ []
@@ -180,15 +169,14 @@ state_quiet Copy = quiet_then (refl, refl) (refl, refl) no_more
 state_quiet Duplex = quiet_then (refl, refl) (refl, refl) no_more
 state_quiet (Suspended cause since) = quiet_then (refl, refl) (refl, refl) (cause_quiet cause (quiet_then (refl, refl) (refl, refl) (quiet_stamp since.0 no_more)))
 
-suspended_is : (cause stamp : List ℕ) → codes " SUSPENDED" ++ (cause ++ (codes " SINCE " ++ (stamp ++ []))) ≡ codes " SUSPENDED" ++ cause ++ codes " SINCE " ++ stamp
+suspended_is : (cause stamp : List ℕ) → codes " SUSPENDED" ++ ((32 ∷ cause) ++ (codes " SINCE " ++ (stamp ++ []))) ≡ codes " SUSPENDED " ++ cause ++ codes " SINCE " ++ stamp
 suspended_is cause stamp = simp (append_assoc, append-nil)
 
 state_spaced : (state : PairState) → spaced (state_words state) ≡ state_part state
 state_spaced Pending = refl
 state_spaced Copy = refl
 state_spaced Duplex = refl
-state_spaced (Suspended cause since) =
-    ap (λ (l : List ℕ). codes " SUSPENDED" ++ (l ++ (codes " SINCE " ++ (stamp_text since.0 ++ [])))) (cause_spaced cause) ∙ suspended_is (cause_part cause) (stamp_text since.0)
+state_spaced (Suspended cause since) = suspended_is (cause_word cause) (stamp_text since.0)
 
 row_is : (primary secondary behind : List ℕ) → (codes "PAIR" ++ ((32 ∷ primary) ++ ((32 ∷ secondary) ++ behind))) ++ 10 ∷ [] ≡ codes "PAIR " ++ primary ++ codes " " ++ secondary ++ behind ++ 10 ∷ []
 row_is primary secondary behind = simp append_assoc

@@ -1,6 +1,7 @@
 -- The course of a run: the lines that it answers one after another, and where it stands once so much was heard and said.
 use Rattle.std.specs.Prelude.{◌≡◌, ℕ, suc, ◌+◌, ◌<◌, ◌≤◌, ◌==◌, ◌&&◌, ◌||◌, List, [], ◌∷◌, ◌++◌, length, take, slice_get, fold, Bool, true, false, Option, Some, None, nat_le, nat_lt, IsTrue, if◌then◌else◌}
 use Rattle.std.specs.List.{flat_map, list_any}
+use Rattle.xrc_edge.specs.declared.limits.TheConstants.{MOST_LINES}
 use Rattle.pair_table.specs.declared.command.Command.TheVariants.{Start}
 use Rattle.pair_table.specs.declared.level.Level.{Level}
 use Rattle.pair_table.specs.Tables.{Table, new_table}
@@ -79,7 +80,7 @@ is_whole_line at_end text = list_any (λ b. b == 10) text || (at_end && nat_lt 0
 
 -- the most lines of a script
 abbrev pub most_lines : ℕ
-most_lines = 100000
+most_lines = MOST_LINES
 
 -- the time of the last of so many lines; 0 where there is none
 abbrev pub last_line_time : List Answered → (answered : ℕ) → ℕ

@@ -11,10 +11,10 @@ use Rattle.pair_table.specs.Refusals.{is_pair, row_of_primary}
 use Rattle.pair_table.specs.Rows.{state_numbers}
 use Rattle.pair_table.specs.Tables.{is_of}
 use Rattle.primary_ctl.specs.Primaries.{is_on_track, writes_up_to}
-use Rattle.record_rows.specs.Hits.{is_by_device}
+use Rattle.pair_table.specs.States.{is_by_device}
 use Rattle.site_means.specs.Sight.{means_of}
 use Rattle.consistency.specs.Stages.{ScriptRun, names_of, tracks_of_row}
-use Rattle.tod_stamp.specs.declared.limits.TheConstants.{TRACKS_OF_CYLINDER}
+use Rattle.xrc_edge.specs.declared.limits.TheConstants.{TRACKS_OF_CYLINDER}
 use Rattle.consistency.specs.Leads.{Point}
 use Rattle.passages.specs.Points.{was_so}
 use Rattle.consistency.specs.Ways.{PassedPoint}

@@ -27,7 +27,7 @@ use Rattle.consistency.specs.Answering.{answered_by, points_before, reply_conten
 use Rattle.consistency.specs.Bearing.{Bears, GoesThroughPoints, MayBeMeant, ShowsPoint}
 use Rattle.consistency.specs.Pauses.{HasPassed}
 use Rattle.consistency.specs.Leads.{HitsLead, Leads, LeadsWhole, Point, may_rest}
-use Rattle.record_rows.specs.Hits.{is_by_device}
+use Rattle.pair_table.specs.States.{is_by_device}
 use Rattle.consistency.specs.Owing.{HasBeenDuplex, is_changed, owes_track, tracks_asked, tracks_owed, was_duplex}
 use Rattle.passages.specs.Points.{AreLinked, Throughout, last_point}
 use Rattle.consistency.specs.UnhitStages.{unhit_stage_at}

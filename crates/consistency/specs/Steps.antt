@@ -8,7 +8,8 @@ use Rattle.pair_table.specs.Naming.{Naming}
 use Rattle.pair_table.specs.Tables.{Table, with_rows}
 use Rattle.row_changes.specs.Changes.{Timed, may_all_come, after_changes}
 use Rattle.row_changes.specs.Changes.Due.{NoneDue}
-use Rattle.row_changes.specs.Spans.{Toward, is_break, is_hit_at, is_settled}
+use Rattle.row_changes.specs.Spans.{Toward, is_break, is_hit_at}
+use Rattle.pair_table.specs.States.{is_settled}
 use Rattle.xrc_command.specs.declared.line.Line.{Line}
 
 -- the controls, from this one on, that have broken at a time: those with a break time below it

@@ -5,7 +5,8 @@ use Rattle.pair_table.specs.declared.row.PairRow.{PairRow}
 use Rattle.pair_table.specs.Tables.{Table}
 use Rattle.row_changes.specs.Changes.{Timed}
 use Rattle.row_changes.specs.Changes.Due.{NoneDue}
-use Rattle.row_changes.specs.Spans.{all_broke, hit_count, is_break, is_settled}
+use Rattle.row_changes.specs.Spans.{all_broke, hit_count, is_break}
+use Rattle.pair_table.specs.States.{is_settled}
 use Rattle.xrc_command.specs.declared.line.Line.{Line}
 use Rattle.consistency.specs.Stages.{ScriptRun, Stage, accepts_end, breaks_of, names_of}
 use Rattle.consistency.specs.Steps.{commanded}

@@ -31,7 +31,7 @@ pub fn put_down<P: Plant>(
 }
 
 /// Closes a gate. `is_open` says whether it is open now; one that isn't is left as it is.
-pub fn close_gate<P: Plant>(
+fn close_gate<P: Plant>(
     plant: &mut P,
     device: Device,
     place: u64,

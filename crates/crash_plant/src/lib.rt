@@ -33,7 +33,7 @@ pub use disk::Disk;
 pub use fail::{Fail, FailList};
 pub use file_disk::FileDisk;
 pub use file_plant::FilePlant;
-pub use gate::{close_gate, put_behind_gate, put_down};
+pub use gate::{put_behind_gate, put_down};
 pub use layout::{CONTROL_LENGTH, FRONT, HEADER, STATE_LENGTH, SWITCH};
 pub use memory_plant::MemoryPlant;
 pub use memory_volume::MemoryVolume;

@@ -10,7 +10,8 @@ ghost use Rattle.cut_core.specs.Floors.{StandsAfter, told_to, told_after_form};
 use crate::event::Event;
 use crate::told::{Told, ToldPhase};
 use std::marker::Model;
-use tod_stamp::{MOST_CONTROLS, Stamp};
+use tod_stamp::Stamp;
+use xrc_edge::MOST_CONTROLS;
 
 /// The floors of the controls and the last cut. Contracts say of them after which histories they stand.
 #[derive(Debug, Drop)]
@@ -22,7 +23,7 @@ pub struct Floors {
 
 impl Model for Floors {
     ghost use Rattle.std.specs.Prelude.{◌≤◌};
-    ghost use Rattle.tod_stamp.specs.declared.limits.TheConstants.{MOST_CONTROLS};
+    ghost use Rattle.xrc_edge.specs.declared.limits.TheConstants.{MOST_CONTROLS};
     ghost use Rattle.cut_core.specs.Floors.{FloorsState};
 
     ghost Value = { FloorsState };

@@ -2,6 +2,7 @@
 use Rattle.std.proofs.Common.{◌≡◌, ◌≤◌, ◌+◌, ◌-◌, ℕ, true, false, nat_le, List, [], ◌∷◌, ◌++◌, length, Option, Some, None, refl, sym, ap, subst, ◌∙◌, arith}
 use Rattle.std.specs.List.{list_all}
 use Rattle.std.proofs.lemmas.Bool.{and_parts, and_from, leb-true, le-leb, ltb-false}
+use Rattle.ckd_track.specs.declared.layout.TheConstants.{WRITES_OF_RUN}
 use Rattle.tod_stamp.specs.declared.stamp.Stamp.{Stamp}
 use Rattle.ckd_track.specs.declared.write.Batch.{Batch}
 use Rattle.ckd_track.specs.declared.write.Cause.{Cause}
@@ -11,7 +12,7 @@ use Rattle.write_trace.specs.Entries.{stamp_of}
 use Rattle.write_trace.specs.Writes.{writes_of}
 use Rattle.sidefile.specs.declared.hand.Hand.{Hand}
 use Rattle.sidefile.specs.declared.hand.Hand.TheVariants as hands
-use Rattle.sidefile.specs.Runs.{quota, run_stamp, runs, is_crowded}
+use Rattle.sidefile.specs.Runs.{run_stamp, runs, is_crowded}
 use Rattle.sidefile.specs.Breaks.{break_in, cause_of, stamp}
 use Rattle.sidefile.specs.AheadEntries.{ahead, cause_ahead}
 use Rattle.sidefile.specs.ExactHands.{IsHand, LeavesRuns}
@@ -97,7 +98,7 @@ takes_run control limit low cause old new batch rise is left = choose (step cont
         record {
           run = run;
           split = begin_with_run old new run more first behind;
-          is = record { one = ap length f.one; writes = writes; room = (let few = ltb-false quota (length (writes_of run)) crowded in omega (arith, few, ap length writes)) };
+          is = record { one = ap length f.one; writes = writes; room = (let few = ltb-false WRITES_OF_RUN (length (writes_of run)) crowded in omega (arith, few, ap length writes)) };
           later = omega (arith, low_is, high, up);
           within = stamp_between low batch.upto.0 (run_stamp run) run low_is (omega (arith, high, up)) f.stamps;
           goes = subst (λ (n : ℕ). GoesTo limit n (runs new)) (sym up) (subst (GoesTo limit upto) (sym behind) goes);

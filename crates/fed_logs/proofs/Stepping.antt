@@ -33,7 +33,8 @@ use Rattle.fed_logs.specs.Feeds.{AreFedBy, IsBatchOf, entries_between, is_betwee
 use Rattle.fed_logs.specs.LaneFeeds.{FeedState}
 use Rattle.fed_logs.specs.Reads.{Outlook, IsHeldRun, HasRead, HasTracksAt, HasBroken, MayTurnOut, IsToFail, IsStillToCome, StandsSo, Went, AreLeft, ReadsBytes, do_rise, is_up_to}
 use Rattle.fed_logs.specs.Reads.Outlook.{Whole, Failing}
-use Rattle.fed_logs.specs.Steps.{HandsOver, TakesBatch, IsIdle, primary_at, joined_answer, held_answer, raised_answer, broken_answer, wanted_answer, copied_answer}
+use Rattle.group_state.specs.HistoryLaws.{joined_answer}
+use Rattle.fed_logs.specs.Steps.{HandsOver, TakesBatch, IsIdle, primary_at, held_answer, raised_answer, broken_answer, wanted_answer, copied_answer}
 use Rattle.fed_logs.specs.Steps.FeedStep.{Hands, Joins, Lacks, Holds, Passes, Breaks, Wants, Asks, Copies}
 use Rattle.fed_logs.specs.FeedLaws.{StepsReadOn, ReadTracksAreThePrimary, NothingIsReadFirst}
 use Rattle.fed_logs.proofs.FeedEntries.{all_more, all_append, after_then, writes_then, rise_lower, rise_behind, held_between, up_to_time, up_to_more, none_between, up_to_later, above_rises, above_unbroken, same_runs}

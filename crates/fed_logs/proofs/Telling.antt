@@ -21,7 +21,8 @@ use Rattle.group_state.specs.Machine.Call.{Join, NextWanted, Copied, Raise, Brea
 use Rattle.group_state.specs.Machine.Reply.{Made, Joined, Held, Wanted}
 use Rattle.group_state.specs.Runs.{Answer}
 use Rattle.fed_logs.specs.LaneFeeds.{FeedState, ReadsFurther, IsFeedSound}
-use Rattle.fed_logs.specs.Steps.{IsIdle, primary_at, joined_answer, held_answer, raised_answer, broken_answer, wanted_answer, copied_answer}
+use Rattle.group_state.specs.HistoryLaws.{joined_answer}
+use Rattle.fed_logs.specs.Steps.{IsIdle, primary_at, held_answer, raised_answer, broken_answer, wanted_answer, copied_answer}
 use Rattle.fed_logs.specs.Steps.FeedStep.{Hands, Joins, Lacks, Holds, Passes, Breaks, Wants, Asks, Copies}
 use Rattle.fed_logs.specs.declared.reading.Reading.{Reading}
 use Rattle.fed_logs.specs.declared.reading.Reading.TheVariants as readings

@@ -24,7 +24,8 @@ use Rattle.fed_logs.specs.Feeds.{goes_up_to, has_entry_at, is_entry_at, is_up_to
 use Rattle.fed_logs.specs.LaneFeeds.{FeedState}
 use Rattle.fed_logs.specs.Reads.{Outlook, HasRead, IsStillToCome, MayTurnOut, ReadsOn, StandsSo}
 use Rattle.fed_logs.specs.Limits.{GoesUpTo, GoesUpToBy, IsHeldUpTo, WentUpTo}
-use Rattle.fed_logs.specs.Steps.{FeedStep, HandsOver, primary_at, joined_answer, held_answer, raised_answer, broken_answer, wanted_answer, copied_answer}
+use Rattle.group_state.specs.HistoryLaws.{joined_answer}
+use Rattle.fed_logs.specs.Steps.{FeedStep, HandsOver, primary_at, held_answer, raised_answer, broken_answer, wanted_answer, copied_answer}
 use Rattle.fed_logs.specs.Steps.FeedStep.{Hands, Joins, Lacks, Holds, Passes, Breaks, Wants, Asks, Copies}
 use Rattle.fed_logs.specs.Tellers.{TellerState, StepsOn, TellsOn, TellsUpTo, copying_answers}
 use Rattle.fed_logs.specs.FeedLaws.{NoCallGoesUpTo, CallsGoUpToInTurn, CopiesGoUpTo}

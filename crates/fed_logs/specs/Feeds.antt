@@ -1,12 +1,13 @@
 -- Calls of readers that are fed by their controls' traces.
 use Rattle.std.specs.Prelude.{◌≡◌, ◌≤◌, ℕ, ◌+◌, ◌==◌, ◌&&◌, ◌||◌, List, [], ◌∷◌, length, filter, slice_get, Bool, true, false, Some, nat_lt, nat_le, MatchBool, IsTrue}
 use Rattle.std.specs.List.{list_all, list_any}
+use Rattle.ckd_track.specs.declared.layout.TheConstants.{WRITES_OF_RUN}
 use Rattle.ckd_track.specs.declared.write.Batch.{Batch}
 use Rattle.write_trace.specs.declared.entry.Entry.{Entry}
 use Rattle.write_trace.specs.declared.trace.Trace.{Trace}
 use Rattle.write_trace.specs.Entries.{stamp_of}
 use Rattle.write_trace.specs.Writes.{writes_of}
-use Rattle.sidefile.specs.Runs.{quota, runs}
+use Rattle.sidefile.specs.Runs.{runs}
 use Rattle.sidefile.specs.Breaks.{break_of, has_broken}
 use Rattle.primary_ctl.specs.States.{base_in, after_writes}
 use Rattle.primary_ctl.specs.Primaries.{primary}
@@ -33,7 +34,7 @@ entries_between t from to = filter (is_between from to) t.entries
 pub record IsBatchOf (run : List Entry) (b : Batch) : Type 0 where
   pub one : length (runs run) ≡ 1
   pub writes : b.writes ≡ writes_of run
-  pub room : length b.writes ≤ quota
+  pub room : length b.writes ≤ WRITES_OF_RUN
 
 -- the control's floor after a call of its reader that changed the state
 abbrev pub floor_behind : (floor : ℕ) → Call → ℕ

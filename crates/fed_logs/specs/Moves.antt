@@ -5,7 +5,7 @@ use Rattle.pair_table.specs.declared.row.PairRow.{PairRow}
 use Rattle.pair_table.specs.declared.row.PairState.{PairState}
 use Rattle.pair_table.specs.declared.row.PairState.TheVariants.{Duplex}
 use Rattle.pair_table.specs.Rows.{is_suspended}
-use Rattle.row_changes.specs.Spans.{is_settled}
+use Rattle.pair_table.specs.States.{is_settled}
 use Rattle.pending_queue.specs.Entries.{WaitingEntry}
 use Rattle.cut_core.specs.Shares.{names_volume}
 use Rattle.group_state.specs.Groups.{Shown}

@@ -14,14 +14,12 @@ use Rattle.sidefile.specs.States.{SidefileState, front_of}
 use Rattle.sidefile.specs.Halts.{reached}
 use Rattle.group_state.specs.Machine.{Reply}
 use Rattle.group_state.specs.Machine.Call.{Join, NextWanted, Copied, Raise, Break}
-use Rattle.group_state.specs.Machine.Reply.{Made, Joined, Held, Wanted}
+use Rattle.group_state.specs.Machine.Reply.{Made, Held, Wanted}
+use Rattle.group_state.specs.HistoryLaws.{joined_answer}
 use Rattle.group_state.specs.Runs.{Answer}
 use Rattle.fed_logs.specs.LaneFeeds.{FeedState}
 
 -- ---- the answers of a reader's calls
-
-abbrev pub joined_answer : Batch → Answer
-joined_answer batch = record { call = Join batch; reply = Joined }
 
 abbrev pub held_answer : Batch → Room → Answer
 held_answer batch room = record { call = Join batch; reply = Held room }

@@ -1,8 +1,6 @@
 //! A lane's feed.
 
-ghost use Rattle.std.specs.Prelude.{◌≡◌, ◌≤◌, ◌<◌, ℕ, [], List, None, Some, Option, IfOk, IfSome, IsTrue, length};
-ghost use Rattle.write_trace.specs.Headers.{is_track_of};
-ghost use Rattle.primary_ctl.specs.States.{track_of};
+ghost use Rattle.std.specs.Prelude.{◌≡◌, ◌≤◌, ◌<◌, ℕ, [], List, None, Some, Option, IfOk, IfSome, length};
 ghost use Rattle.sidefile.specs.Halts.{broken_in};
 ghost use Rattle.sidefile.specs.declared.hand.Halt.{Halt as HaltIs};
 ghost use Rattle.sidefile.specs.declared.hand.Halt.TheVariants as halts;
@@ -92,15 +90,6 @@ impl Feed {
         ensures { result ≡ self.now.side.reader.left.place }
     {
         self.side.place()
-    }
-
-    /// Sets `out` to a track of the primary, and gives the primary's time.
-    pub fn read_track(&self, volume: u16, track: u32, out: &mut Slot) -> Stamp
-        requires { IsTrue (is_track_of self.now.primary.volumes volume track) }
-        ensures track { out.new ≡ track_of self.now.primary volume track }
-        ensures time { result.0 ≡ self.now.primary.time }
-    {
-        self.primary.read_track(volume, track, out)
     }
 
     /// Joins the batch that is held, if there is room for it. Then the primary takes it over.

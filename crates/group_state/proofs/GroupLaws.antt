@@ -5,7 +5,8 @@ use Rattle.std.proofs.Common.{◌≡◌, ℕ, zero, suc, ◌-◌, take, drop, ap
 use Rattle.std.specs.Prelude.{nat_eq, nat_le}
 use Rattle.std.specs.List.{list_all, flat_map}
 use Rattle.std.proofs.lemmas.Bool.{and_parts, and_from, eq-eqb, leb-true, le-leb}
-use Rattle.tod_stamp.specs.declared.limits.TheConstants.{MOST_CONTROLS}
+use Rattle.ckd_track.specs.declared.layout.TheConstants.{WRITES_OF_RUN}
+use Rattle.xrc_edge.specs.declared.limits.TheConstants.{MOST_CONTROLS}
 use Rattle.tod_stamp.specs.declared.stamp.Stamp.{Stamp}
 use Rattle.xrc_edge.specs.Order.{in_order}
 use Rattle.xrc_edge.proofs.Merges.{order_grows, length_order}
@@ -13,7 +14,7 @@ use Rattle.pending_queue.specs.Entries.{WaitingEntry, stands_before}
 use Rattle.pending_queue.specs.Groups.{FormedGroup, with_entries}
 use Rattle.pending_queue.proofs.EntryLaws.{before_order}
 use Rattle.group_state.specs.Controls.{ControlState, new_control, formed, due_of}
-use Rattle.group_state.specs.Groups.{new_controls, has_few, are_numbered, most_records, AreControlsSound}
+use Rattle.group_state.specs.Groups.{new_controls, has_few, are_numbered, AreControlsSound}
 use Rattle.group_state.proofs.FormLaws.{all_at}
 
 -- what no change alters
@@ -30,7 +31,7 @@ numbered_set : (first k : ℕ) (controls : List ControlState) (new d : ControlSt
 numbered_set first k [] new d e lt s = absurd (omega arith)
 numbered_set first zero (c ∷ controls) new d e lt s =
     let parts = and_parts (nat_eq c.queue.control first && has_few c) (are_numbered (first + 1) controls) e in
-    and_from (nat_eq new.queue.control first && has_few new) (are_numbered (first + 1) controls) (ap (λ n. nat_eq n first && nat_le new.queue.records most_records) s.control ∙ ap (λ n. nat_eq c.queue.control first && nat_le n most_records) s.records ∙ parts.0) parts.1
+    and_from (nat_eq new.queue.control first && has_few new) (are_numbered (first + 1) controls) (ap (λ n. nat_eq n first && nat_le new.queue.records WRITES_OF_RUN) s.control ∙ ap (λ n. nat_eq c.queue.control first && nat_le n WRITES_OF_RUN) s.records ∙ parts.0) parts.1
 numbered_set first (suc k) (c ∷ controls) new d e lt s =
     let parts = and_parts (nat_eq c.queue.control first && has_few c) (are_numbered (first + 1) controls) e in
     and_from (nat_eq c.queue.control first && has_few c) (are_numbered (first + 1) (set controls k new)) parts.0 (numbered_set (first + 1) k controls new d parts.1 (omega arith) s)
@@ -82,12 +83,12 @@ pub length_new : (n first records blocks : ℕ) → length (new_controls n first
 length_new zero first records blocks = refl
 length_new (suc n) first records blocks = omega (arith, length_new n (first + 1) records blocks)
 
-numbered_new : (n first records blocks : ℕ) → records ≤ most_records → are_numbered first (new_controls n first records blocks) ≡ true
+numbered_new : (n first records blocks : ℕ) → records ≤ WRITES_OF_RUN → are_numbered first (new_controls n first records blocks) ≡ true
 numbered_new zero first records blocks le = refl
 numbered_new (suc n) first records blocks le =
-    and_from (nat_eq first first && nat_le records most_records) (are_numbered (first + 1) (new_controls n (first + 1) records blocks)) (and_from (nat_eq first first) (nat_le records most_records) (eq-eqb first first refl) (le-leb records most_records le)) (numbered_new n (first + 1) records blocks le)
+    and_from (nat_eq first first && nat_le records WRITES_OF_RUN) (are_numbered (first + 1) (new_controls n (first + 1) records blocks)) (and_from (nat_eq first first) (nat_le records WRITES_OF_RUN) (eq-eqb first first refl) (le-leb records WRITES_OF_RUN le)) (numbered_new n (first + 1) records blocks le)
 
-pub kept_new : (n records blocks : ℕ) → 1 ≤ n → n ≤ MOST_CONTROLS → records ≤ most_records → AreControlsSound (new_controls n 0 records blocks)
+pub kept_new : (n records blocks : ℕ) → 1 ≤ n → n ≤ MOST_CONTROLS → records ≤ WRITES_OF_RUN → AreControlsSound (new_controls n 0 records blocks)
 kept_new n records blocks some few le = record { some = omega (arith, some, length_new n 0 records blocks); few = omega (arith, few, length_new n 0 records blocks); numbered = numbered_new n 0 records blocks le }
 
 -- ---- a form over the controls, one after another
@@ -111,5 +112,5 @@ entries_more out first more =
 pub entries_count : (out : FormedGroup) (more : List WaitingEntry) → length (with_entries out more).entries ≡ length out.entries + length more
 entries_count out more = length_order stands_before (out.entries ++ more) ∙ length-append out.entries more
 
-pub few_at : (controls : List ControlState) (k : ℕ) (c : ControlState) → list_all has_few controls ≡ true → k < length controls → c ≡ get_or controls k c → c.queue.records ≤ most_records
-few_at controls k c all lt is = leb-true c.queue.records most_records (ap has_few is ∙ all_at has_few controls k c all lt)
+pub few_at : (controls : List ControlState) (k : ℕ) (c : ControlState) → list_all has_few controls ≡ true → k < length controls → c ≡ get_or controls k c → c.queue.records ≤ WRITES_OF_RUN
+few_at controls k c all lt is = leb-true c.queue.records WRITES_OF_RUN (ap has_few is ∙ all_at has_few controls k c all lt)

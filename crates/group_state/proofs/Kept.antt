@@ -5,8 +5,9 @@ use Rattle.std.specs.List.{list_all}
 use Rattle.std.proofs.lemmas.Bool.{and_parts, and_from, leb-true, le-leb}
 use Rattle.std.proofs.lemmas.List.{get_or_default}
 use Rattle.std.proofs.lemmas.List.Elements.{All-set, All-map, All-get_or, All-from_get_or}
+use Rattle.ckd_track.specs.declared.layout.TheConstants.{WRITES_OF_RUN}
 use Rattle.tod_stamp.specs.declared.stamp.Stamp.{Stamp}
-use Rattle.tod_stamp.specs.declared.limits.TheConstants.{MOST_CONTROLS}
+use Rattle.xrc_edge.specs.declared.limits.TheConstants.{MOST_CONTROLS}
 use Rattle.ckd_track.specs.declared.rec.Rec.{Rec}
 use Rattle.ckd_track.specs.declared.write.Batch.{Batch}
 use Rattle.ckd_track.specs.declared.write.Cause.{Cause}
@@ -15,7 +16,7 @@ use Rattle.group_state.specs.declared.phase.Phase.{Phase}
 use Rattle.group_state.specs.declared.phase.Phase.TheVariants.{Telling, Broken, Reported}
 use Rattle.group_state.specs.Volumes.{is_wanted}
 use Rattle.group_state.specs.Controls.{ControlState, new_control, counts, fits, fits_track, is_telling, lesser, phase_after, joined, copied, raised, broke, begun_volume, dropped, resumed, forgotten, formed}
-use Rattle.group_state.specs.Groups.{Group, new_controls, control_at, with_control, cut_of, formed_at, most_records}
+use Rattle.group_state.specs.Groups.{Group, new_controls, control_at, with_control, cut_of, formed_at}
 use Rattle.group_state.specs.Machine.{Call, group_after}
 use Rattle.group_state.specs.Machine.Call.{Join, NextWanted, Copied, Raise, Break, Form, Carry, Drop, Resume, Forget}
 use Rattle.group_state.specs.Runs.{May}
@@ -184,7 +185,7 @@ told_new : (n first records blocks : ℕ) → list_all (has_told (record { 0 = 0
 told_new zero first records blocks = refl
 told_new (suc n) first records blocks = told_new n (first + 1) records blocks
 
-pub kept_first : (n records blocks : ℕ) → 1 ≤ n → n ≤ MOST_CONTROLS → records ≤ most_records → IsGroupSound (record { controls = new_controls n 0 records blocks; last = record { 0 = 0 } })
+pub kept_first : (n records blocks : ℕ) → 1 ≤ n → n ≤ MOST_CONTROLS → records ≤ WRITES_OF_RUN → IsGroupSound (record { controls = new_controls n 0 records blocks; last = record { 0 = 0 } })
 kept_first n records blocks some few le = record {
   controls_kept = kept_new n records blocks some few le;
   sound = All-from_get_or Sound (new_controls n 0 records blocks) (new_control 0 0 0)

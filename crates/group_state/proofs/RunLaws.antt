@@ -16,7 +16,7 @@ use Rattle.group_state.specs.Machine.{Reply, steps}
 use Rattle.group_state.specs.Machine.Call.{Form}
 use Rattle.group_state.specs.Machine.Reply.{Formed, Nothing}
 use Rattle.group_state.specs.Runs.{Answer, event_of, history, shown_by, Runs}
-use Rattle.group_state.specs.HistoryLaws.{RunsAreHistories, answered, answered_join, HasForm, IsGroupOf, FormsGiveGroups, NoLateJoin}
+use Rattle.group_state.specs.HistoryLaws.{RunsAreHistories, answered, joined_answer, HasForm, IsGroupOf, FormsGiveGroups, NoLateJoin}
 use Rattle.group_state.proofs.Stands.{Stands, stands_first}
 use Rattle.group_state.proofs.Forms.{shows_group}
 use Rattle.group_state.proofs.Steps.{with_event, step}
@@ -77,9 +77,9 @@ form_legal n before later limit shown f =
 
 pub no_late_join : NoLateJoin
 no_late_join n before between later limit shown b f =
-    let rest = between ++ answered_join b ∷ later in
+    let rest = between ++ joined_answer b ∷ later in
     let cut = shown.cut.0 in
     let above : list_all (joins_above cut) (history rest) ≡ true = no_late n (history before) (history rest) cut (form_legal n before rest limit shown f) in
-    let parts = sym (ap (list_all (joins_above cut)) (filter_map-append event_of between (answered_join b ∷ later)) ∙ list_all-append (joins_above cut) (history between) (Joins b ∷ history later)) ∙ above in
+    let parts = sym (ap (list_all (joins_above cut)) (filter_map-append event_of between (joined_answer b ∷ later)) ∙ list_all-append (joins_above cut) (history between) (Joins b ∷ history later)) ∙ above in
     let second = and_parts (list_all (joins_above cut) (history between)) (list_all (joins_above cut) (Joins b ∷ history later)) parts in
     (and_parts (joins_above cut (Joins b)) (list_all (joins_above cut) (history later)) second.1).0

@@ -1,7 +1,7 @@
 -- What a group state is to its callers, and what a form gives.
 use Rattle.std.specs.Prelude.{ℕ, ◌+◌, ◌*◌, ◌≤◌, ◌==◌, ◌&&◌, not, zero, suc, List, [], ◌∷◌, ◌++◌, length, map, fold, Bool, true, nat_le, slice_index_or, slice_set, IsTrue}
 use Rattle.ckd_track.specs.declared.layout.TheConstants.{WRITES_OF_RUN}
-use Rattle.tod_stamp.specs.declared.limits.TheConstants.{MOST_CONTROLS}
+use Rattle.xrc_edge.specs.declared.limits.TheConstants.{MOST_CONTROLS}
 use Rattle.std.specs.List.{flat_map, list_any}
 use Rattle.tod_stamp.specs.declared.stamp.Stamp.{Stamp}
 use Rattle.xrc_edge.specs.Order.{in_order}
@@ -76,12 +76,9 @@ pub record HasRoomForNews (group : FormedGroup) (more : ℕ) : Type 0 where
 
 -- ---- the rules over several controls
 
--- the most entries of a control
-abbrev pub most_records : ℕ
-most_records = WRITES_OF_RUN
-
+-- whether a control has room for no more entries than a run has writes
 abbrev pub has_few : ControlState → Bool
-has_few c = nat_le c.queue.records most_records
+has_few c = nat_le c.queue.records WRITES_OF_RUN
 
 -- Controls stand by their numbers, from one on, each with room for at most so many entries.
 abbrev pub are_numbered : (first : ℕ) → List ControlState → Bool

@@ -149,12 +149,12 @@ ResumesOweMapped = (controls records blocks : ℕ) (before later : List Answer) 
 
 -- ---- no late join
 
-abbrev pub answered_join : Batch → Answer
-answered_join b = record { call = Join b; reply = Joined }
+abbrev pub joined_answer : Batch → Answer
+joined_answer b = record { call = Join b; reply = Joined }
 
 -- After a form no batch joins with a write whose stamp is at most the form's cut.
 abbrev pub NoLateJoin : Type 0
-NoLateJoin = (controls : ℕ) (before between later : List Answer) (limit : Stamp) (shown : Shown) (b : Batch) → HasForm controls before (between ++ answered_join b ∷ later) limit shown
+NoLateJoin = (controls : ℕ) (before between later : List Answer) (limit : Stamp) (shown : Shown) (b : Batch) → HasForm controls before (between ++ joined_answer b ∷ later) limit shown
     → IsTrue (list_all (λ w. nat_lt shown.cut.0 w.stamp.0) b.writes)
 
 -- ---- the theorem on cuts

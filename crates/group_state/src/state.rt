@@ -2,7 +2,7 @@
 
 ghost use Rattle.std.specs.Prelude.{◌≡◌, ◌↔◌, ℕ, ◌<◌, ◌≤◌, length, nat_lt, true, false, IfOk, IfSome, OnOk, OnErr, IsTrue};
 ghost use Rattle.ckd_track.specs.declared.layout.TheConstants.{BLOCKS_OF_QUEUE, WRITES_OF_RUN};
-ghost use Rattle.tod_stamp.specs.declared.limits.TheConstants.{MOST_CONTROLS};
+ghost use Rattle.xrc_edge.specs.declared.limits.TheConstants.{MOST_CONTROLS};
 ghost use Rattle.ckd_track.specs.declared.write.Batch.{Batch as BatchIs};
 ghost use Rattle.change_map.specs.Sets.{size};
 ghost use Rattle.pending_queue.specs.declared.room.Room.{Room};

@@ -4,7 +4,7 @@ use Rattle.std.specs.Prelude.{is_none, IfSome}
 use Rattle.std.specs.List.{list_all}
 use Rattle.std.proofs.lemmas.Bool.{and_parts, leb-true}
 use Rattle.std.proofs.lemmas.Option.{same_Some}
-use Rattle.tod_stamp.specs.declared.limits.TheConstants.{MOST_CONTROLS, MOST_VOLUMES}
+use Rattle.xrc_edge.specs.declared.limits.TheConstants.{MOST_CONTROLS, MOST_CONTROL_VOLUMES}
 use Rattle.pair_table.specs.declared.command.Change.{Change}
 use Rattle.pair_table.specs.declared.command.Change.TheVariants.{Nothing, Started, Added, Resumed, Gone, Suspended as SuspendedRows, Ended}
 use Rattle.pair_table.specs.declared.command.Command.{Command}
@@ -29,7 +29,8 @@ use Rattle.fed_logs.specs.Moves.{Plans}
 use Rattle.fed_logs.proofs.Standing.{at_with, same_count}
 use Rattle.mover.proofs.Pairs.{Among, among_of}
 use Rattle.mover.proofs.Pairs.Among.{Here, Later}
-use Rattle.xrc_session.specs.Taking.{IfAdds, IsSuspendedSince, IsSoundForRows, MayTake, after_calls, calls_of_change, drop_by}
+use Rattle.pair_table.specs.States.{is_duplex, owes_suspended}
+use Rattle.xrc_session.specs.Taking.{IfAdds, IsSuspendedSince, IsSoundForRows, MayTake, after_calls, calls_of_change}
 use Rattle.xrc_session.proofs.Changed.{no_plans}
 use Rattle.xrc_session.proofs.KeptRows.{kept_added_row, kept_dropped_row, kept_forgotten_row, kept_resumed_row}
 use Rattle.xrc_session.proofs.Commanded.{commands_may_be_taken}
@@ -107,8 +108,8 @@ row_in r _ all (Later t rows there) = row_in r rows (and_parts (is_row t) (list_
 
 low_control : (r : PairRow) → is_row r ≡ true → r.control < MOST_CONTROLS
 low_control r is =
-    let ranges = and_parts (nat_le r.control (MOST_CONTROLS - 1) && nat_le r.volume (MOST_VOLUMES - 1)) _ (row_keeps r is) in
-    let control = leb-true r.control (MOST_CONTROLS - 1) (and_parts (nat_le r.control (MOST_CONTROLS - 1)) (nat_le r.volume (MOST_VOLUMES - 1)) ranges.0).0 in
+    let ranges = and_parts (nat_le r.control (MOST_CONTROLS - 1) && nat_le r.volume (MOST_CONTROL_VOLUMES - 1)) _ (row_keeps r is) in
+    let control = leb-true r.control (MOST_CONTROLS - 1) (and_parts (nat_le r.control (MOST_CONTROLS - 1)) (nat_le r.volume (MOST_CONTROL_VOLUMES - 1)) ranges.0).0 in
     omega (arith, control)
 
 started_behind : (names : Naming) (table : Table) (session : List ℕ) (command : Command) (at : ℕ) → table.is_started ≡ true → (table_after names table session command at).is_started ≡ true
@@ -144,7 +145,7 @@ commanded_again names table session command change at s h is keeps may =
 
 -- ---- a failure
 
-fails_alone : (state : PairState) → not (is_suspended state) ≡ true → drop_by state true ≡ None → ⊥
+fails_alone : (state : PairState) → not (is_suspended state) ≡ true → owes_suspended state (is_duplex state) true ≡ None → ⊥
 fails_alone Pending live e = absurd cc
 fails_alone Copy live e = absurd cc
 fails_alone Duplex live e = absurd cc

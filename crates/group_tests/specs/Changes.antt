@@ -1,7 +1,7 @@
 -- Names, a table and a shared state that take the changes of commands.
 use Rattle.std.specs.Prelude.{◌≡◌, ℕ, ◌<◌, not, List, length, Bool, true, IsTrue}
 use Rattle.std.specs.List.{list_all}
-use Rattle.tod_stamp.specs.declared.limits.TheConstants.{MOST_CONTROLS}
+use Rattle.xrc_edge.specs.declared.limits.TheConstants.{MOST_CONTROLS}
 use Rattle.pair_table.specs.declared.row.PairRow.{PairRow}
 use Rattle.pair_table.specs.Commands.{MayCommand}
 use Rattle.pair_table.specs.Naming.{Naming}

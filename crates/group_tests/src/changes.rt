@@ -10,7 +10,8 @@ use group_state::GroupState;
 use pair_table::{Change, Choice, Command, Names, PairRow, PairState, PairTable, SuspendCause};
 use std::alloc::Global;
 use std::process::Abort;
-use tod_stamp::{MOST_CONTROLS, Serial, Session, Stamp};
+use tod_stamp::{Serial, Session, Stamp};
+use xrc_edge::MOST_CONTROLS;
 use xrc_session::take_change;
 
 const SUSPEND: Command = Command::Suspend(Choice::All);

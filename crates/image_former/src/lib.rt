@@ -7,3 +7,4 @@ mod places;
 mod tracks;
 
 pub use forming::form_body;
+pub use places::device_of;

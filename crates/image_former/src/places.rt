@@ -1,6 +1,7 @@
 //! The device of an entry and its job, and the entries of one track.
 
 ghost use Rattle.std.specs.Prelude.{◌≡◌, ◌<◌, ◌+◌, ℕ, IsSome, Some, find, length, take, slice_get, slice_index_or, IsTrue};
+ghost use Rattle.std.specs.Option.{option_copied};
 ghost use Rattle.std.specs.List.{list_any};
 ghost use Rattle.pair_table.specs.Tables.{AreRowsSound};
 ghost use Rattle.image_former.specs.Entries.{is_row_of, row_device};
@@ -14,28 +15,24 @@ use pair_table::{PairRow, PairTable};
 use pending_queue::{EntryHead, Formed};
 use xrc_journal::VolumeJob;
 
-/// Whether a row is that of an entry.
-pub(crate) fn is_row_of(head: EntryHead, row: &PairRow) -> bool
-    ensures { result ≡ is_row_of head row.now }
+/// The row of an entry, if it has one.
+fn row_of(table: &PairTable, head: EntryHead) -> Option<&PairRow>
+    ensures row { option_copied result ≡ find (is_row_of head) table.now.rows }
+    ensures rules { AreRowsSound table.now.rows }
 {
-    row.control == head.control && row.volume == head.volume
+    table.rows().iter().find(|row| row.control == head.control && row.volume == head.volume)
 }
 
 /// The device of the row of an entry.
-pub(crate) fn device_of(table: &PairTable, head: EntryHead) -> u16
+pub fn device_of(table: &PairTable, head: EntryHead) -> u16
     requires { IsSome (find (is_row_of head) table.now.rows) }
     ensures device { row_device (find (is_row_of head) table.now.rows) ≡ Some result }
     ensures rules { AreRowsSound table.now.rows }
 {
-    for place in 0..table.len() {
-        let Some(row) = table.row(place) else {
-            unreachable!()
-        };
-        if is_row_of(head, row) {
-            return row.device;
-        }
+    match row_of(table, head) {
+        Some(row) => row.device,
+        None => unreachable!(),
     }
-    unreachable!()
 }
 
 /// The place of the device's job.

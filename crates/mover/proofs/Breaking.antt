@@ -10,7 +10,7 @@ use Rattle.pair_table.specs.declared.row.SuspendCause.TheVariants.{Control}
 use Rattle.pair_table.specs.Rows.{is_suspended}
 use Rattle.group_state.specs.Groups.{Shown}
 use Rattle.group_state.specs.Runs.{Answer}
-use Rattle.row_changes.specs.Changes.{Timed, after_change, after_changes, break_time_of, broken_row, is_at, since}
+use Rattle.row_changes.specs.Changes.{FaultReach, Timed, after_change, after_changes, break_time_of, broken_row, is_at, reach_of, row_after_change, since}
 use Rattle.row_changes.specs.Changes.Due.{NoneDue}
 use Rattle.row_changes.specs.Changes.RowChange.{Break}
 use Rattle.row_changes.specs.Spans.{all_broke, breaks_control, hit_count, lies_in}
@@ -40,11 +40,11 @@ unbroken_row k time r is = choose (nat_eq r.control k) (is_suspended r.state) is
     choose true false e = absurd (true≢false (sym e))
     choose false b e = refl
 
-unbroken : (level : Level) (k time : ℕ) (rows : List PairRow) → has_none_live k rows ≡ true → after_change level (breaking_at time k) rows ≡ rows
-unbroken level k time [] none = refl
-unbroken level k time (r ∷ rows) none =
+unbroken : (reach : FaultReach) (k time : ℕ) (rows : List PairRow) → has_none_live k rows ≡ true → map (row_after_change reach (breaking_at time k)) rows ≡ rows
+unbroken reach k time [] none = refl
+unbroken reach k time (r ∷ rows) none =
     let parts = and_parts (not (nat_eq r.control k) || is_suspended r.state) (has_none_live k rows) none in
-    λ i. unbroken_row k time r parts.0 i ∷ unbroken level k time rows parts.1 i
+    λ i. unbroken_row k time r parts.0 i ∷ unbroken reach k time rows parts.1 i
 
 -- what holds of each silent break
 record Silent (limit time k : ℕ) (b : Option ℕ) (rows : List PairRow) : Type 0 where
@@ -66,7 +66,7 @@ silent_leaves level limit time k (b ∷ breaks) rows =
     ∙ silent_leaves level limit time (suc k) breaks rows
   where
     first : (t : Bool) → (is_at time b && (nat_lt time limit && has_none_live k rows)) ≡ t → after_changes level (cond t (breaking_at time k ∷ []) []) rows ≡ rows
-    first true is = unbroken level k time rows (silent_parts limit time k b rows is).none
+    first true is = unbroken (reach_of level rows) k time rows (silent_parts limit time k b rows is).none
     first false is = refl
 
 pub silent_due : (level : Level) (limit time k : ℕ) (breaks : List (Option ℕ)) (rows : List PairRow) → due_after_changes level NoneDue (silent_from limit time k breaks rows) ≡ NoneDue
@@ -120,7 +120,7 @@ silent_comes level all limit time k (b ∷ breaks) rows h = choose (is_at time b
           omega arith,
           omega arith,
           ap (is_at time) h.0 ∙ p.at,
-          subst (λ (l : List PairRow). Comes level all NoneDue time time l (silent_from limit time (suc k) breaks rows) NoneDue) (sym (unbroken level k time rows p.none)) others,
+          subst (λ (l : List PairRow). Comes level all NoneDue time time l (silent_from limit time (suc k) breaks rows) NoneDue) (sym (unbroken (reach_of level rows) k time rows p.none)) others,
         )
 
 -- ---- who is named

@@ -12,9 +12,9 @@ use Rattle.pair_table.specs.declared.row.PairState.TheVariants.{Pending, Copy, D
 use Rattle.pair_table.specs.Rows.{is_suspended}
 use Rattle.pair_table.specs.Tables.{none_clash}
 use Rattle.pair_table.proofs.PutLaws.{number_sym}
-use Rattle.record_rows.specs.Hits.{is_by_device}
+use Rattle.pair_table.specs.States.{is_by_device, owes}
 use Rattle.turn_group.specs.Notes.{KnownVolume, known_after, without_carrying}
-use Rattle.mover.specs.Dropping.{VolumeDrop, are_states_of, call_of_drop, drop_of, drops_from, known_behind, owes_by, owes_since}
+use Rattle.mover.specs.Dropping.{VolumeDrop, are_states_of, call_of_drop, drop_of, drops_from, known_behind, owes_since}
 use Rattle.mover.specs.Moves.{IsOfLive, KeepPairs, KeepsPair, KnowsRows, are_numbers_distinct, is_carried_as, known_at_control, names_number, row_of_volume}
 use Rattle.mover.proofs.SamePairs.{at_of, before, contains_at, found_still, one_row}
 
@@ -228,26 +228,14 @@ owes_gone (Some was) Duplex all e = absurd cc
 owes_gone (Some was) (Suspended cause since) all e = refl
 
 -- One that was live and is suspended is dropped.
-pub suspended_owes : (was is : PairState) → is_suspended was ≡ false → is_suspended is ≡ true → (all : Bool) × (owes_by was is ≡ Some all)
+pub suspended_owes : (was is : PairState) → is_suspended was ≡ false → is_suspended is ≡ true → (all : Bool) × (owes was is ≡ Some all)
 suspended_owes was Pending live gone = absurd cc
 suspended_owes was Copy live gone = absurd cc
 suspended_owes was Duplex live gone = absurd cc
 suspended_owes (Suspended cause at) (Suspended by since) live gone = absurd cc
-suspended_owes Pending (Suspended by since) live gone = choose (is_by_device by)
-  where
-    choose : (b : Bool) → (all : Bool) × (cond b (Some true) (Some true) ≡ Some all)
-    choose true = (true, refl)
-    choose false = (true, refl)
-suspended_owes Copy (Suspended by since) live gone = choose (is_by_device by)
-  where
-    choose : (b : Bool) → (all : Bool) × (cond b (Some true) (Some true) ≡ Some all)
-    choose true = (true, refl)
-    choose false = (true, refl)
-suspended_owes Duplex (Suspended by since) live gone = choose (is_by_device by)
-  where
-    choose : (b : Bool) → (all : Bool) × (cond b (Some true) (Some false) ≡ Some all)
-    choose true = (true, refl)
-    choose false = (false, refl)
+suspended_owes Pending (Suspended by since) live gone = (true, refl)
+suspended_owes Copy (Suspended by since) live gone = (true, refl)
+suspended_owes Duplex (Suspended by since) live gone = (is_by_device by, refl)
 
 -- ---- what is known stands to the rows again
 

@@ -10,7 +10,6 @@ use Rattle.tod_stamp.specs.declared.stamp.Stamp.{Stamp}
 use Rattle.ckd_track.specs.declared.write.Cause.{Cause}
 use Rattle.write_trace.specs.declared.trace.Trace.{Trace}
 use Rattle.pair_table.specs.declared.level.Level.{Level}
-use Rattle.pair_table.specs.declared.level.Level.TheVariants.{Volume as VolumeLevel, Session as SessionLevel}
 use Rattle.pair_table.specs.declared.row.PairRow.{PairRow}
 use Rattle.pair_table.specs.declared.row.PairState.{PairState}
 use Rattle.pending_queue.specs.Groups.{FormedGroup}
@@ -23,7 +22,8 @@ use Rattle.group_state.specs.Machine.Reply.{Formed, Held, Joined, Nothing}
 use Rattle.group_state.specs.Runs.{Answer, Runs, shown_by}
 use Rattle.group_state.specs.SoundStates.{IsGroupSound}
 use Rattle.group_state.proofs.Kept.{kept_next}
-use Rattle.row_changes.specs.Changes.{Due, Timed, is_at}
+use Rattle.row_changes.specs.Changes.{Due, Timed, is_at, reaches_others}
+use Rattle.row_changes.specs.Changes.RowChange.{Reached}
 use Rattle.record_rows.specs.Deeds.{Deed, rows_by_deed, time_by_deed}
 use Rattle.record_rows.specs.Deeds.Deed.{Logged, Changed, Marked}
 use Rattle.record_rows.specs.GroupRows.{breaking, group_changes, matured_with_group, maturing, maturing_of}
@@ -102,14 +102,19 @@ marks_early : (limit time : ℕ) (hit : List ℕ) → are_early limit (marked_ch
 marks_early limit time [] = refl
 marks_early limit time (d ∷ hit) = refl
 
-told_early : (limit : ℕ) (level : Level) (time : ℕ) (marked hit : List ℕ) → are_early limit (told_changes level time marked hit) ≡ true
-told_early limit level time marked (d ∷ hit) = refl
-told_early limit level time [] [] = refl
-told_early limit VolumeLevel time (d ∷ marked) [] = refl
-told_early limit SessionLevel time (d ∷ marked) [] = refl
-
 both_early : (limit : ℕ) (a b : List Timed) → are_early limit a ≡ true → are_early limit b ≡ true → are_early limit (a ++ b) ≡ true
 both_early limit a b first then = list_all-append (is_early_break limit) a b ∙ and_from (are_early limit a) (are_early limit b) first then
+
+reached_early : (limit : ℕ) (level : Level) (time : ℕ) (marked : List ℕ) → are_early limit (reached_changes level time marked) ≡ true
+reached_early limit level time [] = refl
+reached_early limit level time (d ∷ marked) = choose (reaches_others level)
+  where
+    choose : (others : Bool) → are_early limit (cond others (record { time = time; change = Reached (d ∷ marked) } ∷ []) []) ≡ true
+    choose true = refl
+    choose false = refl
+
+told_early : (limit : ℕ) (level : Level) (time : ℕ) (marked hit : List ℕ) → are_early limit (told_changes level time marked hit) ≡ true
+told_early limit level time marked hit = both_early limit (reached_changes level time marked) (hit_changes time hit) (reached_early limit level time marked) (hits_early limit time hit)
 
 matured_early : (limit : ℕ) (group : FormedGroup) (rows : List PairRow) → are_early limit (flat_map (maturing_of group) rows) ≡ true
 matured_early limit group [] = refl

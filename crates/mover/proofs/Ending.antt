@@ -18,7 +18,7 @@ use Rattle.group_state.specs.Volumes.{passes, volume_of, wants}
 use Rattle.group_state.specs.Controls.{ControlState}
 use Rattle.group_state.specs.Groups.{control_at}
 use Rattle.group_state.specs.SoundStates.{passes_or_none}
-use Rattle.record_rows.specs.Hits.{is_device_suspended}
+use Rattle.pair_table.specs.States.{is_device_suspended}
 use Rattle.record_rows.specs.Deeds.{Deed}
 use Rattle.site_means.specs.Images.{Shape, shape_of}
 use Rattle.site_means.specs.Sight.{content_of}

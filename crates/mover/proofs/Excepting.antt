@@ -15,7 +15,7 @@ use Rattle.group_state.specs.Groups.{Group, Shown, control_at, cut_of, formed_at
 use Rattle.group_state.specs.Machine.{Call, Reply}
 use Rattle.group_state.specs.Machine.Call.{Join, NextWanted, Copied, Raise, Break, Form, Carry, Drop, Resume, Forget}
 use Rattle.group_state.specs.Runs.{Answer}
-use Rattle.record_rows.specs.Hits.{is_device_suspended}
+use Rattle.pair_table.specs.States.{is_device_suspended}
 use Rattle.record_rows.specs.Deeds.{Deed, entries_by_deed, rows_behind, rows_by_deed}
 use Rattle.record_rows.specs.Deeds.Deed.{Logged, Changed, Marked}
 use Rattle.site_store.specs.Exceptions.{Exceptions, excepted_behind, excepted_by_deed, is_kept, is_whole_on}

@@ -21,7 +21,7 @@ use Rattle.group_state.specs.SoundStates.{IsGroupSound, Sound, is_dropped, is_en
 use Rattle.group_state.specs.Volumes.{copied_track, dropped_map, dropped_volume, formed_track, is_wanted, noted_write, passes, volume_of, wants, with_formed_copies, with_formed_copy, with_write, with_writes}
 use Rattle.group_state.proofs.VolumeLaws.{Keeps, passes_with}
 use Rattle.record_rows.specs.Deeds.{Deed}
-use Rattle.record_rows.specs.Hits.{is_device_suspended}
+use Rattle.pair_table.specs.States.{is_device_suspended}
 use Rattle.record_rows.specs.ToldRows.{InPlaces}
 use Rattle.fed_logs.proofs.Keeping.{at_map}
 use Rattle.fed_logs.proofs.Tracks.{tested_with}

@@ -17,9 +17,9 @@ use Rattle.group_state.specs.Machine.Call.{Join, NextWanted, Copied, Raise, Brea
 use Rattle.group_state.specs.Runs.{Answer, shown_by}
 use Rattle.record_rows.specs.Deeds.{Deed}
 use Rattle.record_rows.specs.Deeds.Deed.{Logged, Changed, Marked}
-use Rattle.record_rows.specs.Hits.{is_by_device, is_device_suspended}
+use Rattle.pair_table.specs.States.{is_by_device, is_device_suspended}
 use Rattle.fed_logs.specs.Moves.{AreQuiet, HasRowIn, IsDuplex, Plans, plans_with_shown, plans_without, Following, KeepsShown, KeepsCall, MakesDeeds, MakesAllDeeds}
-use Rattle.mover.specs.Dropping.{VolumeDrop, are_states_of, answer_of_drop, drop_of, drops_from, is_duplex_state, owes_hit, owes_since, owes_suspended}
+use Rattle.mover.specs.Dropping.{VolumeDrop, are_states_of, answer_of_drop, drop_of, drops_from, owes_since}
 use Rattle.mover.specs.Moves.{KeepPairs, KeepsPair, KnowsDuplex}
 use Rattle.mover.proofs.SamePairs.{Before, at_of, before, clash_by_names, contains_at, none_there, one_row}
 use Rattle.mover.proofs.DropKnown.{dropped_by, is_dropped, names_drop, owes_gone}
@@ -157,21 +157,14 @@ was_duplex None is e = absurd cc
 was_duplex (Some was) Pending e = absurd cc
 was_duplex (Some was) Copy e = absurd cc
 was_duplex (Some was) Duplex e = absurd cc
-was_duplex (Some was) (Suspended cause since) e = choose (is_by_device cause) e
+was_duplex (Some Pending) (Suspended cause since) e = absurd cc
+was_duplex (Some Copy) (Suspended cause since) e = absurd cc
+was_duplex (Some Duplex) (Suspended cause since) e = refl
+was_duplex (Some (Suspended by at)) (Suspended cause since) e = choose (is_by_device cause && not (is_by_device by)) e
   where
-    hit : (b : Bool) → cond b None (Some true) ≡ Some false → (let a : Option PairState = Some was in let b : Option PairState = Some Duplex in a ≡ b)
-    hit true e = absurd cc
-    hit false e = absurd cc
-
-    other : (state : PairState) → owes_suspended state (is_duplex_state state) ≡ Some false → (let a : Option PairState = Some state in let b : Option PairState = Some Duplex in a ≡ b)
-    other Pending e = absurd cc
-    other Copy e = absurd cc
-    other Duplex e = refl
-    other (Suspended by at) e = absurd cc
-
-    choose : (b : Bool) → cond b (owes_hit was) (owes_suspended was (is_duplex_state was)) ≡ Some false → (let a : Option PairState = Some was in let b : Option PairState = Some Duplex in a ≡ b)
-    choose true e = hit (is_device_suspended was) e
-    choose false e = other was e
+    choose : (b : Bool) → cond b (Some true) None ≡ Some false → (let a : Option PairState = Some (Suspended by at) in let b : Option PairState = Some Duplex in a ≡ b)
+    choose true e = absurd cc
+    choose false e = absurd cc
 
 -- Rows whose volumes are dropped may be dropped one after another: no two are of one volume.
 droppable : (all : List PairRow) (was : List (Option PairState)) (place : ℕ) (rows : List PairRow) (done : Plans) → none_clash rows ≡ true

@@ -3,7 +3,7 @@ use Rattle.std.proofs.Common.{◌≡◌, ◌<◌, ◌≤◌, ◌*◌, ◌==◌, 
 use Rattle.std.specs.List.{list_all}
 use Rattle.std.proofs.lemmas.Bool.{and_parts}
 use Rattle.std.proofs.lemmas.List.{length-map}
-use Rattle.tod_stamp.specs.declared.limits.TheConstants.{TRACKS_OF_CYLINDER}
+use Rattle.xrc_edge.specs.declared.limits.TheConstants.{TRACKS_OF_CYLINDER}
 use Rattle.tod_stamp.specs.declared.stamp.Stamp.{Stamp}
 use Rattle.ckd_track.specs.declared.write.Cause.{Cause}
 use Rattle.write_trace.specs.declared.header.VolumeHead.{VolumeHead}

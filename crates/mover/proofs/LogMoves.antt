@@ -20,7 +20,8 @@ use Rattle.xrc_journal.specs.Bodies.{have_image}
 use Rattle.xrc_journal.specs.Contents.{HasItem, is_of_track}
 use Rattle.xrc_journal.specs.Items.{Earlier, Item, behind_all, is_drawn, none_earlier}
 use Rattle.xrc_journal.specs.Items.Item.{Image, Delta, Pair, Gone}
-use Rattle.record_rows.specs.Hits.{hit_now, is_device_suspended, is_down}
+use Rattle.record_rows.specs.Hits.{hit_now, is_down}
+use Rattle.pair_table.specs.States.{is_device_suspended}
 use Rattle.record_rows.proofs.Telling.{none_hit_again}
 use Rattle.site_store.specs.Exceptions.{Exceptions, excepted_behind, is_kept, is_whole_on}
 use Rattle.fed_logs.specs.Moves.{HasRowIn, IsLive}
@@ -34,7 +35,7 @@ use Rattle.site_store.specs.Logging.{AreItemsOf, HasEntryOn, IsOfLog, IsOfSomeRo
 use Rattle.site_store.specs.Records.{IsOfRecord, VolumesStay, behind_placement}
 use Rattle.site_store.specs.Sites.{SiteState, is_written}
 use Rattle.site_store.proofs.ByPlacements.{RecordPlacement, by_placements, placement_here, placement_marked, placement_switched}
-use Rattle.mover.specs.Moves.{IsOfLive, IsOfMover, KeepPairs, KnowsRows, MoverWorks, is_device_of_row, is_row_of_number, is_worked_on, known_at_control, row_of_volume}
+use Rattle.mover.specs.Moves.{IsOfLive, IsOfMover, KeepPairs, KnowsRows, MoverWorks, is_device_of_row, is_row_of_volume, is_worked_on, known_at_control, row_of_volume}
 use Rattle.mover.specs.Numbers.{IsSiteSpent}
 use Rattle.mover.specs.Slots.{is_track_of_mover}
 use Rattle.mover.proofs.InSlots.{slots_stay}
@@ -81,9 +82,9 @@ entry_of_row known rows e knows is = let c = carried_row known rows e knows is i
 
 live_there : (k v : ℕ) (u : KnownVolume) (rows : List PairRow) → IsSomeAnd (row_of_volume k v rows) (IsOfLive k u) → HasRowIn IsLive k v rows
 live_there k v u [] is = absurd is
-live_there k v u (r ∷ rows) is = choose (λ more. live_there k v u rows more) (is_row_of_number k v r) refl is
+live_there k v u (r ∷ rows) is = choose (λ more. live_there k v u rows more) (is_row_of_volume k v r) refl is
   where
-    choose : (IsSomeAnd (row_of_volume k v rows) (IsOfLive k u) → HasRowIn IsLive k v rows) → (b : Bool) → is_row_of_number k v r ≡ b → IsSomeAnd (cond b (Some r) (row_of_volume k v rows)) (IsOfLive k u) → HasRowIn IsLive k v (r ∷ rows)
+    choose : (IsSomeAnd (row_of_volume k v rows) (IsOfLive k u) → HasRowIn IsLive k v rows) → (b : Bool) → is_row_of_volume k v r ≡ b → IsSomeAnd (cond b (Some r) (row_of_volume k v rows)) (IsOfLive k u) → HasRowIn IsLive k v (r ∷ rows)
     choose others true names is = let parts = and_parts (r.control == k) (r.volume == v) names in record { row = r; among = (0, omega arith, refl); control = eqb-true r.control k parts.0; volume = eqb-true r.volume v parts.1; state = is.0 }
     choose others false names is =
         let has = others is in

@@ -1,23 +1,23 @@
 -- Deeds of the mover's work, each as it is made, one behind the other.
-use Rattle.std.proofs.Common.{◌≡◌, ◌≢◌, ℕ, ◌≤◌, Bool, false, List, [], ◌∷◌, ◌++◌, map, Option, Some, None, refl, sym, ap, subst, ◌∙◌}
+use Rattle.std.proofs.Common.{◌≡◌, ◌≢◌, ℕ, ◌≤◌, Bool, true, false, cond, List, [], ◌∷◌, ◌++◌, map, Option, Some, None, refl, sym, ap, subst, ◌∙◌}
 use Rattle.std.specs.Prelude.{IsTrue}
 use Rattle.std.specs.List.{Contains, flat_map}
 use Rattle.tod_stamp.specs.declared.stamp.Stamp.{Stamp}
 use Rattle.ckd_track.specs.declared.write.Cause.{Cause}
 use Rattle.crash_plant.specs.declared.spot.Spot.{Spot}
 use Rattle.pair_table.specs.declared.level.Level.{Level}
-use Rattle.pair_table.specs.declared.level.Level.TheVariants.{Volume as VolumeLevel, Session as SessionLevel}
 use Rattle.pair_table.specs.declared.row.PairRow.{PairRow}
 use Rattle.pair_table.specs.declared.row.PairState.{PairState}
 use Rattle.pending_queue.specs.Groups.{FormedGroup}
 use Rattle.group_state.specs.Groups.{Shown, shown_in}
 use Rattle.group_state.specs.Runs.{Answer}
-use Rattle.row_changes.specs.Changes.{Due, Timed, due_after}
-use Rattle.row_changes.specs.Changes.Due.{NoneDue}
+use Rattle.row_changes.specs.Changes.{Due, Timed, due_after, reaches_others}
+use Rattle.row_changes.specs.Changes.Due.{DueSince, NoneDue}
+use Rattle.row_changes.specs.Changes.RowChange.{Reached}
 use Rattle.record_rows.specs.Deeds.{rows_behind, rows_by_deed, time_by_deed, time_meant_behind}
 use Rattle.record_rows.specs.Deeds.Deed.{Changed, Logged, Marked}
 use Rattle.record_rows.specs.GroupRows.{breaking, group_changes, matured_with_group, maturing, maturing_of}
-use Rattle.record_rows.specs.Hits.{due_behind_mark, hit_changes, hit_now, marked_changes, rows_marked, told_changes}
+use Rattle.record_rows.specs.Hits.{due_behind_mark, hit_changes, hit_now, marked_changes, reached_changes, rows_marked, told_changes}
 use Rattle.record_rows.specs.Records.{changes_behind_mark, record_changes, rows_with_hits, rows_with_record}
 use Rattle.record_rows.specs.ToldRows.{due_after_changes}
 use Rattle.site_store.specs.DeedChanges.{DeedOfChanges, deeds_of}
@@ -71,13 +71,23 @@ module _ (level : Level) (group : FormedGroup) where
 -- What a mark left due has come behind its record.
 behind_leaves : (level : Level) (time : ℕ) (marked : List ℕ) (group : FormedGroup) (failed : List Bool) (rows : List PairRow) → due_after_changes level (due_behind_mark level time marked) (changes_behind_mark level marked group failed rows) ≡ NoneDue
 behind_leaves level time marked group failed rows =
-    due_then level (due_behind_mark level time marked) (group_changes group rows) (told_changes level group.cut.0 marked (hit_now failed rows)) ∙ by level marked (hit_now failed rows)
+    due_then level (due_behind_mark level time marked) (group_changes group rows) (told_changes level group.cut.0 marked hit)
+    ∙ due_then level behind (reached_changes level group.cut.0 marked) (hit_changes group.cut.0 hit)
+    ∙ ap (λ (d : Due). due_after_changes level d (hit_changes group.cut.0 hit)) (reached_leave marked) ∙ hits_leave level group.cut.0 hit
   where
-    by : (level : Level) (marked hit : List ℕ) → due_after_changes level (due_after_changes level (due_behind_mark level time marked) (group_changes group rows)) (told_changes level group.cut.0 marked hit) ≡ NoneDue
-    by level marked (d ∷ hit) = refl
-    by level [] [] = group_leaves level group rows
-    by VolumeLevel (d ∷ marked) [] = group_leaves VolumeLevel group rows
-    by SessionLevel (d ∷ marked) [] = refl
+    hit : List ℕ
+    hit = hit_now failed rows
+
+    behind : Due
+    behind = due_after_changes level (due_behind_mark level time marked) (group_changes group rows)
+
+    reached_leave : (m : List ℕ) → due_after_changes level (due_after_changes level (due_behind_mark level time m) (group_changes group rows)) (reached_changes level group.cut.0 m) ≡ NoneDue
+    reached_leave [] = group_leaves level group rows
+    reached_leave (d ∷ m) = choose (reaches_others level)
+      where
+        choose : (others : Bool) → due_after_changes level (due_after_changes level (cond others (DueSince time (d ∷ m)) NoneDue) (group_changes group rows)) (cond others (record { time = group.cut.0; change = Reached (d ∷ m) } ∷ []) []) ≡ NoneDue
+        choose true = refl
+        choose false = group_leaves level group rows
 
 -- ---- deeds as they are made
 

@@ -23,7 +23,7 @@ use Rattle.record_rows.specs.Deeds.Deed.{Logged, Changed, Marked}
 use Rattle.record_rows.specs.GroupRows.{is_shown_done}
 use Rattle.record_rows.specs.Hits.{hit_now}
 use Rattle.record_rows.proofs.Counting.{once}
-use Rattle.row_changes.specs.Spans.{is_settled}
+use Rattle.pair_table.specs.States.{is_settled}
 use Rattle.site_store.specs.DeedChanges.{AreByChanges, deeds_of}
 use Rattle.site_store.specs.DoneDeeds.{BeginsDeeds, DoesDeeds}
 use Rattle.site_store.specs.Exceptions.{excepted_behind}

@@ -12,9 +12,9 @@ use Rattle.pair_table.proofs.PutLaws.{number_sym}
 use Rattle.pair_table.proofs.TableLaws.{first_apart}
 use Rattle.group_state.specs.Runs.{Answer}
 use Rattle.record_rows.specs.Deeds.{Deed, rows_behind, rows_by_deed}
-use Rattle.record_rows.specs.Hits.{is_by_device, is_device_suspended}
+use Rattle.pair_table.specs.States.{is_by_device, is_device_suspended, is_duplex, owes_suspended, owes_through}
 use Rattle.record_rows.specs.ToldRows.{InPlaces}
-use Rattle.mover.specs.Dropping.{OwesExactly, answer_of_drop, are_states_of, drop_of, drops_from, is_duplex_row, is_duplex_state, owed_by_call, owed_by_calls, owed_in_turn, owes_hit, owes_since, owes_suspended, owes_through, stood_duplex}
+use Rattle.mover.specs.Dropping.{OwesExactly, answer_of_drop, are_states_of, drop_of, drops_from, is_duplex_row, owed_by_call, owed_by_calls, owed_in_turn, owes_since, stood_duplex}
 use Rattle.mover.specs.Moves.{Fades, InPlacesByDeeds, KeepsPair}
 use Rattle.mover.proofs.DeedPairs.{After, after, in_place, pairs_behind}
 use Rattle.mover.proofs.SamePairs.{device_still, none_there}
@@ -57,18 +57,45 @@ live_owes was Copy stood live = refl
 live_owes was Duplex stood live = refl
 live_owes was (Suspended cause since) stood live = absurd cc
 
+-- What a row owes once its own device suspends it, and once it is suspended for another reason.
+abbrev pub owes_hit : (was : PairState) → Option Bool
+owes_hit was = cond (is_device_suspended was) None (Some true)
+
+abbrev pub owes_other : (was : PairState) (stood : Bool) → Option Bool
+owes_other was stood = cond (is_suspended was) None (Some (not stood))
+
+pub owes_split : (was : PairState) (stood by_device : Bool) → owes_suspended was stood by_device ≡ cond by_device (owes_hit was) (owes_other was stood)
+owes_split (Suspended cause since) stood true = choose (is_by_device cause)
+  where
+    choose : (b : Bool) → cond (not b) (Some true) None ≡ cond b None (Some true)
+    choose true = refl
+    choose false = refl
+owes_split (Suspended cause since) stood false = refl
+owes_split Pending true true = refl
+owes_split Pending true false = refl
+owes_split Pending false true = refl
+owes_split Pending false false = refl
+owes_split Copy true true = refl
+owes_split Copy true false = refl
+owes_split Copy false true = refl
+owes_split Copy false false = refl
+owes_split Duplex true true = refl
+owes_split Duplex true false = refl
+owes_split Duplex false true = refl
+owes_split Duplex false false = refl
+
 -- One that its device suspends owes all its tracks.
 pub device_owes : (was is : PairState) (stood : Bool) → is_device_suspended is ≡ true → owes_through was is stood ≡ owes_hit was
 device_owes was Pending stood hit = absurd cc
 device_owes was Copy stood hit = absurd cc
 device_owes was Duplex stood hit = absurd cc
-device_owes was (Suspended cause since) stood hit = λ i. cond (hit i) (owes_hit was) (owes_suspended was stood)
+device_owes was (Suspended cause since) stood hit = owes_split was stood (is_by_device cause) ∙ (λ i. cond (hit i) (owes_hit was) (owes_other was stood))
 
-other_owes : (was is : PairState) (stood : Bool) → is_suspended is ≡ true → is_device_suspended is ≡ false → owes_through was is stood ≡ owes_suspended was stood
+other_owes : (was is : PairState) (stood : Bool) → is_suspended is ≡ true → is_device_suspended is ≡ false → owes_through was is stood ≡ owes_other was stood
 other_owes was Pending stood gone up = absurd cc
 other_owes was Copy stood gone up = absurd cc
 other_owes was Duplex stood gone up = absurd cc
-other_owes was (Suspended cause since) stood gone up = λ i. cond (up i) (owes_hit was) (owes_suspended was stood)
+other_owes was (Suspended cause since) stood gone up = owes_split was stood (is_by_device cause) ∙ (λ i. cond (up i) (owes_hit was) (owes_other was stood))
 
 -- It matters for suspended rows alone whether they stood duplex.
 owes_stood : (was is : PairState) (a b : Bool) → (is_suspended is ≡ true → a ≡ b) → owes_through was is a ≡ owes_through was is b
@@ -84,13 +111,13 @@ owes_none Copy stood = refl
 owes_none Duplex stood = refl
 owes_none (Suspended cause since) stood = by (is_by_device cause)
   where
-    by : (b : Bool) → cond b (cond b None (Some true)) None ≡ (let o : Option Bool = None in o)
+    by : (b : Bool) → cond (b && not b) (Some true) None ≡ (let o : Option Bool = None in o)
     by true = refl
     by false = refl
 
 -- ---- whether a row stood duplex
 
-or_gone : (b : Bool) (state : PairState) → is_suspended state ≡ true → (b || is_duplex_state state) ≡ b
+or_gone : (b : Bool) (state : PairState) → is_suspended state ≡ true → (b || is_duplex state) ≡ b
 or_gone b Pending gone = absurd cc
 or_gone b Copy gone = absurd cc
 or_gone b Duplex gone = absurd cc
@@ -100,14 +127,14 @@ or_same : (b : Bool) → (b || b) ≡ b
 or_same true = refl
 or_same false = refl
 
-or_fades : (r s : PairRow) → Fades r s → (is_duplex_state r.state || is_duplex_state s.state) ≡ is_duplex_state r.state
+or_fades : (r s : PairRow) → Fades r s → (is_duplex r.state || is_duplex s.state) ≡ is_duplex r.state
 or_fades r s f = elim f.fades [
-  | inl same ↦ ap (λ (state : PairState). is_duplex_state r.state || is_duplex_state state) same ∙ or_same (is_duplex_state r.state)
-  | inr gone ↦ or_gone (is_duplex_state r.state) s.state gone
+  | inl same ↦ ap (λ (state : PairState). is_duplex r.state || is_duplex state) same ∙ or_same (is_duplex r.state)
+  | inr gone ↦ or_gone (is_duplex r.state) s.state gone
 ]
 
 -- Behind deeds that only suspend rows, a row stood duplex if it did at first.
-pub stood_faded : (place : ℕ) (rows : List PairRow) (deeds : List Deed) (r : PairRow) → InPlacesByDeeds Fades rows deeds → slice_get rows place ≡ Some r → stood_duplex place rows deeds ≡ is_duplex_state r.state
+pub stood_faded : (place : ℕ) (rows : List PairRow) (deeds : List Deed) (r : PairRow) → InPlacesByDeeds Fades rows deeds → slice_get rows place ≡ Some r → stood_duplex place rows deeds ≡ is_duplex r.state
 stood_faded place rows [] r fade at = ap is_duplex_row at
 stood_faded place rows (deed ∷ deeds) r fade at =
     let s = after Fades rows (rows_by_deed deed) place r fade.0 at in
@@ -115,8 +142,8 @@ stood_faded place rows (deed ∷ deeds) r fade at =
 
 -- So it is of a row that one more deed suspends.
 pub stood_logged : (place : ℕ) (rows : List PairRow) (quiet : List Deed) (deed : Deed) (r s : PairRow) → InPlacesByDeeds Fades rows quiet → slice_get rows place ≡ Some r → slice_get (rows_by_deed deed) place ≡ Some s → is_suspended s.state ≡ true
-    → stood_duplex place rows (quiet ++ deed ∷ []) ≡ is_duplex_state r.state
-stood_logged place rows [] deed r s fade at there gone = (λ i. is_duplex_row (at i) || is_duplex_row (there i)) ∙ or_gone (is_duplex_state r.state) s.state gone
+    → stood_duplex place rows (quiet ++ deed ∷ []) ≡ is_duplex r.state
+stood_logged place rows [] deed r s fade at there gone = (λ i. is_duplex_row (at i) || is_duplex_row (there i)) ∙ or_gone (is_duplex r.state) s.state gone
 stood_logged place rows (first ∷ quiet) deed r s fade at there gone =
     let m = after Fades rows (rows_by_deed first) place r fade.0 at in
     (λ i. is_duplex_row (at i) || stood_logged place (rows_by_deed first) quiet deed m.row s fade.1 m.at there gone i) ∙ or_fades r m.row m.is
@@ -131,13 +158,13 @@ stood_in_turn place rows (deed ∷ a) b =
     let first = is_duplex_row (slice_get rows place) in
     ap (λ (t : Bool). first || t) (stood_in_turn place (rows_by_deed deed) a b) ∙ or_more first (stood_duplex place (rows_by_deed deed) a) (stood_duplex place (rows_behind a (rows_by_deed deed)) b)
 
-is_duplex : (state : PairState) → is_duplex_state state ≡ true → state ≡ Duplex
-is_duplex Pending e = absurd cc
-is_duplex Copy e = absurd cc
-is_duplex Duplex e = refl
-is_duplex (Suspended cause since) e = absurd cc
+duplex_is : (state : PairState) → is_duplex state ≡ true → state ≡ Duplex
+duplex_is Pending e = absurd cc
+duplex_is Copy e = absurd cc
+duplex_is Duplex e = refl
+duplex_is (Suspended cause since) e = absurd cc
 
-not_duplex : (state : PairState) → is_suspended state ≡ true → is_duplex_state state ≡ false
+not_duplex : (state : PairState) → is_suspended state ≡ true → is_duplex state ≡ false
 not_duplex state gone = or_gone false state gone
 
 -- A row that is suspended doesn't stand duplex again.
@@ -154,15 +181,15 @@ none_stood place rows (deed ∷ deeds) r keep at gone =
 -- A row that stood duplex is so still, unless it is suspended.
 stands_still : (place : ℕ) (rows : List PairRow) (deeds : List Deed) (r s : PairRow) → InPlacesByDeeds KeepsPair rows deeds → slice_get rows place ≡ Some r → slice_get (rows_behind deeds rows) place ≡ Some s → stood_duplex place rows deeds ≡ true
     → is_suspended s.state ≡ false → s.state ≡ Duplex
-stands_still place rows [] r s keep at there stood live = is_duplex s.state (ap is_duplex_row (sym there) ∙ stood)
+stands_still place rows [] r s keep at there stood live = duplex_is s.state (ap is_duplex_row (sym there) ∙ stood)
 stands_still place rows (deed ∷ deeds) r s keep at there stood live = elim (or_cases (is_duplex_row (slice_get rows place)) (stood_duplex place (rows_by_deed deed) deeds) stood) [
-  | inl here ↦ (in_place KeepsPair rows (rows_behind deeds (rows_by_deed deed)) place r s (pairs_behind rows (deed ∷ deeds) keep) at there).duplex (is_duplex r.state (ap is_duplex_row (sym at) ∙ here)) live
+  | inl here ↦ (in_place KeepsPair rows (rows_behind deeds (rows_by_deed deed)) place r s (pairs_behind rows (deed ∷ deeds) keep) at there).duplex (duplex_is r.state (ap is_duplex_row (sym at) ∙ here)) live
   | inr later ↦ let m = after KeepsPair rows (rows_by_deed deed) place r keep.0 at in stands_still place (rows_by_deed deed) deeds m.row s keep.1 m.at there later live
 ]
 
 stood_first : (place : ℕ) (rows : List PairRow) (deeds : List Deed) (r : PairRow) → slice_get rows place ≡ Some r → r.state ≡ Duplex → stood_duplex place rows deeds ≡ true
-stood_first place rows [] r at duplex = ap is_duplex_row at ∙ ap is_duplex_state duplex
-stood_first place rows (deed ∷ deeds) r at duplex = or_left (is_duplex_row (slice_get rows place)) (stood_duplex place (rows_by_deed deed) deeds) (ap is_duplex_row at ∙ ap is_duplex_state duplex)
+stood_first place rows [] r at duplex = ap is_duplex_row at ∙ ap is_duplex duplex
+stood_first place rows (deed ∷ deeds) r at duplex = or_left (is_duplex_row (slice_get rows place)) (stood_duplex place (rows_by_deed deed) deeds) (ap is_duplex_row at ∙ ap is_duplex duplex)
 
 -- ---- one half of a round
 
@@ -218,14 +245,14 @@ owed_here was place (y ∷ rows) (suc i) s apart at =
 
 -- The drops of rows that had these states are exactly those of what is owed, if each suspended row stood duplex only at first.
 pub owed_once : (was : List (Option PairState)) (rows next : List PairRow) (deeds : List Deed) → are_states_of rows was → none_clash next ≡ true
-    → ((place : ℕ) (r s : PairRow) → slice_get rows place ≡ Some r → slice_get next place ≡ Some s → is_suspended s.state ≡ true → stood_duplex place rows deeds ≡ is_duplex_state r.state)
+    → ((place : ℕ) (r s : PairRow) → slice_get rows place ≡ Some r → slice_get next place ≡ Some s → is_suspended s.state ≡ true → stood_duplex place rows deeds ≡ is_duplex r.state)
     → OwesExactly rows next (map answer_of_drop (drops_from 0 was next)) deeds
 owed_once was rows next deeds states apart stood place r s at there =
     let same : place + 0 ≡ place = omega arith in
     owed_here was 0 next place s apart there
     ∙ ap (λ (n : ℕ). owes_since (get_or was n None) s.state) same
     ∙ ap (λ (o : Option PairState). owes_since o s.state) (states place r at)
-    ∙ owes_stood r.state s.state (is_duplex_state r.state) (stood_duplex place rows deeds) (λ gone. sym (stood place r s at there gone))
+    ∙ owes_stood r.state s.state (is_duplex r.state) (stood_duplex place rows deeds) (λ gone. sym (stood place r s at there gone))
 
 -- Where the rows stay and no call drops a volume, nothing more is owed.
 pub owed_none : (rows : List PairRow) (answers : List Answer) (deeds : List Deed) → ((k v : ℕ) → owed_by_calls k v answers ≡ None) → OwesExactly rows rows answers deeds
@@ -265,10 +292,10 @@ module _ (was mid is : PairRow) (first then : Bool) (a : KeepsPair was mid) (b :
       either true d so = sym (so refl)
       either false d so = refl
 
-      by : (t : Bool) → is_suspended mid.state ≡ t → owed_in_turn before (cond t None (Some (not then))) ≡ owes_suspended was.state (first || then)
+      by : (t : Bool) → is_suspended mid.state ≡ t → owed_in_turn before (cond t None (Some (not then))) ≡ owes_other was.state (first || then)
       by true e =
           then_none before ∙ other_owes was.state mid.state first e (up (is_device_suspended mid.state) refl)
-          ∙ ap (owes_suspended was.state) (sym (ap (λ (t : Bool). first || t) (none e) ∙ or_false first))
+          ∙ ap (owes_other was.state) (sym (ap (λ (t : Bool). first || t) (none e) ∙ or_false first))
       by false e =
           ap (λ (o : Option Bool). owed_in_turn o (Some (not then))) (live_owes was.state mid.state first e)
           ∙ (λ i. cond (sym (a.live e) i) None (Some (not (sym (either first then (λ stood. still stood e)) i))))

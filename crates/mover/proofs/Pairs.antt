@@ -4,12 +4,9 @@ use Rattle.std.specs.Prelude.{find, bytes_eq, slice_index_or}
 use Rattle.std.specs.List.{list_any, Contains}
 use Rattle.std.proofs.lemmas.Bool.{and_parts, and_from, eqb-true, eq-eqb}
 use Rattle.pair_table.specs.declared.level.Level.{Level}
-use Rattle.pair_table.specs.declared.level.Level.TheVariants.{Volume as VolumeLevel, Session as SessionLevel}
 use Rattle.pair_table.specs.declared.row.PairRow.{PairRow}
 use Rattle.pair_table.specs.declared.row.PairState.{PairState}
 use Rattle.pair_table.specs.declared.row.PairState.TheVariants.{Duplex}
-use Rattle.pair_table.specs.declared.row.SuspendCause.{SuspendCause}
-use Rattle.pair_table.specs.declared.row.SuspendCause.TheVariants.{Control, Device, Session}
 use Rattle.pair_table.specs.Devices.{is_among}
 use Rattle.pair_table.specs.Rows.{is_suspended}
 use Rattle.pair_table.specs.Tables.{clashes, in_state, is_of, none_clash, row_of}
@@ -17,8 +14,8 @@ use Rattle.pair_table.proofs.PutLaws.{number_sym}
 use Rattle.pair_table.proofs.TableLaws.{either_false, first_apart}
 use Rattle.pending_queue.specs.Entries.{WaitingEntry}
 use Rattle.image_former.specs.Entries.{is_device, is_entry_on, is_row_of, row_device}
-use Rattle.row_changes.specs.Changes.{RowChange, Timed, after_change, after_changes, hit_row, reached_row, row_after_change, since, suspended_by}
-use Rattle.row_changes.specs.Changes.RowChange.{Break, Hit, MarkedHit, Mature, Reached}
+use Rattle.row_changes.specs.Changes.{FaultReach, Timed, after_change, after_changes, reach_of, row_after_change}
+use Rattle.row_changes.proofs.Reaching.{changes_state}
 use Rattle.fed_logs.specs.ToldTracks.{names_track}
 use Rattle.fed_logs.specs.Moves.{HasRowIn}
 
@@ -36,34 +33,16 @@ pairs_of rows = map pair_of rows
 abbrev pub IsPairOf : PairRow → PairRow → Type 0
 IsPairOf r s = pair_of s ≡ pair_of r
 
-either_row : (r : PairRow) (b : Bool) (x y : PairRow) → IsPairOf r x → IsPairOf r y → IsPairOf r (cond b x y)
-either_row r true x y h k = h
-either_row r false x y h k = k
+pub changed_pair : (reach : FaultReach) (t : Timed) (r : PairRow) → IsPairOf r (row_after_change reach t r)
+changed_pair reach t r = ap pair_of (changes_state reach t r)
 
-suspended_pair : (r s : PairRow) (cause : SuspendCause) (time : ℕ) → IsPairOf r s → IsPairOf r (suspended_by cause time s)
-suspended_pair r s cause time h = either_row r (is_suspended s.state) s (in_state (since cause time) s) h h
-
-hit_pair : (r s : PairRow) (devices : List ℕ) (time : ℕ) → IsPairOf r s → IsPairOf r (hit_row devices time s)
-hit_pair r s devices time h = either_row r (is_among s.device devices) (in_state (since Device time) s) s h h
-
-reached_pair : (level : Level) (r s : PairRow) (devices : List ℕ) (time : ℕ) → IsPairOf r s → IsPairOf r (reached_row level devices time s)
-reached_pair VolumeLevel r s devices time h = h
-reached_pair SessionLevel r s devices time h = either_row r (is_among s.device devices) s (suspended_by Session time s) h (suspended_pair r s Session time h)
-
-pub changed_pair : (level : Level) (time : ℕ) (change : RowChange) (r : PairRow) → IsPairOf r (row_after_change level (record { time = time; change = change }) r)
-changed_pair level time (Mature device state) r = either_row r (is_of device r) (in_state state r) r refl refl
-changed_pair level time (Break control) r = either_row r (nat_eq r.control control) (suspended_by Control time r) r (suspended_pair r r Control time refl) refl
-changed_pair level time (Hit devices) r = reached_pair level r (hit_row devices time r) devices time (hit_pair r r devices time refl)
-changed_pair level time (MarkedHit devices) r = hit_pair r r devices time refl
-changed_pair level time (Reached devices) r = reached_pair level r r devices time refl
-
-same_pairs_once : (level : Level) (t : Timed) (rows : List PairRow) → pairs_of (after_change level t rows) ≡ pairs_of rows
-same_pairs_once level t [] = refl
-same_pairs_once level t (r ∷ rows) = λ i. changed_pair level t.time t.change r i ∷ same_pairs_once level t rows i
+mapped_pairs : (reach : FaultReach) (t : Timed) (rows : List PairRow) → pairs_of (map (row_after_change reach t) rows) ≡ pairs_of rows
+mapped_pairs reach t [] = refl
+mapped_pairs reach t (r ∷ rows) = λ i. changed_pair reach t r i ∷ mapped_pairs reach t rows i
 
 pub same_pairs : (level : Level) (changes : List Timed) (rows : List PairRow) → pairs_of (after_changes level changes rows) ≡ pairs_of rows
 same_pairs level [] rows = refl
-same_pairs level (t ∷ changes) rows = same_pairs level changes (after_change level t rows) ∙ same_pairs_once level t rows
+same_pairs level (t ∷ changes) rows = same_pairs level changes (after_change level t rows) ∙ mapped_pairs (reach_of level rows) t rows
 
 -- ---- what depends on pairs alone
 

@@ -1,22 +1,21 @@
 -- Records of groups are steps.
-use Rattle.std.proofs.Common.{◌≡◌, ℕ, ◌≤◌, Bool, true, false, nat_eq, nat_le, ◌&&◌, List, [], ◌∷◌, ◌++◌, map, Option, Some, None, refl, sym, ap, subst, ◌∙◌}
+use Rattle.std.proofs.Common.{◌≡◌, ℕ, ◌≤◌, Bool, true, false, cond, nat_eq, nat_le, ◌&&◌, List, [], ◌∷◌, ◌++◌, map, Option, Some, None, refl, sym, ap, subst, ◌∙◌}
 use Rattle.std.specs.List.{flat_map}
 use Rattle.std.proofs.lemmas.Bool.{and_from, and_parts, eq-eqb, leb-true}
 use Rattle.std.proofs.lemmas.List.Folds.{list_all-append}
 use Rattle.tod_stamp.specs.declared.stamp.Stamp.{Stamp}
 use Rattle.ckd_track.specs.declared.write.Cause.{Cause}
 use Rattle.pair_table.specs.declared.level.Level.{Level}
-use Rattle.pair_table.specs.declared.level.Level.TheVariants.{Volume as VolumeLevel, Session as SessionLevel}
 use Rattle.pair_table.specs.declared.row.PairRow.{PairRow}
 use Rattle.pair_table.specs.declared.row.PairState.{PairState}
 use Rattle.pending_queue.specs.Entries.{WaitingEntry}
 use Rattle.pending_queue.specs.Groups.{FormedGroup}
-use Rattle.row_changes.specs.Changes.{Due, RowChange, Timed, after_change, after_changes, due_after, may_all_come, may_come, may_end}
+use Rattle.row_changes.specs.Changes.{Due, RowChange, Timed, after_change, after_changes, due_after, may_all_come, may_come, may_end, reaches_others}
 use Rattle.row_changes.specs.Changes.Due.{NoneDue, DueSince, DueIn}
 use Rattle.row_changes.specs.Changes.RowChange.{Hit, Mature, Reached}
 use Rattle.record_rows.specs.Deeds.Deed.{Logged}
 use Rattle.record_rows.specs.GroupRows.{are_breaks_at_cut, breaking, group_changes, matured_with_group, maturing, maturing_of}
-use Rattle.record_rows.specs.Hits.{hit_changes, hit_now, told_changes}
+use Rattle.record_rows.specs.Hits.{hit_changes, hit_now, reached_changes, told_changes}
 use Rattle.record_rows.specs.Records.{changes_behind_mark, record_changes, rows_behind_mark, rows_with_record}
 use Rattle.record_rows.specs.ToldRows.{due_after_changes}
 use Rattle.record_rows.proofs.Coming.{behind_marks_are_changes, behind_marks_may_come, records_are_changes, records_may_come}
@@ -79,11 +78,16 @@ module _ (cut : ℕ) where
   hits_now [] = refl
   hits_now (d ∷ hit) = now (Hit (d ∷ hit))
 
+  reached_now : (level : Level) (marked : List ℕ) → are_at_time cut (reached_changes level cut marked) ≡ true
+  reached_now level [] = refl
+  reached_now level (d ∷ marked) = choose (reaches_others level)
+    where
+      choose : (others : Bool) → are_at_time cut (cond others (record { time = cut; change = Reached (d ∷ marked) } ∷ []) []) ≡ true
+      choose true = now (Reached (d ∷ marked))
+      choose false = refl
+
   told_now : (level : Level) (marked hit : List ℕ) → are_at_time cut (told_changes level cut marked hit) ≡ true
-  told_now level marked (d ∷ hit) = hits_now (d ∷ hit)
-  told_now level [] [] = refl
-  told_now VolumeLevel (d ∷ marked) [] = refl
-  told_now SessionLevel (d ∷ marked) [] = now (Reached (d ∷ marked))
+  told_now level marked hit = all_both (reached_changes level cut marked) (hit_changes cut hit) (reached_now level marked) (hits_now hit)
 
 matures_now : (group : FormedGroup) (rows : List PairRow) → are_at_time group.cut.0 (flat_map (maturing_of group) rows) ≡ true
 matures_now group [] = refl

@@ -9,10 +9,10 @@ use Rattle.pair_table.specs.declared.row.PairState.TheVariants.{Pending, Copy, D
 use Rattle.pair_table.specs.Rows.{is_suspended}
 use Rattle.pair_table.specs.Tables.{clashes, in_state, none_clash}
 use Rattle.pair_table.proofs.TableLaws.{first_apart}
-use Rattle.record_rows.specs.Hits.{is_device_suspended}
+use Rattle.pair_table.specs.States.{is_device_suspended}
 use Rattle.record_rows.specs.ToldRows.{InPlaces}
 use Rattle.fed_logs.specs.Moves.{AreFewer}
-use Rattle.mover.specs.Moves.{Fades, KeepPairs, KeepsPair, is_row_of_number, row_of_volume}
+use Rattle.mover.specs.Moves.{Fades, KeepPairs, KeepsPair, is_row_of_volume, row_of_volume}
 
 -- ---- places
 
@@ -221,15 +221,15 @@ pub found_still : (k v : ℕ) (rows next : List PairRow) (r : PairRow) → KeepP
 found_still k v [] [] r are found = absurd cc
 found_still k v [] (s ∷ next) r are found = absurd are
 found_still k v (x ∷ rows) [] r are found = absurd are
-found_still k v (x ∷ rows) (y ∷ next) r are found = choose (λ e. found_still k v rows next r are.1 e) (is_row_of_number k v x) refl found
+found_still k v (x ∷ rows) (y ∷ next) r are found = choose (λ e. found_still k v rows next r are.1 e) (is_row_of_volume k v x) refl found
   where
-    same : is_row_of_number k v y ≡ is_row_of_number k v x
-    same = ap (is_row_of_number k v) are.0.same
+    same : is_row_of_volume k v y ≡ is_row_of_volume k v x
+    same = ap (is_row_of_volume k v) are.0.same
 
-    later : is_row_of_number k v x ≡ false → FoundStill k v rows next r → FoundStill k v (x ∷ rows) (y ∷ next) r
+    later : is_row_of_volume k v x ≡ false → FoundStill k v rows next r → FoundStill k v (x ∷ rows) (y ∷ next) r
     later other f = record { row = f.row; place = suc f.place; was_at = f.was_at; at = f.at; found = (λ i. cond ((same ∙ other) i) (Some y) (row_of_volume k v next)) ∙ f.found; is = f.is; control = f.control; volume = f.volume }
 
-    choose : (row_of_volume k v rows ≡ Some r → FoundStill k v rows next r) → (b : Bool) → is_row_of_number k v x ≡ b → cond b (Some x) (row_of_volume k v rows) ≡ Some r → FoundStill k v (x ∷ rows) (y ∷ next) r
+    choose : (row_of_volume k v rows ≡ Some r → FoundStill k v rows next r) → (b : Bool) → is_row_of_volume k v x ≡ b → cond b (Some x) (row_of_volume k v rows) ≡ Some r → FoundStill k v (x ∷ rows) (y ∷ next) r
     choose on true is e =
         let x_is = same_Some x r e in
         let names = and_parts (nat_eq x.control k) (nat_eq x.volume v) is in

@@ -15,13 +15,12 @@ use Rattle.xrc_journal.specs.Jobs.{FailsByCount}
 use Rattle.pending_queue.specs.Entries.{WaitingEntry}
 use Rattle.group_state.specs.Runs.{Answer}
 use Rattle.pair_table.specs.declared.level.Level.{Level}
-use Rattle.pair_table.specs.declared.level.Level.TheVariants.{Volume as VolumeLevel, Session as SessionLevel}
 use Rattle.pair_table.specs.declared.row.PairRow.{PairRow}
-use Rattle.pair_table.specs.declared.row.SuspendCause.TheVariants.{Device as OfDevice, Session as OfSession}
+use Rattle.pair_table.specs.declared.row.SuspendCause.TheVariants.{Device as OfDevice}
 use Rattle.pair_table.specs.Devices.{is_among}
 use Rattle.pair_table.specs.Rows.{is_suspended}
 use Rattle.pair_table.specs.Tables.{in_state, none_clash, with_rows}
-use Rattle.row_changes.specs.Changes.{Timed, hit_row, reached_row, since}
+use Rattle.row_changes.specs.Changes.{FaultReach, Timed, hit_row, reach_of, reached_row, since}
 use Rattle.row_changes.specs.Changes.Due.{NoneDue}
 use Rattle.row_changes.specs.Spans.{hit_count}
 use Rattle.record_rows.specs.Deeds.{Deed, entries_by_deed, rows_by_deed, time_by_deed}
@@ -31,7 +30,7 @@ use Rattle.record_rows.specs.Records.{rows_with_hits}
 use Rattle.record_rows.specs.ToldRows.{InPlaces}
 use Rattle.record_rows.proofs.Counting.{hits_count, once}
 use Rattle.record_rows.proofs.Devices.{apart_of}
-use Rattle.record_rows.proofs.HitRows.{hits_are_changes}
+use Rattle.record_rows.proofs.HitRows.{hits_are_changes, hits_row, reach_row, told_row, told_rows as rows_are_told}
 use Rattle.record_rows.proofs.Telling.{hits_tell, none_hit_again}
 use Rattle.site_store.specs.DoneDeeds.{BeginsDeeds, DoesDeeds}
 use Rattle.site_store.specs.Exceptions.{Exceptions, excepted_behind, is_kept, is_whole_on}
@@ -236,14 +235,13 @@ fade_hit devices time r = by (is_among r.device devices)
     by true = record { same = refl; fades = inr refl; gone = λ is. inr refl }
     by false = fade_self r
 
-pub fade_reached : (level : Level) (devices : List ℕ) (time : ℕ) (r : PairRow) → Fades r (reached_row level devices time r)
-fade_reached VolumeLevel devices time r = fade_self r
-fade_reached SessionLevel devices time r = by (is_among r.device devices) (is_suspended r.state) refl
+fade_reached : (reach : FaultReach) (devices : List ℕ) (time : ℕ) (r : PairRow) → Fades r (reached_row reach devices time r)
+fade_reached reach devices time r = by (reach.reaches devices r) (is_suspended r.state) refl
   where
-    by : (b c : Bool) → is_suspended r.state ≡ c → Fades r (cond b r (cond c r (in_state (since OfSession time) r)))
-    by true c e = fade_self r
-    by false true e = fade_self r
-    by false false e = record { same = refl; fades = inr refl; gone = λ is. absurd (true≢false (sym is ∙ e)) }
+    by : (b c : Bool) → is_suspended r.state ≡ c → Fades r (cond b (cond c r (in_state (since reach.cause time) r)) r)
+    by true true e = fade_self r
+    by true false e = record { same = refl; fades = inr refl; gone = λ is. absurd (true≢false (sym is ∙ e)) }
+    by false c e = fade_self r
 
 fade_then : (r s t : PairRow) → Fades r s → Fades s t → Fades r t
 fade_then r s t a b = record {
@@ -258,15 +256,24 @@ fade_then r s t a b = record {
   gone = gone_then r.state s.state t.state a.gone b.gone;
 }
 
-pub fades_hit : (level : Level) (time : ℕ) (hit : List ℕ) (rows : List PairRow) → InPlaces Fades rows (rows_hit level time hit rows)
-fades_hit level time [] rows = each_self Fades fade_self rows
-fades_hit level time (d ∷ hit) rows =
-    each_mapped Fades (λ r. reached_row level (d ∷ hit) time (hit_row (d ∷ hit) time r)) (λ r. fade_then r (hit_row (d ∷ hit) time r) (reached_row level (d ∷ hit) time (hit_row (d ∷ hit) time r)) (fade_hit (d ∷ hit) time r) (fade_reached level (d ∷ hit) time (hit_row (d ∷ hit) time r))) rows
+fade_told : (reach : FaultReach) (time : ℕ) (marked hit : List ℕ) (r : PairRow) → Fades r (told_row reach time marked hit r)
+fade_told reach time marked hit r = fade_then r (reach_row reach time marked r) (told_row reach time marked hit r) (first marked) (then hit (reach_row reach time marked r))
+  where
+    first : (m : List ℕ) → Fades r (reach_row reach time m r)
+    first [] = fade_self r
+    first (d ∷ m) = fade_reached reach (d ∷ m) time r
+
+    then : (h : List ℕ) (s : PairRow) → Fades s (hits_row reach time h s)
+    then [] s = fade_self s
+    then (d ∷ h) s = let struck = hit_row (d ∷ h) time s in fade_then s struck (reached_row reach (d ∷ h) time struck) (fade_hit (d ∷ h) time s) (fade_reached reach (d ∷ h) time struck)
 
 pub fades_told : (level : Level) (time : ℕ) (marked hit : List ℕ) (rows : List PairRow) → InPlaces Fades rows (rows_told level time marked hit rows)
-fades_told level time [] [] rows = each_self Fades fade_self rows
-fades_told level time (d ∷ marked) [] rows = each_mapped Fades (reached_row level (d ∷ marked) time) (fade_reached level (d ∷ marked) time) rows
-fades_told level time marked (d ∷ hit) rows = fades_hit level time (d ∷ hit) rows
+fades_told level time marked hit rows =
+    let reach = reach_of level rows in
+    subst (λ (next : List PairRow). InPlaces Fades rows next) (sym (rows_are_told level time marked hit rows)) (each_mapped Fades (told_row reach time marked hit) (fade_told reach time marked hit) rows)
+
+pub fades_hit : (level : Level) (time : ℕ) (hit : List ℕ) (rows : List PairRow) → InPlaces Fades rows (rows_hit level time hit rows)
+fades_hit level time hit rows = fades_told level time [] hit rows
 
 pub fades_marked : (time : ℕ) (hit : List ℕ) (rows : List PairRow) → InPlaces Fades rows (rows_marked time hit rows)
 fades_marked time hit rows = each_mapped Fades (hit_row hit time) (fade_hit hit time) rows

@@ -7,7 +7,8 @@ use Rattle.crash_plant.specs.declared.device.Device.TheVariants.{Volume}
 use Rattle.pair_table.specs.declared.row.PairRow.{PairRow}
 use Rattle.pair_table.specs.declared.row.PairState.{PairState}
 use Rattle.pair_table.specs.Devices.{is_among}
-use Rattle.record_rows.specs.Hits.{hit_now, is_device_suspended, is_down, is_hit_now}
+use Rattle.record_rows.specs.Hits.{hit_now, is_down, is_hit_now}
+use Rattle.pair_table.specs.States.{is_device_suspended}
 use Rattle.record_rows.specs.ToldRows.{AreTold, IsTold}
 use Rattle.record_rows.proofs.Counting.{once}
 use Rattle.record_rows.proofs.Telling.{only_failed}

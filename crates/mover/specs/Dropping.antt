@@ -1,12 +1,10 @@
 -- Volumes that are dropped because their rows were suspended, or were hit.
-use Rattle.std.specs.Prelude.{◌≡◌, ℕ, suc, ◌<◌, ◌==◌, ◌&&◌, ◌||◌, not, if◌then◌else◌, List, [], ◌∷◌, ◌++◌, map, Bool, true, false, Option, Some, None, IsTrue, slice_get, slice_index_or}
+use Rattle.std.specs.Prelude.{◌≡◌, ℕ, suc, ◌<◌, ◌==◌, ◌&&◌, ◌||◌, if◌then◌else◌, List, [], ◌∷◌, ◌++◌, map, Bool, true, false, Option, Some, None, IsTrue, slice_get, slice_index_or}
 use Rattle.std.specs.List.{Contains}
 use Rattle.pair_table.specs.declared.row.PairRow.{PairRow}
 use Rattle.pair_table.specs.declared.row.PairState.{PairState}
-use Rattle.pair_table.specs.declared.row.PairState.TheVariants.{Pending, Copy, Duplex, Suspended}
-use Rattle.pair_table.specs.Rows.{is_suspended}
 use Rattle.record_rows.specs.Deeds.{Deed, rows_by_deed}
-use Rattle.record_rows.specs.Hits.{is_by_device, is_device_suspended}
+use Rattle.pair_table.specs.States.{is_device_suspended, is_duplex, owes, owes_through}
 use Rattle.group_state.specs.Machine.{Call}
 use Rattle.group_state.specs.Machine.Call.{Drop}
 use Rattle.group_state.specs.Machine.Reply.{Made}
@@ -19,38 +17,9 @@ use Rattle.turn_group.specs.Seats.{MoverSeatState}
 abbrev pub are_states_of : List PairRow → (states : List (Option PairState)) → Type 0
 are_states_of rows states = (place : ℕ) (r : PairRow) → slice_get rows place ≡ Some r → slice_index_or states place None ≡ Some r.state
 
-abbrev pub is_duplex_state : PairState → Bool
-is_duplex_state Pending = false
-is_duplex_state Copy = false
-is_duplex_state Duplex = true
-is_duplex_state (Suspended cause since) = false
-
--- ---- what a volume owes
-
--- A row that its own device suspends owes all its tracks, also if it was suspended before for another reason.
-abbrev pub owes_hit : (was : PairState) → Option Bool
-owes_hit was = if is_device_suspended was then None else Some true
-
--- A row that is suspended for another reason owes only the tracks that change from then on if it stood duplex, and else all its tracks. One that
--- was suspended before owes no more than it did.
-abbrev pub owes_suspended : (was : PairState) → (stood : Bool) → Option Bool
-owes_suspended was stood = if is_suspended was then None else Some (not stood)
-
--- Whether the volume of a row that went from one state to another owes more than it did; and if it does, whether all its tracks. A row that isn't
--- suspended owes no more.
-abbrev pub owes_through : (was is : PairState) → (stood : Bool) → Option Bool
-owes_through was Pending stood = None
-owes_through was Copy stood = None
-owes_through was Duplex stood = None
-owes_through was (Suspended cause since) stood = if is_by_device cause then owes_hit was else owes_suspended was stood
-
--- Whether the volume of a row that goes to a state is dropped; and if it is, whether it owes all its tracks.
-abbrev pub owes_by : (was is : PairState) → Option Bool
-owes_by was is = owes_through was is (is_duplex_state was)
-
 abbrev pub owes_since : Option PairState → PairState → Option Bool
 owes_since None is = None
-owes_since (Some was) is = owes_by was is
+owes_since (Some was) is = owes was is
 
 -- ---- the calls
 
@@ -119,7 +88,7 @@ owed_by_calls k v (a ∷ answers) = owed_in_turn (owed_by_call k v a.call) (owed
 
 abbrev pub is_duplex_row : Option PairRow → Bool
 is_duplex_row None = false
-is_duplex_row (Some r) = is_duplex_state r.state
+is_duplex_row (Some r) = is_duplex r.state
 
 -- whether the row in a place stood duplex: at first, or behind one of the deeds
 abbrev pub stood_duplex : (place : ℕ) → List PairRow → List Deed → Bool

@@ -26,7 +26,7 @@ use Rattle.fed_logs.specs.ShownBreaks.{BreaksAreToCome, BrokeAsTraces}
 use Rattle.fed_logs.specs.Reads.{AreLeft, HasRead, IsStillToCome, MayTurnOutOf, Outlook, ReadsOn}
 use Rattle.sidefile.specs.AheadEntries.{IsAhead}
 use Rattle.primary_ctl.specs.Primaries.{none_falls}
-use Rattle.row_changes.specs.Spans.{is_settled}
+use Rattle.pair_table.specs.States.{is_settled}
 use Rattle.turn_group.specs.Seats.{new_mover}
 use Rattle.site_store.specs.declared.store_error.StoreError.{StoreError}
 use Rattle.site_store.specs.Sites.{SiteState}

@@ -7,7 +7,7 @@ use Rattle.group_state.specs.Machine.{Call}
 use Rattle.group_state.specs.Machine.Call.{Join, NextWanted, Copied, Raise, Break, Form, Carry, Drop, Resume, Forget}
 use Rattle.group_state.specs.Runs.{Answer}
 use Rattle.record_rows.specs.GroupRows.{is_shown_done}
-use Rattle.row_changes.specs.Spans.{is_settled}
+use Rattle.pair_table.specs.States.{is_settled}
 
 -- A row that is pending or copying becomes duplex with a group.
 abbrev pub matures : FormedGroup → PairRow → Bool

@@ -1,7 +1,7 @@
 -- What the mover does: the deeds of its site, kept of its calls, and what it knows of rows.
 use Rattle.std.specs.Prelude.{◌≡◌, ◌⊎◌, ℕ, ◌+◌, ◌-◌, ◌*◌, ◌^◌, ◌<◌, ◌≤◌, ◌==◌, ◌&&◌, ◌||◌, not, nat_le, if◌then◌else◌, List, [], ◌∷◌, ◌++◌, length, map, Bool, true, false, find, slice_index_or, Option, Some, None, Result, OnOk, IsErrOf, IsSomeAnd, IsTrue}
 use Rattle.std.specs.List.{All, Contains, list_all, list_any}
-use Rattle.tod_stamp.specs.declared.limits.TheConstants.{TRACKS_OF_CYLINDER}
+use Rattle.xrc_edge.specs.declared.limits.TheConstants.{TRACKS_OF_CYLINDER}
 use Rattle.tod_stamp.specs.declared.stamp.Stamp.{Stamp}
 use Rattle.ckd_track.specs.declared.write.Cause.{Cause}
 use Rattle.crash_plant.specs.declared.device.Device.{Device}
@@ -17,7 +17,8 @@ use Rattle.group_state.specs.Groups.{Shown}
 use Rattle.group_state.specs.Runs.{Answer, shown_by}
 use Rattle.record_rows.specs.Deeds.{Deed, rows_behind, rows_by_deed, time_meant_behind}
 use Rattle.record_rows.specs.Deeds.Deed.{Logged, Changed, Marked}
-use Rattle.record_rows.specs.Hits.{hit_now, is_device_suspended}
+use Rattle.record_rows.specs.Hits.{hit_now}
+use Rattle.pair_table.specs.States.{is_device_suspended}
 use Rattle.record_rows.specs.ToldRows.{InPlaces}
 use Rattle.row_changes.specs.Changes.Due.{NoneDue}
 use Rattle.row_changes.specs.Spans.{hit_count}
@@ -45,12 +46,12 @@ use Rattle.mover.specs.Steps.{AreMade}
 
 -- ---- rows and volumes
 
-abbrev pub is_row_of_number : (control volume : ℕ) → PairRow → Bool
-is_row_of_number k v r = r.control == k && r.volume == v
+abbrev pub is_row_of_volume : (control volume : ℕ) → PairRow → Bool
+is_row_of_volume k v r = r.control == k && r.volume == v
 
 -- the row of a control's volume, where there is one
 abbrev pub row_of_volume : (control volume : ℕ) → List PairRow → Option PairRow
-row_of_volume k v rows = find (is_row_of_number k v) rows
+row_of_volume k v rows = find (is_row_of_volume k v) rows
 
 -- A volume is that of a row which isn't suspended, and of the row's tracks.
 abbrev pub IsOfLive : (control : ℕ) → KnownVolume → PairRow → Type 0

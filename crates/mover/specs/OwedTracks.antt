@@ -1,5 +1,5 @@
 -- What a choice holds of rows' tracks, which tracks are owed by the shared state, and how it carries rows' volumes.
-use Rattle.std.specs.Prelude.{◌≡◌, ℕ, ◌<◌, ◌==◌, ◌&&◌, ◌||◌, not, List, find, Bool, true, false, Option, Some, None, IsTrue}
+use Rattle.std.specs.Prelude.{◌≡◌, ℕ, ◌<◌, ◌&&◌, ◌||◌, not, List, find, Bool, true, false, Option, Some, None, IsTrue}
 use Rattle.std.specs.List.{Contains, list_any}
 use Rattle.ckd_track.specs.declared.rec.Rec.{Rec}
 use Rattle.crash_plant.specs.Choices.{Choice}
@@ -14,19 +14,16 @@ use Rattle.group_state.specs.Controls.{ControlState}
 use Rattle.group_state.specs.Groups.{Group, control_at}
 use Rattle.group_state.specs.Volumes.{is_wanted, passes, volume_of}
 use Rattle.group_state.specs.SoundStates.{is_dropped}
-use Rattle.record_rows.specs.Hits.{is_device_suspended}
+use Rattle.pair_table.specs.States.{is_device_suspended}
 use Rattle.consistency.specs.Stages.{tracks_of_row}
 use Rattle.site_means.specs.Sight.{content_of}
 use Rattle.fed_logs.specs.ToldTracks.{HeldTracks}
 use Rattle.fed_logs.specs.Logs.{Sizes, is_of_size}
 use Rattle.fed_logs.specs.Moves.{HasRowIn}
 use Rattle.site_store.specs.Exceptions.{Exceptions}
+use Rattle.mover.specs.Moves.{is_row_of_volume}
 
 -- ---- what is held
-
--- whether a row is that of a control's volume
-abbrev pub is_row_of_volume : (control volume : ℕ) → PairRow → Bool
-is_row_of_volume k v r = r.control == k && r.volume == v
 
 abbrev pub held_of_row : PlantState → Choice → (track : ℕ) → Option PairRow → Option (List Rec)
 held_of_row plant c x (Some r) = content_of plant c r.device x

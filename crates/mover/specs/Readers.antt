@@ -1,7 +1,7 @@
 -- A lane's reader as contracts see it, and its seat.
 use Rattle.std.specs.Prelude.{◌≡◌, ◌*◌, ◌==◌, ◌&&◌, nat_lt, Bool, List, [], length, map, Option, IsTrue}
 use Rattle.std.specs.List.{list_all}
-use Rattle.tod_stamp.specs.declared.limits.TheConstants.{TRACKS_OF_CYLINDER}
+use Rattle.xrc_edge.specs.declared.limits.TheConstants.{TRACKS_OF_CYLINDER}
 use Rattle.write_trace.specs.declared.header.VolumeHead.{VolumeHead}
 use Rattle.write_trace.specs.Headers.{cylinders_of}
 use Rattle.group_state.specs.declared.volume.Volume.{Volume}

@@ -1,9 +1,9 @@
 -- The work of an epoch: what it asks of lanes, seats and site, and what it leaves.
 use Rattle.std.specs.Prelude.{◌≡◌, ◌⊎◌, ℕ, ◌+◌, ◌<◌, ◌≤◌, List, length, map, Option, Some, Result, Ok, Err, IsSomeAnd, IsTrue, slice_index_or}
 use Rattle.std.specs.List.{list_all}
-use Rattle.tod_stamp.specs.declared.limits.TheConstants.{MOST_CONTROLS}
+use Rattle.xrc_edge.specs.declared.limits.TheConstants.{MOST_CONTROLS}
 use Rattle.crash_plant.specs.Moments.{PlantState}
-use Rattle.row_changes.specs.Spans.{is_settled}
+use Rattle.pair_table.specs.States.{is_settled}
 use Rattle.group_state.specs.Groups.{Group}
 use Rattle.fed_logs.specs.declared.reading.Reading.TheVariants as readings
 use Rattle.fed_logs.specs.Reads.{ReadsOn}

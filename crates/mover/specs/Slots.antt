@@ -1,7 +1,7 @@
 -- The slots that the mover writes: those of the tracks of rows that aren't suspended, and of tracks of which an item waits.
 use Rattle.std.specs.Prelude.{◌≡◌, ◌⊎◌, ℕ, ◌*◌, ◌<◌, ◌≤◌, ◌==◌, ◌&&◌, ◌||◌, not, nat_lt, List, length, Bool, Result, OnOk, IsTrue, slice_range}
 use Rattle.std.specs.List.{list_any}
-use Rattle.tod_stamp.specs.declared.limits.TheConstants.{TRACKS_OF_CYLINDER}
+use Rattle.xrc_edge.specs.declared.limits.TheConstants.{TRACKS_OF_CYLINDER}
 use Rattle.ckd_track.specs.SlotPlaces.{slot_place, slot_end}
 use Rattle.crash_plant.specs.declared.device.Device.TheVariants.{Volume}
 use Rattle.crash_plant.specs.Moments.{Follows, PlantState, Standing, on}

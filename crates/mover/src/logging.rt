@@ -1,16 +1,16 @@
 //! The first half of the mover's part of a round: a group is formed, and logged.
 
-ghost use Rattle.std.specs.Prelude.{◌≡◌, ◌≤◌, ◌&&◌, ◌||◌, not, length, OnOk};
+ghost use Rattle.std.specs.Prelude.{◌≡◌, ◌≤◌, ◌&&◌, ◌||◌, length, OnOk};
 ghost use Rattle.std.specs.List.{list_any};
 ghost use Rattle.record_rows.specs.GroupRows.{is_shown_done};
-ghost use Rattle.row_changes.specs.Spans.{is_settled};
+ghost use Rattle.pair_table.specs.States.{is_settled};
 ghost use Rattle.mover.specs.Groups.{is_to_log, matures};
 ghost use Rattle.mover.specs.Moves.{IsStillAt, KeepsLimit, MayMove, MaySettle, Moved, MoverWorks};
 ghost use Rattle.mover.specs.Numbers.{FormsUse};
 
 use crate::settling::{drop_suspended, states_of};
 use crash_plant::Plant;
-use pair_table::{PairRow, PairState, PairTable};
+use pair_table::{PairRow, PairTable};
 use pending_queue::Formed;
 use site_store::{Site, StoreError};
 use std::sync::Wait;
@@ -24,33 +24,18 @@ fn is_done(formed: &Formed, row: &PairRow) -> bool
     formed.done().iter().any(|(control, volume)| *control == row.control && *volume == row.volume)
 }
 
-/// Whether a row waits for its copy or is copied.
-pub(crate) fn is_unsettled(row: &PairRow) -> bool
-    ensures { result ≡ not (is_settled row.now.state) }
-{
-    matches!(row.state, PairState::Pending | PairState::Copy)
-}
-
 /// Whether a row becomes duplex with a group.
 fn is_matured(formed: &Formed, row: &PairRow) -> bool
     ensures { result ≡ matures formed.now row.now }
 {
-    is_unsettled(row) && is_done(formed, row)
+    !row.state.is_settled() && is_done(formed, row)
 }
 
 /// Whether some row becomes duplex with a group.
 fn matures(formed: &Formed, table: &PairTable) -> bool
     ensures { result ≡ list_any (matures formed.now) table.now.rows }
 {
-    for place in 0..table.len() {
-        let Some(row) = table.row(place) else {
-            unreachable!()
-        };
-        if is_matured(formed, row) {
-            return true;
-        }
-    }
-    false
+    table.rows().iter().any(|row| is_matured(formed, row))
 }
 
 /// Whether a group is to be logged. While a session starts there are groups below the site's time. At that time a group counts if

@@ -1,7 +1,8 @@
 //! How many threads the readers' parts of a round are worth. Nothing rests on it but speed.
 
 use crate::lane::Lane;
-use tod_stamp::{MOST_CONTROLS, Stamp};
+use tod_stamp::Stamp;
+use xrc_edge::MOST_CONTROLS;
 
 /// The number of threads for the readers' parts of a round, beside the mover's: 0 where they are made in the mover's thread. That is so
 /// where no reader has anything to do, or one alone has, and most likely little. Readers wait for each other only within their sources,

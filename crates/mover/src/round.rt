@@ -1,12 +1,12 @@
 //! Rounds: readers beside the mover, until the limit is reached.
 
 ghost use Rattle.std.specs.Prelude.{◌≡◌, ◌↔◌, ◌<◌, ◌≤◌, ℕ, All, Ok, OnOk, length, map, IsTrue, IsSomeAnd, false};
-ghost use Rattle.tod_stamp.specs.declared.limits.TheConstants.{MOST_CONTROLS};
+ghost use Rattle.xrc_edge.specs.declared.limits.TheConstants.{MOST_CONTROLS};
 ghost use Rattle.std.specs.List.{list_all};
 ghost use Rattle.std.specs.Thread.{IsSync};
 ghost use Rattle.turn_group.specs.Calls.{as_answer};
 ghost use Rattle.turn_group.specs.Seats.{TurnState};
-ghost use Rattle.row_changes.specs.Spans.{is_settled};
+ghost use Rattle.pair_table.specs.States.{is_settled};
 ghost use Rattle.mover.specs.declared.ends.RoundsEnd.TheVariants as ends;
 ghost use Rattle.mover.specs.Lanes.{IsLaneSeated, MayGoOn, MayLaneRead};
 ghost use Rattle.mover.specs.Groups.{is_at_limit};
@@ -17,7 +17,6 @@ ghost use Rattle.mover.specs.Rounds.{AllRead, SeatsAreBack, AreLanesOf, AreNewSe
 use crate::ends::RoundsEnd;
 use crate::gate::Gate;
 use crate::lane::Lane;
-use crate::logging::is_unsettled;
 use crate::moving::move_once;
 use crate::pace::threads_for;
 use crate::reading::read_all;
@@ -78,15 +77,7 @@ fn round<R: Threads + Wait + Sync, S: Source + Send, P: Plant, G: Gate + Sync>(
 fn are_settled(table: &PairTable) -> bool
     ensures { result ≡ list_all (λ r. is_settled r.state) table.now.rows }
 {
-    for place in 0..table.len() {
-        let Some(row) = table.row(place) else {
-            unreachable!()
-        };
-        if is_unsettled(row) {
-            return false;
-        }
-    }
-    true
+    table.rows().iter().all(|row| row.state.is_settled())
 }
 
 /// Whether a lane's reader lacked memory.

@@ -1,7 +1,7 @@
 //! Seats handed to the readers of lanes, and handed back.
 
 ghost use Rattle.std.specs.Prelude.{◌≡◌, ◌<◌, ◌≤◌, ℕ, length, slice_get, slice_index_or, slice_set, replicate, None, Some};
-ghost use Rattle.tod_stamp.specs.declared.limits.TheConstants.{MOST_CONTROLS};
+ghost use Rattle.xrc_edge.specs.declared.limits.TheConstants.{MOST_CONTROLS};
 ghost use Rattle.mover.specs.Lanes.{GivesSeat, HasFreePlace, HasReader, HasSeatOf, LaneGivesSeat, LaneTakesSeat};
 
 use crate::lane::Lane;

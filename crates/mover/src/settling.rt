@@ -2,16 +2,15 @@
 //! volumes of pairs that are suspended or hit now are dropped.
 
 ghost use Rattle.std.specs.Prelude.{◌≡◌, ◌<◌, ℕ, [], false, length, OnOk, IsTrue};
-ghost use Rattle.pair_table.specs.Rows.{is_suspended};
 ghost use Rattle.pair_table.specs.Tables.{AreRowsSound, none_clash};
-ghost use Rattle.record_rows.specs.Hits.{hit_now, is_device_suspended};
+ghost use Rattle.record_rows.specs.Hits.{hit_now};
 ghost use Rattle.site_store.specs.Standing.{MayRecord, StandsFast};
-ghost use Rattle.mover.specs.Dropping.{AreOfControls, Drops, MakesDrops, are_states_of, drop_of, owes_by, owes_since};
+ghost use Rattle.mover.specs.Dropping.{AreOfControls, Drops, MakesDrops, are_states_of, drop_of, owes_since};
 ghost use Rattle.mover.specs.Moves.{IsStillAt, KeepsLimit, MaySettle, Moved, MoverWorks, SettlesFor, SiteMoved, is_mark_due};
 ghost use Rattle.mover.specs.Numbers.{FormsUse, UsesUpTo};
 
 use crash_plant::Plant;
-use pair_table::{MOST_ROWS, PairRow, PairState, PairTable, SuspendCause};
+use pair_table::{MOST_ROWS, PairRow, PairState, PairTable};
 use site_store::{Site, StoreError};
 use std::sync::Wait;
 use std::thread::Threads;
@@ -26,51 +25,10 @@ pub(crate) fn states_of(table: &PairTable) -> [Option<PairState>; MOST_ROWS]
     ensures rules { AreRowsSound table.now.rows }
 {
     let mut states = [None; MOST_ROWS];
-    for place in 0..table.len() {
-        let Some(row) = table.row(place) else {
-            unreachable!()
-        };
-        states[usize::from(place)] = Some(row.state);
+    for (place, row) in table.rows().iter().enumerate() {
+        states[place] = Some(row.state);
     }
     states
-}
-
-fn is_suspended(state: PairState) -> bool
-    ensures { result ≡ is_suspended state }
-{
-    matches!(state, PairState::Suspended { .. })
-}
-
-/// Whether its own device suspends a pair.
-fn is_device_suspended(state: PairState) -> bool
-    ensures { result ≡ is_device_suspended state }
-{
-    matches!(
-        state,
-        PairState::Suspended {
-            cause: SuspendCause::Device,
-            ..
-        }
-    )
-}
-
-/// Whether the volume of a pair that went from one state to another is dropped, and if it is, whether it owes all its tracks: it owes
-/// only those that change from now on where it was duplex and its own device hasn't failed. A pair that was suspended already owes
-/// all of them once its device fails.
-fn owes_by(was: PairState, is: PairState) -> Option<bool>
-    ensures { result ≡ owes_by was is }
-{
-    if is_device_suspended(is) {
-        return if is_device_suspended(was) {
-            None
-        } else {
-            Some(true)
-        };
-    }
-    if !is_suspended(is) || is_suspended(was) {
-        return None;
-    }
-    Some(was != PairState::Duplex)
 }
 
 /// Drops the volume of a row that was suspended or hit.
@@ -89,7 +47,7 @@ fn drop_row<W: Wait>(
     let Some(was) = was else {
         return;
     };
-    if let Some(all) = owes_by(was, row.state) {
+    if let Some(all) = was.owes(row.state) {
         group.drop_volume(rt, seat, row.control, row.volume, all);
     }
 }
@@ -107,11 +65,8 @@ pub(crate) fn drop_suspended<W: Wait>(
     ensures drops { Drops was.now table.now.rows seat.old seat.new }
     ensures seat { IsStillAt seat.old seat.new }
 {
-    for place in 0..table.len() {
-        let Some(row) = table.row(place) else {
-            unreachable!()
-        };
-        drop_row(rt, group, seat, was[usize::from(place)], row);
+    for (place, row) in table.rows().iter().enumerate() {
+        drop_row(rt, group, seat, was[place], row);
     }
 }
 

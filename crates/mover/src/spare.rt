@@ -1,7 +1,7 @@
 //! The buffer of groups, which the first lane keeps from epoch to epoch.
 
 ghost use Rattle.std.specs.Prelude.{◌≡◌, ◌≤◌, length, IfOk};
-ghost use Rattle.tod_stamp.specs.declared.limits.TheConstants.{MOST_CONTROLS};
+ghost use Rattle.xrc_edge.specs.declared.limits.TheConstants.{MOST_CONTROLS};
 
 use crate::lane::Lane;
 use pending_queue::Formed;

@@ -136,12 +136,12 @@ module _ {S : Type 0} (tells : Type 0) (names : Naming) (command : Command) (cha
     -- The change may be taken over.
     pub may_take : AreUnbroken lanes → MayTake group change site.table.rows next.table.rows
     may_take whole =
-        let behind = logged_rows at change changed next old was is logs in
+        let after_it = logged_rows at change changed next old was is logs in
         let table : changed.table ≡ (behind_command names answered.session command at change site).table = ap (λ (t : SiteState). t.table) answered.next_is in
         let all : list_all (has_named_primary names) changed.table.rows ≡ true = answered.again.command.named in
-        subst (λ (rows : List PairRow). MayTake group change site.table.rows rows) (sym behind.1)
-        (subst (λ (t : Table). MayTake group change site.table.rows (rows_with_hits changed.level at behind.0 t.rows)) (sym table)
-        (commands_may_be_taken names site.table answered.session command change at changed.level at behind.0 group go.commands.may.started kept_rows.apart answered.is
+        subst (λ (rows : List PairRow). MayTake group change site.table.rows rows) (sym after_it.1)
+        (subst (λ (t : Table). MayTake group change site.table.rows (rows_with_hits changed.level at after_it.0 t.rows)) (sym table)
+        (commands_may_be_taken names site.table answered.session command change at changed.level at after_it.0 group go.commands.may.started kept_rows.apart answered.is
         (subst (λ (t : Table). AreRowsSound t.rows) table answered.keeps).apart
         (subst (λ (t : Table). BegunControlsCount group change t.rows) table (all_count lanes names group at go.are go.commands.are_named whole some (some_lane lanes some) change changed.table.rows all))))
 

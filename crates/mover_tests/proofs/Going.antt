@@ -5,16 +5,17 @@ use Rattle.std.specs.List.{Contains, list_all}
 use Rattle.std.proofs.Math.Seq.{take-append_seam}
 use Rattle.std.proofs.lemmas.Bool.{and_parts}
 use Rattle.std.proofs.lemmas.List.{length-map, length-replicate}
+use Rattle.ckd_track.specs.declared.layout.TheConstants.{WRITES_OF_RUN}
 use Rattle.crash_plant.specs.Calls.{SameSite}
 use Rattle.crash_plant.specs.Moments.{PlantState}
 use Rattle.pair_table.specs.declared.level.Level.{Level}
 use Rattle.pair_table.specs.declared.names.NamedDevice.{NamedDevice}
 use Rattle.pair_table.specs.declared.row.PairRow.{PairRow}
 use Rattle.pair_table.specs.Naming.{Naming}
-use Rattle.tod_stamp.specs.declared.limits.TheConstants.{MOST_CONTROLS}
+use Rattle.xrc_edge.specs.declared.limits.TheConstants.{MOST_CONTROLS}
 use Rattle.tod_stamp.specs.declared.stamp.Stamp.{Stamp}
 use Rattle.group_state.specs.Controls.{ControlState, is_telling, new_control}
-use Rattle.group_state.specs.Groups.{Group, control_at, most_records, new_controls, new_group}
+use Rattle.group_state.specs.Groups.{Group, control_at, new_controls, new_group}
 use Rattle.group_state.specs.Volumes.{passes, volume_of}
 use Rattle.group_state.proofs.GroupLaws.{length_new}
 use Rattle.group_state.proofs.Kept.{kept_first}
@@ -114,7 +115,7 @@ none_kept n records blocks k v kept =
     let low : k < n = omega (arith, kept_within (new_group n records blocks) k v kept, length_new n 0 records blocks) in
     true≢false (sym kept ∙ ap (λ (c : ControlState). passes (λ u. true) (volume_of v c.volumes)) (new_at n 0 records blocks k (new_control 0 0 0) low))
 
-kept_new : (n records blocks : ℕ) → 1 ≤ n → n ≤ MOST_CONTROLS → records ≤ most_records → IsSoundForRows (new_group n records blocks) []
+kept_new : (n records blocks : ℕ) → 1 ≤ n → n ≤ MOST_CONTROLS → records ≤ WRITES_OF_RUN → IsSoundForRows (new_group n records blocks) []
 kept_new n records blocks some few most = record {
   keeps = kept_first n records blocks some few most;
   apart = refl;
@@ -139,7 +140,7 @@ made_so : {A E : Type 0} → (P : A → Type 0) (made : Result A E) (x : A) → 
 made_so P made x is so = subst (λ (r : Result _ _). IfOk r P) is so
 
 module _ {S : Type 0} (tells : Type 0) (n records blocks : ℕ) (session : List ℕ) (level : Level) (at : Stamp) (names : Naming) (lanes : List (Lane S)) (old plant : PlantState) (same : SameSite old plant) (labels : LabelsFit old names)
-    (many : length lanes ≡ n) (some : 1 ≤ n) (few : n ≤ MOST_CONTROLS) (most : records ≤ most_records) (opened : AreOpened lanes names.primaries) where
+    (many : length lanes ≡ n) (some : 1 ≤ n) (few : n ≤ MOST_CONTROLS) (most : records ≤ WRITES_OF_RUN) (opened : AreOpened lanes names.primaries) where
   goes_new : (site : SiteState) → site ≡ new_site n old.volumes session level at → FitsPlant site plant → (tells → SiteStands none_excepted site plant) → MayGoTo tells at.0 names lanes (new_group n records blocks) site plant
   goes_new site is fits stands = record {
     are = new_lanes n records blocks at.0 lanes many opened.are_new;

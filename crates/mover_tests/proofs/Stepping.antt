@@ -6,7 +6,7 @@ use Rattle.std.proofs.lemmas.Bool.{and_parts, eqb-false, eqb-true, leb-true, ltb
 use Rattle.std.proofs.lemmas.List.{get_or-replicate, get_or-set_same, get_or-set_other, get_or-map, length-map, length-replicate}
 use Rattle.std.proofs.lemmas.List.Sums.{AllPass-from_list_all}
 use Rattle.std.proofs.lemmas.Option.{same_Some}
-use Rattle.tod_stamp.specs.declared.limits.TheConstants.{MOST_CONTROLS, MOST_CYLINDERS, MOST_VOLUMES, TRACKS_OF_CYLINDER}
+use Rattle.xrc_edge.specs.declared.limits.TheConstants.{MOST_CONTROLS, MOST_CYLINDERS, MOST_CONTROL_VOLUMES, TRACKS_OF_CYLINDER}
 use Rattle.tod_stamp.specs.Fields.{within}
 use Rattle.tod_stamp.specs.declared.stamp.Stamp.{Stamp}
 use Rattle.ckd_track.specs.declared.rec.Rec.{Rec}
@@ -66,7 +66,7 @@ tracks_next s next call reply by may step tracks k v x low = track_within s next
 -- The volumes that are kept for rows have their tracks.
 long_row : (r : PairRow) (u : Volume) (x : ℕ) → is_row r ≡ true → is_of_size (tracks_of_row r) u ≡ true → x < TRACKS_OF_CYLINDER → nat_lt x (length u.map) ≡ true
 long_row r u x is sized low =
-    let ranges = and_parts (nat_le r.control (MOST_CONTROLS - 1) && nat_le r.volume (MOST_VOLUMES - 1)) (within 1 MOST_CYLINDERS r.cylinders) (row_keeps r is) in
+    let ranges = and_parts (nat_le r.control (MOST_CONTROLS - 1) && nat_le r.volume (MOST_CONTROL_VOLUMES - 1)) (within 1 MOST_CYLINDERS r.cylinders) (row_keeps r is) in
     let some = leb-true 1 r.cylinders (and_parts (nat_le 1 r.cylinders) (nat_le r.cylinders MOST_CYLINDERS) ranges.1).0 in
     lt-ltb x (length u.map) (omega (arith, low, eqb-true (length u.map) (tracks_of_row r) sized, some))
 

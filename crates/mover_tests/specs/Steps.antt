@@ -1,7 +1,7 @@
 -- What controls have told, where readers and mover go on by steps.
 use Rattle.std.specs.Prelude.{◌≡◌, ℕ, ◌<◌, List, length, nat_lt, IsTrue, slice_index_or}
 use Rattle.std.specs.List.{list_all}
-use Rattle.tod_stamp.specs.declared.limits.TheConstants.{TRACKS_OF_CYLINDER}
+use Rattle.xrc_edge.specs.declared.limits.TheConstants.{TRACKS_OF_CYLINDER}
 use Rattle.xrc_edge.specs.Order.{is_in_order}
 use Rattle.ckd_track.specs.declared.write.Write.{Write}
 use Rattle.ckd_track.specs.Writes.{is_earlier}

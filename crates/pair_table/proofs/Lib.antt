@@ -11,3 +11,4 @@ pub mod FindLaws
 pub mod StateLaws
 pub mod AddLaws
 pub mod MayLaws
+pub mod Causes

@@ -1,5 +1,7 @@
 -- The rules of a row, one by one.
-use Rattle.std.proofs.Common.{◌≡◌, ◌^◌, ◌<◌, ◌≤◌, Bool, true, false, nat_lt, nat_le, ◌&&◌, refl}
+use Rattle.std.proofs.Common.{◌≡◌, ◌^◌, ◌<◌, ◌≤◌, zero, suc, Bool, true, false, nat_lt, nat_le, ◌&&◌, List, [], ◌∷◌, refl, arith}
+use Rattle.std.specs.Prelude.{IsTrue}
+use Rattle.std.specs.List.{All, list_all}
 use Rattle.std.proofs.lemmas.Bool.{ltb-true, leb-true}
 use Rattle.tod_stamp.specs.Fields.{within}
 use Rattle.tod_stamp.specs.Names.{is_serial}
@@ -56,3 +58,9 @@ is_row_by r primary secondary rules device state =
     and_true (is_serial r.primary && is_serial r.secondary && keeps_row_rules r && nat_lt r.device (2 ^ 16)) (is_state r.state)
     (and_true (is_serial r.primary && is_serial r.secondary && keeps_row_rules r) (nat_lt r.device (2 ^ 16))
     (and_true (is_serial r.primary && is_serial r.secondary) (keeps_row_rules r) (and_true (is_serial r.primary) (is_serial r.secondary) primary secondary) rules) device) state
+
+-- each of rows keeps the rules, by its place
+pub all_keep : (rows : List PairRow) → list_all is_row rows ≡ true → All (λ r. IsTrue (keeps_row_rules r)) rows
+all_keep [] all k d lt = absurd (omega (arith, lt))
+all_keep (r ∷ rows) all zero d lt = row_keeps r (both_true (is_row r) (list_all is_row rows) all).0
+all_keep (r ∷ rows) all (suc k) d lt = all_keep rows (both_true (is_row r) (list_all is_row rows) all).1 k d (omega (arith, lt))

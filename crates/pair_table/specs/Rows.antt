@@ -1,7 +1,7 @@
 -- Rows of pairs: the ranges that a row keeps by itself, its one spelling in 30 bytes, and reading it.
 use Rattle.std.specs.Prelude.{ℕ, ◌-◌, ◌^◌, ◌==◌, ◌&&◌, List, ◌∷◌, ◌++◌, length, slice_range, slice_index, Bool, true, false, Option, Some, None, nat_lt, nat_le, if◌then◌else◌}
 use Rattle.std.specs.Int.{w16, w64, to_be_bytes, from_be_bytes}
-use Rattle.tod_stamp.specs.declared.limits.TheConstants.{MOST_CONTROLS, MOST_CYLINDERS, MOST_VOLUMES}
+use Rattle.xrc_edge.specs.declared.limits.TheConstants.{MOST_CONTROLS, MOST_CYLINDERS, MOST_CONTROL_VOLUMES}
 use Rattle.tod_stamp.specs.Fields.{within}
 use Rattle.tod_stamp.specs.Names.{is_serial, serial_field, name_in}
 use Rattle.pair_table.specs.declared.limits.TheConstants.{ROW_LENGTH}
@@ -16,7 +16,7 @@ use Rattle.tod_stamp.specs.Options.{◌>>=◌}
 
 -- Control and volume are below their numbers, and there are 1 to the most cylinders.
 abbrev pub are_in_ranges : (control volume cylinders : ℕ) → Bool
-are_in_ranges control volume cylinders = nat_le control (MOST_CONTROLS - 1) && nat_le volume (MOST_VOLUMES - 1) && within 1 MOST_CYLINDERS cylinders
+are_in_ranges control volume cylinders = nat_le control (MOST_CONTROLS - 1) && nat_le volume (MOST_CONTROL_VOLUMES - 1) && within 1 MOST_CYLINDERS cylinders
 
 -- the rules of a row that its types leave open
 abbrev pub keeps_row_rules : PairRow → Bool

@@ -14,8 +14,8 @@ use crate::names::{NamedDevice, NamedVolume, Names};
 use crate::row::{PairRow, PairState, SuspendCause};
 use crate::table::PairTable;
 use std::alloc::Global;
-use tod_stamp::{Serial, Session, Stamp, TRACKS_OF_CYLINDER};
-use xrc_edge::NoMemory;
+use tod_stamp::{Serial, Session, Stamp};
+use xrc_edge::{NoMemory, TRACKS_OF_CYLINDER};
 
 impl PairTable {
     /// Does a command of a script at a time, or refuses it. A refusal comes before any memory is taken. After an error the table

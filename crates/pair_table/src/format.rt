@@ -3,7 +3,7 @@
 
 ghost use Rattle.std.specs.Prelude.{◌≡◌, ◌<◌, ◌^◌, IsTrue};
 ghost use Rattle.tod_stamp.specs.Names.{is_serial};
-ghost use Rattle.pair_table.specs.Rows.{is_row, is_state, keeps_row_rules, cause_number, state_numbers, cause_of_number, causeless_state, state_of_numbers as state_in, allowed, names_spelling, numbers_spelling, state_spelling, row_spelling, row_at};
+ghost use Rattle.pair_table.specs.Rows.{is_row, is_state, keeps_row_rules, state_numbers, causeless_state, state_of_numbers as state_in, allowed, names_spelling, numbers_spelling, state_spelling, row_spelling, row_at};
 
 use crate::limits::ROW_LENGTH;
 use crate::row::{PairRow, PairState, SuspendCause};
@@ -90,18 +90,7 @@ fn numbers_of(state: PairState) -> (u8, u8, u64)
         PairState::Pending => (0, 0, 0),
         PairState::Copy => (1, 0, 0),
         PairState::Duplex => (2, 0, 0),
-        PairState::Suspended { cause, since } => (3, number_of(cause), since.0),
-    }
-}
-
-fn number_of(cause: SuspendCause) -> u8
-    ensures { result ≡ cause_number cause }
-{
-    match cause {
-        SuspendCause::Command => 1,
-        SuspendCause::Device => 2,
-        SuspendCause::Session => 3,
-        SuspendCause::Control => 4,
+        PairState::Suspended { cause, since } => (3, cause.number(), since.0),
     }
 }
 
@@ -110,7 +99,7 @@ fn state_of(state: u8, cause: u8, since: u64) -> Option<PairState>
     ensures { result ≡ state_in state cause since }
 {
     if state == 3 {
-        let cause = cause_of(cause)?;
+        let cause = SuspendCause::of_number(cause)?;
         let since = Stamp(since);
         return Some(PairState::Suspended { cause, since });
     }
@@ -118,18 +107,6 @@ fn state_of(state: u8, cause: u8, since: u64) -> Option<PairState>
         plain_state(state)
     } else {
         None
-    }
-}
-
-fn cause_of(number: u8) -> Option<SuspendCause>
-    ensures { result ≡ cause_of_number number }
-{
-    match number {
-        1 => Some(SuspendCause::Command),
-        2 => Some(SuspendCause::Device),
-        3 => Some(SuspendCause::Session),
-        4 => Some(SuspendCause::Control),
-        _ => None,
     }
 }
 

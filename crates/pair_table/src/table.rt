@@ -1,7 +1,7 @@
 //! The table of a session's pairs.
 
 ghost use Rattle.std.specs.Prelude.{◌≡◌, ◌≤◌, ◌↔◌, [], length, filter, not, nat_le, slice_get, true, IfOk, IsSome, IfSome, OnOk, OnErr, IsTrue};
-ghost use Rattle.std.specs.List.{list_any};
+ghost use Rattle.std.specs.List.{All, list_any};
 ghost use Rattle.std.specs.Option.{option_copied};
 ghost use Rattle.pair_table.specs.Commands.{devices_of, is_chosen, is_to_suspend};
 ghost use Rattle.pair_table.specs.Refusals.{is_pair, row_of_primary};
@@ -64,6 +64,15 @@ impl PairTable {
         ensures rules { AreRowsSound self.now.rows }
     {
         self.rows.len() as u16
+    }
+
+    /// The rows in order of adding.
+    pub fn rows(&self) -> &[PairRow]
+        ensures rows { result.now ≡ self.now.rows }
+        ensures sound { AreRowsSound self.now.rows }
+        ensures rules { All (λ row. IsTrue (keeps_row_rules row)) self.now.rows }
+    {
+        self.rows.values().as_slice()
     }
 
     /// The row at a place, counted from 0, in order of adding. None exactly where none stands there.

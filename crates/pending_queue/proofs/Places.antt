@@ -10,11 +10,11 @@ use Rattle.std.proofs.lemmas.Slice.{drop-append-drop}
 use Rattle.std.proofs.lemmas.List.Elements.{All-head, All-tail, All-cons, All-push}
 use Rattle.std.proofs.lemmas.List.Folds.{list_all-map}
 use Rattle.std.proofs.lemmas.Option.{slice_get-get_or, slice_get-map}
+use Rattle.ckd_track.specs.declared.layout.TheConstants.{WRITES_OF_RUN}
 use Rattle.ckd_track.specs.Entries.{longest_entry}
 use Rattle.ckd_track.specs.Slots.{with_bytes}
 use Rattle.pending_queue.specs.declared.placed.Placed.{Placed}
 use Rattle.pending_queue.specs.Entries.{WaitingEntry, IsOfWrite, entry_by, stands_before}
-use Rattle.pending_queue.specs.Groups.{most_of_control}
 use Rattle.pending_queue.specs.PlacedEntries.{placed_entry, placed_entries, placed_before, AreFormsSound}
 use Rattle.xrc_edge.specs.Order.{put_in_order, in_order, is_in_order}
 use Rattle.xrc_edge.proofs.OrderLaws.{IsOrder, parted}
@@ -108,7 +108,7 @@ same_size used bytes form within =
 
 -- A new entry, whose form goes behind the bytes that are used.
 pub record IsNew (controls used : ℕ) (items : List Placed) (p : Placed) (form : List ℕ) : Type 0 where
-  pub fits : length items < most_of_control * controls
+  pub fits : length items < WRITES_OF_RUN * controls
   pub short : length form ≤ longest_entry
   pub begin : p.begin ≡ used
   pub len : p.len ≡ length form

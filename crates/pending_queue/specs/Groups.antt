@@ -18,10 +18,6 @@ pub record FormedGroup : Type 0 where
   -- control and volume of each carried volume whose plan is done after it
   pub done : List (ℕ × ℕ)
 
--- the most entries of a control in a group
-abbrev pub most_of_control : ℕ
-most_of_control = WRITES_OF_RUN
-
 -- a group at a cut, with nothing in it yet
 abbrev pub empty_group : (controls : ℕ) → (cut : Stamp) → FormedGroup
 empty_group controls cut = record { controls = controls; cut = cut; entries = []; breaks = []; done = [] }
@@ -38,7 +34,7 @@ with_done group k volume = record group { done = group.done ++ (k, volume) ∷ [
 
 -- whether the group has room for so many more entries, which are at most so many of each control
 abbrev pub HasRoomFor : FormedGroup → (count : ℕ) → Type 0
-HasRoomFor group count = length group.entries + count ≤ most_of_control * group.controls
+HasRoomFor group count = length group.entries + count ≤ WRITES_OF_RUN * group.controls
 
 -- whether it has room for so many more breaks, which are at most one of each control
 abbrev pub HasRoomForBreaks : FormedGroup → (count : ℕ) → Type 0

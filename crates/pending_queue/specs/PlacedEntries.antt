@@ -1,10 +1,10 @@
 -- Entries that stand in a group, each with a part of one buffer that has its form.
 use Rattle.std.specs.Prelude.{◌≡◌, ℕ, ◌≤◌, ◌<◌, ◌^◌, ◌+◌, ◌*◌, Bool, List, length, map, take, drop}
 use Rattle.std.specs.List.{All}
+use Rattle.ckd_track.specs.declared.layout.TheConstants.{WRITES_OF_RUN}
 use Rattle.ckd_track.specs.Entries.{longest_entry}
 use Rattle.pending_queue.specs.declared.placed.Placed.{Placed}
 use Rattle.pending_queue.specs.Entries.{WaitingEntry, IsOfWrite, head_before, entry_by}
-use Rattle.pending_queue.specs.Groups.{most_of_control}
 
 pub record PlacedState : Type 0 where
   -- the number of controls that there is room for
@@ -26,9 +26,9 @@ placed_before a b = head_before a.head b.head
 -- write in the part of the buffer that is used.
 pub record AreFormsSound (controls capacity : ℕ) (bytes : List ℕ) (used : ℕ) (placed : List Placed) : Type 0 where
   pub few : controls < 2 ^ 16
-  pub room : most_of_control * controls ≤ capacity
-  pub sized : length bytes ≡ longest_entry * (most_of_control * controls)
-  pub within : length placed ≤ most_of_control * controls
+  pub room : WRITES_OF_RUN * controls ≤ capacity
+  pub sized : length bytes ≡ longest_entry * (WRITES_OF_RUN * controls)
+  pub within : length placed ≤ WRITES_OF_RUN * controls
   pub filled : used ≤ longest_entry * length placed
   pub inside : All (λ p. p.begin + p.len ≤ used) placed
   pub written : All IsOfWrite (placed_entries bytes placed)

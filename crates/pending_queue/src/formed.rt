@@ -1,9 +1,10 @@
 //! Formed groups.
 
 ghost use Rattle.std.specs.Prelude.{◌≡◌, ◌<◌, ◌≤◌, ◌*◌, length, slice_get, Some, IfOk, IfSome, IsTrue};
+ghost use Rattle.ckd_track.specs.declared.layout.TheConstants.{WRITES_OF_RUN};
 ghost use Rattle.pending_queue.specs.Entries.{IsOfWrite, entries_never_fall, due, left};
 ghost use Rattle.pending_queue.specs.Waitings.{SameMemory};
-ghost use Rattle.pending_queue.specs.Groups.{empty_group, with_entries, with_break, with_done, HasRoomFor, HasRoomForBreaks, HasRoomForDone, heads, forms_of, most_of_control};
+ghost use Rattle.pending_queue.specs.Groups.{empty_group, with_entries, with_break, with_done, HasRoomFor, HasRoomForBreaks, HasRoomForDone, heads, forms_of};
 
 use crate::head::EntryHead;
 use crate::moving::move_due;
@@ -93,7 +94,7 @@ impl Formed {
     /// The number of controls that it was made for. It has at most `WRITES_OF_RUN` entries of each.
     pub fn controls(&self) -> u16
         ensures controls { result ≡ self.now.controls }
-        ensures few { length self.now.entries ≤ most_of_control * self.now.controls }
+        ensures few { length self.now.entries ≤ WRITES_OF_RUN * self.now.controls }
     {
         self.entries.controls()
     }

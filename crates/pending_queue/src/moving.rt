@@ -1,8 +1,8 @@
 //! Moving entries from a queue into a group.
 
 ghost use Rattle.std.specs.Prelude.{◌≡◌, ◌≢◌, ◌≤◌, ◌+◌, ◌*◌, ◌↔◌, [], ◌++◌, length, IsTrue};
+ghost use Rattle.ckd_track.specs.declared.layout.TheConstants.{WRITES_OF_RUN};
 ghost use Rattle.pending_queue.specs.Entries.{entries_never_fall, due, left, stands_before};
-ghost use Rattle.pending_queue.specs.Groups.{most_of_control};
 ghost use Rattle.pending_queue.specs.Waitings.{SameMemory};
 ghost use Rattle.xrc_edge.specs.Order.{in_order, is_in_order};
 
@@ -22,7 +22,7 @@ pub fn has_due(waiting: &WaitingList, cut: Stamp) -> bool
 pub fn move_due(waiting: &mut WaitingList, cut: Stamp, entries: &mut PlacedList)
     requires rising { IsTrue (entries_never_fall 0 waiting.old.entries) }
     requires ordered { IsTrue (is_in_order stands_before entries.old.entries) }
-    requires room { length entries.old.entries + length (due cut waiting.old.entries) ≤ most_of_control * entries.old.controls }
+    requires room { length entries.old.entries + length (due cut waiting.old.entries) ≤ WRITES_OF_RUN * entries.old.controls }
     ensures left { waiting.new.entries ≡ left cut waiting.old.entries }
     ensures moved { entries.new.entries ≡ in_order stands_before (entries.old.entries ++ due cut waiting.old.entries) }
     ensures controls { entries.new.controls ≡ entries.old.controls }

@@ -1,10 +1,11 @@
 //! Entries that stand in a group, each with a part of one buffer that has its form.
 
 ghost use Rattle.std.specs.Prelude.{◌≡◌, ℕ, ◌≤◌, ◌<◌, ◌+◌, ◌*◌, ◌++◌, ◌∷◌, [], length, take, drop, slice_get, slice_index_or, vec_len, vec_capacity, true, false, Some, IfOk, IfSome, IsTrue};
+ghost use Rattle.ckd_track.specs.declared.layout.TheConstants.{WRITES_OF_RUN};
 ghost use Rattle.pending_queue.specs.declared.placed.Placed.{Placed as PlacedIs};
 ghost use Rattle.pending_queue.specs.Entries.{IsOfWrite, head_before, stands_before};
 ghost use Rattle.pending_queue.specs.PlacedEntries.{placed_before};
-ghost use Rattle.pending_queue.specs.Groups.{most_of_control, heads_in, forms_in};
+ghost use Rattle.pending_queue.specs.Groups.{heads_in, forms_in};
 ghost use Rattle.pending_queue.specs.Waitings.{SameMemory};
 ghost use Rattle.xrc_edge.specs.Order.{in_order, is_in_order};
 
@@ -82,7 +83,7 @@ impl PlacedList {
     /// The number of controls that there is room for.
     pub fn controls(&self) -> u16
         ensures controls { result ≡ self.now.controls }
-        ensures few { length self.now.entries ≤ most_of_control * self.now.controls }
+        ensures few { length self.now.entries ≤ WRITES_OF_RUN * self.now.controls }
     {
         self.controls
     }
@@ -116,7 +117,7 @@ impl PlacedList {
     pub fn place_front(&mut self, waiting: &mut WaitingList)
         requires some { 0 < length waiting.old.entries }
         requires ordered { IsTrue (is_in_order stands_before self.old.entries) }
-        requires room { length self.old.entries < most_of_control * self.old.controls }
+        requires room { length self.old.entries < WRITES_OF_RUN * self.old.controls }
         ensures placed { self.new.entries ≡ in_order stands_before (self.old.entries ++ take 1 waiting.old.entries) }
         ensures left { waiting.new.entries ≡ drop 1 waiting.old.entries }
         ensures controls { self.new.controls ≡ self.old.controls }

@@ -8,7 +8,6 @@ use Rattle.std.proofs.lemmas.Option.{same_Some}
 use Rattle.tod_stamp.specs.declared.stamp.Stamp.{Stamp}
 use Rattle.ckd_track.specs.declared.write.Cause.{Cause}
 use Rattle.pair_table.specs.declared.level.Level.{Level}
-use Rattle.pair_table.specs.declared.level.Level.TheVariants.{Volume as VolumeLevel, Session as SessionLevel}
 use Rattle.pair_table.specs.declared.row.PairRow.{PairRow}
 use Rattle.pair_table.specs.declared.row.PairState.{PairState}
 use Rattle.pair_table.specs.declared.row.PairState.TheVariants.{Pending, Copy, Duplex, Suspended}
@@ -18,11 +17,12 @@ use Rattle.pair_table.specs.Rows.{is_suspended}
 use Rattle.pair_table.specs.Tables.{changed_row as row_in_state, in_state, is_of, row_of}
 use Rattle.pair_table.proofs.StateLaws.{same_name}
 use Rattle.pending_queue.specs.Groups.{FormedGroup}
-use Rattle.row_changes.specs.Changes.{Due, Timed, after_change, after_changes, are_due, are_hit, break_time_of, due_in_record, hit_row, is_at, is_of_record, may_all_come, may_end, may_mature, row_may_mature, since}
+use Rattle.row_changes.specs.Changes.{Due, FaultReach, Timed, after_change, after_changes, are_due, are_hit, break_time_of, due_in_record, hit_row, is_at, is_of_record, may_all_come, may_end, may_mature, reach_of, reached_row, reaches_others, row_may_mature, since}
 use Rattle.row_changes.specs.Changes.Due.{NoneDue, DueSince, DueIn}
 use Rattle.row_changes.specs.Changes.RowChange.{Hit, MarkedHit, Mature, Reached}
 use Rattle.row_changes.specs.Spans.{is_hit_at}
 use Rattle.row_changes.proofs.Functions.{after_rows, row_after}
+use Rattle.row_changes.proofs.Reaching.{reached_state}
 use Rattle.record_rows.specs.GroupRows.{are_breaks_at_cut, breaking, group_changes, is_break_at, is_shown_done, matured_by, matured_with_group, maturing, maturing_of, row_in, row_with_group, shown_break, state_with_group}
 use Rattle.record_rows.specs.Hits.{due_behind_mark, hit_changes, hit_now, marked_changes, rows_marked, told_changes}
 use Rattle.record_rows.specs.Records.{changes_behind_mark, record_changes, rows_behind_mark, rows_with_record}
@@ -30,32 +30,44 @@ use Rattle.record_rows.specs.ToldRows.{due_after_changes}
 use Rattle.record_rows.proofs.Composing.{changes_in_a_row, comes_first, comes_in_a_row}
 use Rattle.record_rows.proofs.Devices.{apart_first, apart_in_map, devices_apart, found_in_map, none_at, row_at_place, still_have}
 use Rattle.record_rows.proofs.GroupSteps.{breaks_make, broken_to, device_in, groups_are_changes}
-use Rattle.record_rows.proofs.HitRows.{hit_changes_told, hit_have_rows, hits_are_changes, marks_are_changes, told_are_changes}
+use Rattle.record_rows.proofs.HitRows.{hit_have_rows, hits_are_changes, marks_are_changes, told_are_changes}
 
 -- ---- what is due while a record's changes come
 
--- Nothing is due behind a mark without hits, and under level VOLUME. Else the others are, and these devices were hit.
+-- Nothing is due behind a mark without hits, or where failures reach no others. Else the others are, and these devices were hit.
+abbrev pub WaitsIf : (others : Bool) → (marked : List ℕ) → (cut : ℕ) → Due → Type 0
+WaitsIf others [] cut due = due ≡ NoneDue
+WaitsIf false (d ∷ marked) cut due = due ≡ NoneDue
+WaitsIf true (d ∷ marked) cut due = (are_due (d ∷ marked) due ≡ true) × (is_of_record due cut ≡ true)
+
 abbrev pub Waits : Level → (marked : List ℕ) → (cut : ℕ) → Due → Type 0
-Waits level [] cut due = due ≡ NoneDue
-Waits VolumeLevel (d ∷ marked) cut due = due ≡ NoneDue
-Waits SessionLevel (d ∷ marked) cut due = (are_due (d ∷ marked) due ≡ true) × (is_of_record due cut ≡ true)
+Waits level = WaitsIf (reaches_others level)
+
+may_if : (others : Bool) (marked : List ℕ) (cut : ℕ) (due : Due) → WaitsIf others marked cut due → is_of_record due cut ≡ true
+may_if others [] cut due waits = ap (λ (d : Due). is_of_record d cut) waits
+may_if false (d ∷ marked) cut due waits = ap (λ (x : Due). is_of_record x cut) waits
+may_if true (d ∷ marked) cut due waits = waits.1
 
 may_record : (level : Level) (marked : List ℕ) (cut : ℕ) (due : Due) → Waits level marked cut due → is_of_record due cut ≡ true
-may_record level [] cut due waits = ap (λ (d : Due). is_of_record d cut) waits
-may_record VolumeLevel (d ∷ marked) cut due waits = ap (λ (x : Due). is_of_record x cut) waits
-may_record SessionLevel (d ∷ marked) cut due waits = waits.1
+may_record level = may_if (reaches_others level)
+
+on_if : (others : Bool) (marked : List ℕ) (cut : ℕ) (due : Due) → WaitsIf others marked cut due → WaitsIf others marked cut (due_in_record due cut)
+on_if others [] cut due waits = ap (λ (d : Due). due_in_record d cut) waits
+on_if false (d ∷ marked) cut due waits = ap (λ (x : Due). due_in_record x cut) waits
+on_if true (d ∷ marked) cut NoneDue waits = waits
+on_if true (d ∷ marked) cut (DueSince mark devices) waits = (waits.0, eq-eqb cut cut refl)
+on_if true (d ∷ marked) cut (DueIn at devices) waits = waits
 
 waits_on : (level : Level) (marked : List ℕ) (cut : ℕ) (due : Due) → Waits level marked cut due → Waits level marked cut (due_in_record due cut)
-waits_on level [] cut due waits = ap (λ (d : Due). due_in_record d cut) waits
-waits_on VolumeLevel (d ∷ marked) cut due waits = ap (λ (x : Due). due_in_record x cut) waits
-waits_on SessionLevel (d ∷ marked) cut NoneDue waits = waits
-waits_on SessionLevel (d ∷ marked) cut (DueSince mark devices) waits = (waits.0, eq-eqb cut cut refl)
-waits_on SessionLevel (d ∷ marked) cut (DueIn at devices) waits = waits
+waits_on level = on_if (reaches_others level)
 
 waits_first : (level : Level) (marked : List ℕ) (time cut : ℕ) → Waits level marked cut (due_behind_mark level time marked)
 waits_first level [] time cut = refl
-waits_first VolumeLevel (d ∷ marked) time cut = refl
-waits_first SessionLevel (d ∷ marked) time cut = (same_name (d ∷ marked), refl)
+waits_first level (d ∷ marked) time cut = choose (reaches_others level)
+  where
+    choose : (others : Bool) → WaitsIf others (d ∷ marked) cut (cond others (DueSince time (d ∷ marked)) NoneDue)
+    choose true = (same_name (d ∷ marked), refl)
+    choose false = refl
 
 up_to : (n : ℕ) → n ≤ n
 up_to n = omega arith
@@ -63,19 +75,32 @@ up_to n = omega arith
 some_hit : (d : ℕ) (hit : List ℕ) (rows : List PairRow) → list_all (λ e. list_any (is_of e) rows) (d ∷ hit) ≡ true → are_hit (d ∷ hit) rows ≡ true
 some_hit d hit rows have = and_from (nat_le 1 (length (d ∷ hit))) (list_all (λ e. list_any (is_of e) rows) (d ∷ hit)) (le-leb 1 (length (d ∷ hit)) (let le : 1 ≤ suc (length hit) = omega arith in le)) have
 
+-- what a mark left due, where failures reach others
+abbrev reached_if : (others : Bool) → (time : ℕ) → (marked : List ℕ) → List Timed
+reached_if others time [] = []
+reached_if others time (d ∷ marked) = cond others (record { time = time; change = Reached (d ∷ marked) } ∷ []) []
+
 module _ (level : Level) (breaks : List (Option ℕ)) (marked : List ℕ) (cut : ℕ) where
+  -- A record's hits may come where nothing is due, and leave nothing due.
+  hits_come : (hit : List ℕ) (due : Due) (from : ℕ) (rows : List PairRow) → due ≡ NoneDue → from ≤ cut → list_all (λ d. list_any (is_of d) rows) hit ≡ true → may_all_come level breaks false due from cut rows (hit_changes cut hit) ≡ true
+  hits_come hit due from rows none le have = subst (λ (d : Due). may_all_come level breaks false d from cut rows (hit_changes cut hit) ≡ true) (sym none) (behind_nothing hit have)
+    where
+      behind_nothing : (l : List ℕ) → list_all (λ d. list_any (is_of d) rows) l ≡ true → may_all_come level breaks false NoneDue from cut rows (hit_changes cut l) ≡ true
+      behind_nothing [] h = refl
+      behind_nothing (d ∷ l) h = comes_first level breaks false NoneDue from cut rows (record { time = cut; change = Hit (d ∷ l) }) [] le (up_to cut) (some_hit d l rows h) refl
+
   -- What a record tells behind its group's changes may come, and leaves nothing due.
   told_come : (hit : List ℕ) (due : Due) (from : ℕ) (rows : List PairRow) → Waits level marked cut due → from ≤ cut → list_all (λ d. list_any (is_of d) rows) hit ≡ true → may_all_come level breaks false due from cut rows (told_changes level cut marked hit) ≡ true
-  told_come (d ∷ hit) due from rows waits le have =
-      comes_first level breaks false due from cut rows (record { time = cut; change = Hit (d ∷ hit) }) [] le (up_to cut)
-      (and_from (is_of_record due cut) (are_hit (d ∷ hit) rows) (may_record level marked cut due waits) (some_hit d hit rows have)) refl
-  told_come [] due from rows waits le have = none_hit level marked waits
+  told_come hit due from rows waits le have = choose (reaches_others level) marked waits
     where
-      none_hit : (l : Level) (m : List ℕ) → Waits l m cut due → may_all_come level breaks false due from cut rows (told_changes l cut m []) ≡ true
-      none_hit l [] w = ap (λ (d : Due). may_end false cut d) w
-      none_hit VolumeLevel (d ∷ m) w = ap (λ (x : Due). may_end false cut x) w
-      none_hit SessionLevel (d ∷ m) w =
-          comes_first level breaks false due from cut rows (record { time = cut; change = Reached (d ∷ m) }) [] le (up_to cut) (and_from (are_due (d ∷ m) due) (is_of_record due cut) w.0 w.1) refl
+      choose : (others : Bool) (m : List ℕ) → WaitsIf others m cut due → may_all_come level breaks false due from cut rows (reached_if others cut m ++ hit_changes cut hit) ≡ true
+      choose others [] w = hits_come hit due from rows w le have
+      choose false (d ∷ m) w = hits_come hit due from rows w le have
+      choose true (d ∷ m) w =
+          let t : Timed = record { time = cut; change = Reached (d ∷ m) } in
+          let reached = reached_row (reach_of level rows) (d ∷ m) cut in
+          comes_first level breaks false due from cut rows t (hit_changes cut hit) le (up_to cut) (and_from (are_due (d ∷ m) due) (is_of_record due cut) w.0 w.1)
+          (hits_come hit NoneDue cut (map reached rows) refl (up_to cut) (still_have reached (λ r. ap (λ (x : PairRow). x.device) (reached_state (reach_of level rows) (d ∷ m) cut r)) rows hit have))
 
   -- Others may come behind a record's breaks if they may come whatever these leave due.
   breaks_come : (found : List (ℕ × Stamp × Cause)) (due : Due) (from : ℕ) (rows : List PairRow) (rest : List Timed) → Waits level marked cut due → from ≤ cut → list_all (is_break_at breaks cut) found ≡ true
@@ -153,22 +178,23 @@ module _ (level : Level) (breaks : List (Option ℕ)) (marked : List ℕ) (group
 
   -- ---- a group's changes, and what its record tells behind them
 
-  behind_break : (found : List (ℕ × Stamp × Cause)) (r : PairRow) → list_all (is_break_at breaks group.cut.0) found ≡ true → shown_break r.control found ≡ None → row_after level (map (breaking group.cut.0) found) r ≡ r
-  behind_break found r are none = breaks_make level breaks group.cut.0 found r are ∙ none_broken (shown_break r.control found) none
+  behind_break : (reach : FaultReach) (found : List (ℕ × Stamp × Cause)) (r : PairRow) → list_all (is_break_at breaks group.cut.0) found ≡ true → shown_break r.control found ≡ None → row_after reach (map (breaking group.cut.0) found) r ≡ r
+  behind_break reach found r are none = breaks_make reach breaks group.cut.0 found r are ∙ none_broken (shown_break r.control found) none
     where
       none_broken : (o : Option Stamp) → o ≡ None → row_in r (broken_to o (is_suspended r.state)) ≡ r
       none_broken None e = refl
       none_broken (Some time) e = absurd cc
 
-  keeps_broken : (r : PairRow) → are_breaks_at_cut breaks group ≡ true → (row_after level (map (breaking group.cut.0) group.breaks) r).device ≡ r.device
-  keeps_broken r are = ap (λ (x : PairRow). x.device) (breaks_make level breaks group.cut.0 group.breaks r are) ∙ device_in r (broken_to (shown_break r.control group.breaks) (is_suspended r.state))
+  keeps_broken : (reach : FaultReach) (r : PairRow) → are_breaks_at_cut breaks group ≡ true → (row_after reach (map (breaking group.cut.0) group.breaks) r).device ≡ r.device
+  keeps_broken reach r are = ap (λ (x : PairRow). x.device) (breaks_make reach breaks group.cut.0 group.breaks r are) ∙ device_in r (broken_to (shown_break r.control group.breaks) (is_suspended r.state))
 
   stand_behind : (rows : List PairRow) → devices_apart rows ≡ true → are_breaks_at_cut breaks group ≡ true → Stand group rows (after_changes level (map (breaking group.cut.0) group.breaks) rows)
   stand_behind rows apart are i x at state is =
+      let reach = reach_of level rows in
       subst (λ (l : List PairRow). row_of x.device l ≡ Some x) (sym (after_rows level (map (breaking group.cut.0) group.breaks) rows))
-      (found_in_map (row_after level (map (breaking group.cut.0) group.breaks)) (λ r. keeps_broken r are) x.device rows x (row_at_place rows i x apart at)
+      (found_in_map (row_after reach (map (breaking group.cut.0) group.breaks)) (λ r. keeps_broken reach r are) x.device rows x (row_at_place rows i x apart at)
       ∙ ap (λ (r : PairRow). let o : Option PairRow = Some r in o)
-      (behind_break group.breaks x are (unbroken (shown_break x.control group.breaks) (is_shown_done group x) x.state state is)))
+      (behind_break reach group.breaks x are (unbroken (shown_break x.control group.breaks) (is_shown_done group x) x.state state is)))
 
   pub behind_marks_come : (hit : List ℕ) (due : Due) (from : ℕ) (rows : List PairRow) → Waits level marked group.cut.0 due → from ≤ group.cut.0 → devices_apart rows ≡ true → are_breaks_at_cut breaks group ≡ true
       → list_all (λ d. list_any (is_of d) rows) hit ≡ true → may_all_come level breaks false due from group.cut.0 rows (group_changes group rows ++ told_changes level group.cut.0 marked hit) ≡ true
@@ -202,8 +228,7 @@ behind_marks_may_come level breaks marked group failed time from rows apart are 
 pub records_may_come : (level : Level) (breaks : List (Option ℕ)) (group : FormedGroup) (failed : List Bool) (from : ℕ) (rows : List PairRow) → devices_apart rows ≡ true → are_breaks_at_cut breaks group ≡ true
     → from ≤ group.cut.0 → may_all_come level breaks false NoneDue from group.cut.0 rows (record_changes group failed rows) ≡ true
 records_may_come level breaks group failed from rows apart are le =
-    subst (λ (l : List Timed). may_all_come level breaks false NoneDue from group.cut.0 rows (group_changes group rows ++ l) ≡ true) (sym (hit_changes_told level group.cut.0 (hit_now failed rows)))
-    (behind_marks_may_come level breaks [] group failed from from rows apart are le)
+    behind_marks_may_come level breaks [] group failed from from rows apart are le
 
 pub behind_marks_are_changes : (level : Level) (breaks : List (Option ℕ)) (marked : List ℕ) (group : FormedGroup) (failed : List Bool) (rows : List PairRow) → devices_apart rows ≡ true → are_breaks_at_cut breaks group ≡ true
     → rows_behind_mark level marked group failed rows ≡ after_changes level (changes_behind_mark level marked group failed rows) rows
@@ -224,8 +249,7 @@ records_are_changes level breaks group failed rows apart are =
 pub hits_may_come : (level : Level) (breaks : List (Option ℕ)) (failed : List Bool) (from time : ℕ) (rows : List PairRow) → from ≤ time
     → (may_all_come level breaks false NoneDue from time rows (hit_changes time (hit_now failed rows)) ≡ true) × (list_all (is_hit_at time) (hit_changes time (hit_now failed rows)) ≡ true)
 hits_may_come level breaks failed from time rows le = (
-  subst (λ (l : List Timed). may_all_come level breaks false NoneDue from time rows l ≡ true) (sym (hit_changes_told level time (hit_now failed rows)))
-      (told_come level breaks [] time (hit_now failed rows) NoneDue from rows refl le (hit_have_rows failed rows)),
+  told_come level breaks [] time (hit_now failed rows) NoneDue from rows refl le (hit_have_rows failed rows),
   at_time (hit_now failed rows),
 )
   where
@@ -236,11 +260,11 @@ hits_may_come level breaks failed from time rows le = (
 mark_comes : (level : Level) (breaks : List (Option ℕ)) (hit : List ℕ) (from time : ℕ) (rows : List PairRow) → from ≤ time → list_all (λ d. list_any (is_of d) rows) hit ≡ true → may_all_come level breaks true NoneDue from time rows (marked_changes time hit) ≡ true
 mark_comes level breaks [] from time rows le have = refl
 mark_comes level breaks (d ∷ hit) from time rows le have =
-    comes_first level breaks true NoneDue from time rows (record { time = time; change = MarkedHit (d ∷ hit) }) [] le (up_to time) (some_hit d hit rows have) (ends level)
+    comes_first level breaks true NoneDue from time rows (record { time = time; change = MarkedHit (d ∷ hit) }) [] le (up_to time) (some_hit d hit rows have) (ends (reaches_others level))
   where
-    ends : (l : Level) → may_end true time (due_behind_mark l time (d ∷ hit)) ≡ true
-    ends VolumeLevel = refl
-    ends SessionLevel = eq-eqb time time refl
+    ends : (others : Bool) → may_end true time (cond others (DueSince time (d ∷ hit)) NoneDue) ≡ true
+    ends false = refl
+    ends true = eq-eqb time time refl
 
 mark_leaves : (level : Level) (time : ℕ) (hit : List ℕ) → due_after_changes level NoneDue (marked_changes time hit) ≡ due_behind_mark level time hit
 mark_leaves level time [] = refl

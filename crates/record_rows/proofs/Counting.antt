@@ -6,17 +6,17 @@ use Rattle.std.proofs.lemmas.List.Sums.{sum_by-append, sum_by-cons}
 use Rattle.tod_stamp.specs.declared.stamp.Stamp.{Stamp}
 use Rattle.ckd_track.specs.declared.write.Cause.{Cause}
 use Rattle.pair_table.specs.declared.level.Level.{Level}
-use Rattle.pair_table.specs.declared.level.Level.TheVariants.{Volume as VolumeLevel, Session as SessionLevel}
 use Rattle.pair_table.specs.declared.row.PairRow.{PairRow}
 use Rattle.pair_table.specs.declared.row.PairState.{PairState}
 use Rattle.pair_table.specs.declared.row.SuspendCause.TheVariants.{Device}
 use Rattle.pair_table.specs.Devices.{is_among}
 use Rattle.pair_table.specs.Tables.{in_state}
 use Rattle.pending_queue.specs.Groups.{FormedGroup}
-use Rattle.row_changes.specs.Changes.{Timed, since}
+use Rattle.row_changes.specs.Changes.{Timed, reaches_others, since}
+use Rattle.row_changes.specs.Changes.RowChange.{Reached}
 use Rattle.row_changes.specs.Spans.{hit_count, hits}
 use Rattle.record_rows.specs.GroupRows.{breaking, group_changes, matured_with_group, maturing, maturing_of}
-use Rattle.record_rows.specs.Hits.{hit_changes, hit_now, is_down, is_hit_now, marked_changes, rows_marked, told_changes}
+use Rattle.record_rows.specs.Hits.{hit_changes, hit_now, is_down, is_hit_now, marked_changes, reached_changes, rows_marked, told_changes}
 use Rattle.record_rows.specs.Records.{changes_behind_mark, record_changes}
 
 -- 1 for a device that is hit, and else 0
@@ -63,11 +63,18 @@ pub marks_count : (d time : ℕ) (hit : List ℕ) → hit_count d (marked_change
 marks_count d time [] = refl
 marks_count d time (e ∷ hit) = none_more (once (is_among d (e ∷ hit)))
 
+reached_hit_none : (d : ℕ) (level : Level) (time : ℕ) (marked : List ℕ) → hit_count d (reached_changes level time marked) ≡ 0
+reached_hit_none d level time [] = refl
+reached_hit_none d level time (m ∷ marked) = choose (reaches_others level)
+  where
+    choose : (b : Bool) → hit_count d (cond b (record { time = time; change = Reached (m ∷ marked) } ∷ []) []) ≡ 0
+    choose true = refl
+    choose false = refl
+
 told_count : (d : ℕ) (level : Level) (time : ℕ) (marked hit : List ℕ) → hit_count d (told_changes level time marked hit) ≡ once (is_among d hit)
-told_count d level time [] [] = refl
-told_count d VolumeLevel time (m ∷ marked) [] = refl
-told_count d SessionLevel time (m ∷ marked) [] = refl
-told_count d level time marked (e ∷ hit) = hits_count d time (e ∷ hit)
+told_count d level time marked hit =
+    counts_append d (reached_changes level time marked) (hit_changes time hit) ∙ ap (λ (n : ℕ). n + hit_count d (hit_changes time hit)) (reached_hit_none d level time marked)
+    ∙ none_more (hit_count d (hit_changes time hit)) ∙ hits_count d time hit
 
 pub behind_marks_count : (d : ℕ) (level : Level) (marked : List ℕ) (group : FormedGroup) (failed : List Bool) (rows : List PairRow) → hit_count d (changes_behind_mark level marked group failed rows) ≡ once (is_among d (hit_now failed rows))
 behind_marks_count d level marked group failed rows =

@@ -15,7 +15,7 @@ use Rattle.pair_table.specs.Tables.{in_state, is_of}
 use Rattle.pair_table.proofs.PutLaws.{number_sym}
 use Rattle.pair_table.proofs.TableLaws.{either_false}
 use Rattle.pending_queue.specs.Groups.{FormedGroup}
-use Rattle.row_changes.specs.Changes.{Timed, after_changes, break_time_of, is_at}
+use Rattle.row_changes.specs.Changes.{FaultReach, Timed, after_changes, break_time_of, is_at, reach_of}
 use Rattle.row_changes.proofs.Functions.{after_rows, row_after}
 use Rattle.record_rows.specs.GroupRows.{are_breaks_at_cut, breaking, group_changes, is_break_at, is_shown_done, matured_by, matured_with_group, maturing, maturing_of, row_in, row_with_group, rows_with_group, shown_break, state_by_group}
 use Rattle.record_rows.proofs.Devices.{apart_first, devices_apart, none_at, same_map}
@@ -24,9 +24,9 @@ pub device_in : (r : PairRow) (o : Option PairState) → (row_in r o).device ≡
 device_in r None = refl
 device_in r (Some state) = refl
 
-rows_append : (level : Level) (xs ys : List Timed) (r : PairRow) → row_after level (xs ++ ys) r ≡ row_after level ys (row_after level xs r)
-rows_append level [] ys r = refl
-rows_append level (t ∷ xs) ys r = rows_append level xs ys (row_after level (t ∷ []) r)
+rows_append : (reach : FaultReach) (xs ys : List Timed) (r : PairRow) → row_after reach (xs ++ ys) r ≡ row_after reach ys (row_after reach xs r)
+rows_append reach [] ys r = refl
+rows_append reach (t ∷ xs) ys r = rows_append reach xs ys (row_after reach (t ∷ []) r)
 
 -- ---- breaks
 
@@ -35,16 +35,16 @@ abbrev pub broken_to : Option Stamp → (is_suspended : Bool) → Option PairSta
 broken_to None suspended = None
 broken_to (Some time) suspended = cond suspended None (Some (Suspended Control time))
 
-module _ (level : Level) (breaks : List (Option ℕ)) (cut : ℕ) where
+module _ (reach : FaultReach) (breaks : List (Option ℕ)) (cut : ℕ) where
   abbrev by_control : PairState
   by_control = Suspended Control (record { 0 = cut })
 
   -- A suspended row stays through breaks.
-  stays_broken : (found : List (ℕ × Stamp × Cause)) (r : PairRow) → is_suspended r.state ≡ true → row_after level (map (breaking cut) found) r ≡ r
+  stays_broken : (found : List (ℕ × Stamp × Cause)) (r : PairRow) → is_suspended r.state ≡ true → row_after reach (map (breaking cut) found) r ≡ r
   stays_broken [] r is = refl
   stays_broken (f ∷ found) r is = choose (nat_eq r.control f.0) (is_suspended r.state) is (stays_broken found r is)
     where
-      choose : (b c : Bool) → c ≡ true → row_after level (map (breaking cut) found) r ≡ r → row_after level (map (breaking cut) found) (cond b (cond c r (in_state by_control r)) r) ≡ r
+      choose : (b c : Bool) → c ≡ true → row_after reach (map (breaking cut) found) r ≡ r → row_after reach (map (breaking cut) found) (cond b (cond c r (in_state by_control r)) r) ≡ r
       choose true true is rest = rest
       choose true false is rest = absurd (true≢false (sym is))
       choose false c is rest = rest
@@ -53,10 +53,10 @@ module _ (level : Level) (breaks : List (Option ℕ)) (cut : ℕ) where
   time_is time r is = ap (λ (n : ℕ). in_state (Suspended Control (record { 0 = n })) r) (sym is)
 
   -- What breaks make of a row.
-  pub breaks_make : (found : List (ℕ × Stamp × Cause)) (r : PairRow) → list_all (is_break_at breaks cut) found ≡ true → row_after level (map (breaking cut) found) r ≡ row_in r (broken_to (shown_break r.control found) (is_suspended r.state))
+  pub breaks_make : (found : List (ℕ × Stamp × Cause)) (r : PairRow) → list_all (is_break_at breaks cut) found ≡ true → row_after reach (map (breaking cut) found) r ≡ row_in r (broken_to (shown_break r.control found) (is_suspended r.state))
   breaks_make [] r are = refl
   breaks_make (f ∷ found) r are =
-      subst (λ (b : Bool). row_after level (map (breaking cut) found) (cond (nat_eq r.control f.0) (cond (is_suspended r.state) r (in_state by_control r)) r) ≡ row_in r (broken_to (cond b (Some f.1) (shown_break r.control found)) (is_suspended r.state)))
+      subst (λ (b : Bool). row_after reach (map (breaking cut) found) (cond (nat_eq r.control f.0) (cond (is_suspended r.state) r (in_state by_control r)) r) ≡ row_in r (broken_to (cond b (Some f.1) (shown_break r.control found)) (is_suspended r.state)))
       (number_sym r.control f.0) (choose (nat_eq r.control f.0) (is_suspended r.state) refl (breaks_make found r parts.1))
     where
       parts : (is_break_at breaks cut f ≡ true) × (list_all (is_break_at breaks cut) found ≡ true)
@@ -65,48 +65,48 @@ module _ (level : Level) (breaks : List (Option ℕ)) (cut : ℕ) where
       at : f.1.0 ≡ cut
       at = eqb-true f.1.0 cut (and_parts (nat_eq f.1.0 cut) (is_at cut (break_time_of f.0 breaks)) parts.0).0
 
-      choose : (b c : Bool) → is_suspended r.state ≡ c → row_after level (map (breaking cut) found) r ≡ row_in r (broken_to (shown_break r.control found) (is_suspended r.state))
-          → row_after level (map (breaking cut) found) (cond b (cond c r (in_state by_control r)) r) ≡ row_in r (broken_to (cond b (Some f.1) (shown_break r.control found)) c)
+      choose : (b c : Bool) → is_suspended r.state ≡ c → row_after reach (map (breaking cut) found) r ≡ row_in r (broken_to (shown_break r.control found) (is_suspended r.state))
+          → row_after reach (map (breaking cut) found) (cond b (cond c r (in_state by_control r)) r) ≡ row_in r (broken_to (cond b (Some f.1) (shown_break r.control found)) c)
       choose true true is rest = stays_broken found r is
       choose true false is rest = stays_broken found (in_state by_control r) refl ∙ time_is f.1 r at
-      choose false c is rest = subst (λ (q : Bool). row_after level (map (breaking cut) found) r ≡ row_in r (broken_to (shown_break r.control found) q)) is rest
+      choose false c is rest = subst (λ (q : Bool). row_after reach (map (breaking cut) found) r ≡ row_in r (broken_to (shown_break r.control found) q)) is rest
 
 -- ---- maturing
 
-module _ (level : Level) (group : FormedGroup) where
+module _ (reach : FaultReach) (group : FormedGroup) where
   -- What one row's maturing makes of another row, and of its own.
-  matures_other : (d : ℕ) (o : Option PairState) (r : PairRow) → nat_eq d r.device ≡ false → row_after level (maturing group.cut.0 d o) r ≡ r
+  matures_other : (d : ℕ) (o : Option PairState) (r : PairRow) → nat_eq d r.device ≡ false → row_after reach (maturing group.cut.0 d o) r ≡ r
   matures_other d None r other = refl
   matures_other d (Some state) r other = rw other refl
 
-  matures_own : (o : Option PairState) (r : PairRow) (d : ℕ) → nat_eq d r.device ≡ true → row_after level (maturing group.cut.0 d o) r ≡ row_in r o
+  matures_own : (o : Option PairState) (r : PairRow) (d : ℕ) → nat_eq d r.device ≡ true → row_after reach (maturing group.cut.0 d o) r ≡ row_in r o
   matures_own None r d own = refl
   matures_own (Some state) r d own = rw own refl
 
   -- No row of the device is among those that mature.
-  none_matures : (rows : List PairRow) (r : PairRow) → list_any (is_of r.device) rows ≡ false → row_after level (flat_map (maturing_of group) rows) r ≡ r
+  none_matures : (rows : List PairRow) (r : PairRow) → list_any (is_of r.device) rows ≡ false → row_after reach (flat_map (maturing_of group) rows) r ≡ r
   none_matures [] r none = refl
   none_matures (x ∷ rows) r none =
       let parts = either_false (nat_eq r.device x.device) (list_any (is_of r.device) rows) none in
-      rows_append level (maturing_of group x) (flat_map (maturing_of group) rows) r
-      ∙ ap (row_after level (flat_map (maturing_of group) rows)) (matures_other x.device (matured_with_group group x) r (number_sym x.device r.device ∙ parts.0)) ∙ none_matures rows r parts.1
+      rows_append reach (maturing_of group x) (flat_map (maturing_of group) rows) r
+      ∙ ap (row_after reach (flat_map (maturing_of group) rows)) (matures_other x.device (matured_with_group group x) r (number_sym x.device r.device ∙ parts.0)) ∙ none_matures rows r parts.1
 
   -- What the rows that mature make of a row of the device of one of them.
-  matures_make : (rows : List PairRow) (i : ℕ) (x r : PairRow) → devices_apart rows ≡ true → slice_get rows i ≡ Some x → r.device ≡ x.device → row_after level (flat_map (maturing_of group) rows) r ≡ row_in r (matured_with_group group x)
+  matures_make : (rows : List PairRow) (i : ℕ) (x r : PairRow) → devices_apart rows ≡ true → slice_get rows i ≡ Some x → r.device ≡ x.device → row_after reach (flat_map (maturing_of group) rows) r ≡ row_in r (matured_with_group group x)
   matures_make [] i x r apart at same = absurd cc
   matures_make (y ∷ rows) zero x r apart at same =
-      subst (λ (z : PairRow). row_after level (flat_map (maturing_of group) (y ∷ rows)) r ≡ row_in r (matured_with_group group z)) (same_Some y x at)
+      subst (λ (z : PairRow). row_after reach (flat_map (maturing_of group) (y ∷ rows)) r ≡ row_in r (matured_with_group group z)) (same_Some y x at)
       (here (same ∙ ap (λ (z : PairRow). z.device) (sym (same_Some y x at))))
     where
-      here : r.device ≡ y.device → row_after level (flat_map (maturing_of group) (y ∷ rows)) r ≡ row_in r (matured_with_group group y)
+      here : r.device ≡ y.device → row_after reach (flat_map (maturing_of group) (y ∷ rows)) r ≡ row_in r (matured_with_group group y)
       here is =
-          rows_append level (maturing_of group y) (flat_map (maturing_of group) rows) r
-          ∙ ap (row_after level (flat_map (maturing_of group) rows)) (matures_own (matured_with_group group y) r y.device (eq-eqb y.device r.device (sym is)))
+          rows_append reach (maturing_of group y) (flat_map (maturing_of group) rows) r
+          ∙ ap (row_after reach (flat_map (maturing_of group) rows)) (matures_own (matured_with_group group y) r y.device (eq-eqb y.device r.device (sym is)))
           ∙ none_matures rows (row_in r (matured_with_group group y)) (ap (λ (d : ℕ). list_any (is_of d) rows) (device_in r (matured_with_group group y) ∙ is) ∙ (apart_first y rows apart).0)
   matures_make (y ∷ rows) (suc i) x r apart at same =
       let first = apart_first y rows apart in
-      rows_append level (maturing_of group y) (flat_map (maturing_of group) rows) r
-      ∙ ap (row_after level (flat_map (maturing_of group) rows)) (matures_other y.device (matured_with_group group y) r (ap (nat_eq y.device) same ∙ none_at y.device rows i x first.0 at)) ∙ matures_make rows i x r first.1 at same
+      rows_append reach (maturing_of group y) (flat_map (maturing_of group) rows) r
+      ∙ ap (row_after reach (flat_map (maturing_of group) rows)) (matures_other y.device (matured_with_group group y) r (ap (nat_eq y.device) same ∙ none_at y.device rows i x first.0 at)) ∙ matures_make rows i x r first.1 at same
 
 -- ---- both
 
@@ -117,8 +117,9 @@ both_make r None done = refl
 pub groups_are_changes : (level : Level) (breaks : List (Option ℕ)) (group : FormedGroup) (rows : List PairRow) → devices_apart rows ≡ true → are_breaks_at_cut breaks group ≡ true
     → after_changes level (group_changes group rows) rows ≡ rows_with_group group rows
 groups_are_changes level breaks group rows apart are =
-    after_rows level (group_changes group rows) rows ∙ same_map (row_after level (group_changes group rows)) (row_with_group group) rows (λ i x at.
+    let reach = reach_of level rows in
+    after_rows level (group_changes group rows) rows ∙ same_map (row_after reach (group_changes group rows)) (row_with_group group) rows (λ i x at.
     let broken = broken_to (shown_break x.control group.breaks) (is_suspended x.state) in
-    rows_append level (map (breaking group.cut.0) group.breaks) (flat_map (maturing_of group) rows) x
-    ∙ ap (row_after level (flat_map (maturing_of group) rows)) (breaks_make level breaks group.cut.0 group.breaks x are)
-    ∙ matures_make level group rows i x (row_in x broken) apart at (device_in x broken) ∙ both_make x (shown_break x.control group.breaks) (is_shown_done group x))
+    rows_append reach (map (breaking group.cut.0) group.breaks) (flat_map (maturing_of group) rows) x
+    ∙ ap (row_after reach (flat_map (maturing_of group) rows)) (breaks_make reach breaks group.cut.0 group.breaks x are)
+    ∙ matures_make reach group rows i x (row_in x broken) apart at (device_in x broken) ∙ both_make x (shown_break x.control group.breaks) (is_shown_done group x))

@@ -1,46 +1,50 @@
 -- What a group's record makes of each row.
 use Rattle.std.proofs.Common.{◌≡◌, ◌⊎◌, inl, inr, ℕ, Bool, true, false, cond, List, [], ◌∷◌, map, Option, Some, None, refl, sym, ap, subst, ◌∙◌, true≢false}
-use Rattle.std.proofs.lemmas.Simd.{map-map}
 use Rattle.tod_stamp.specs.declared.stamp.Stamp.{Stamp}
 use Rattle.pair_table.specs.declared.level.Level.{Level}
-use Rattle.pair_table.specs.declared.level.Level.TheVariants.{Volume as VolumeLevel, Session as SessionLevel}
 use Rattle.pair_table.specs.declared.row.PairRow.{PairRow}
 use Rattle.pair_table.specs.declared.row.PairState.{PairState}
 use Rattle.pair_table.specs.declared.row.PairState.TheVariants.{Pending, Copy, Duplex, Suspended}
-use Rattle.pair_table.specs.declared.row.SuspendCause.TheVariants.{Device, Session, Control}
+use Rattle.pair_table.specs.declared.row.SuspendCause.TheVariants.{Device, Control}
 use Rattle.pair_table.specs.Devices.{is_among}
 use Rattle.pair_table.specs.Rows.{is_suspended}
 use Rattle.pair_table.specs.Tables.{in_state}
 use Rattle.pending_queue.specs.Groups.{FormedGroup}
-use Rattle.row_changes.specs.Changes.{reached_row, since}
+use Rattle.row_changes.specs.Changes.{FaultReach, reach_of, reached_row, since}
 use Rattle.record_rows.specs.GroupRows.{is_shown_done, row_in, row_with_group, shown_break, state_by_group}
 use Rattle.record_rows.specs.Hits.{hit_now}
 use Rattle.record_rows.specs.Records.{rows_behind_mark, rows_with_record}
 use Rattle.record_rows.specs.ToldRows.{AreGrouped, IsGrouped}
-use Rattle.record_rows.proofs.HitRows.{held, hit_is_told, reach_row, told_row, told_rows}
+use Rattle.record_rows.proofs.HitRows.{held, hits_row, reach_row, told_behind_group, told_row}
 
 -- ---- a row that isn't suspended behind what is told is as it was
 
-only_reached : (level : Level) (devices : List ℕ) (time : ℕ) (r : PairRow) → is_suspended (reached_row level devices time r).state ≡ false → reached_row level devices time r ≡ r
-only_reached VolumeLevel devices time r live = refl
-only_reached SessionLevel devices time r live = choose (is_among r.device devices) (is_suspended r.state) live
-  where
-    choose : (b c : Bool) → is_suspended (cond b r (cond c r (in_state (since Session time) r))).state ≡ false → cond b r (cond c r (in_state (since Session time) r)) ≡ r
-    choose true c live = refl
-    choose false true live = refl
-    choose false false live = absurd (true≢false live)
+module _ (reach : FaultReach) (time : ℕ) where
+  only_reached : (devices : List ℕ) (r : PairRow) → is_suspended (reached_row reach devices time r).state ≡ false → reached_row reach devices time r ≡ r
+  only_reached devices r live = choose (reach.reaches devices r) (is_suspended r.state) live
+    where
+      choose : (b c : Bool) → is_suspended (cond b (cond c r (in_state (since reach.cause time) r)) r).state ≡ false → cond b (cond c r (in_state (since reach.cause time) r)) r ≡ r
+      choose true true live = refl
+      choose true false live = absurd (true≢false live)
+      choose false c live = refl
 
-only_reach : (level : Level) (time : ℕ) (marked : List ℕ) (r : PairRow) → is_suspended (reach_row level time marked r).state ≡ false → reach_row level time marked r ≡ r
-only_reach level time [] r live = refl
-only_reach level time (d ∷ marked) r live = only_reached level (d ∷ marked) time r live
+  only_reach : (marked : List ℕ) (r : PairRow) → is_suspended (reach_row reach time marked r).state ≡ false → reach_row reach time marked r ≡ r
+  only_reach [] r live = refl
+  only_reach (d ∷ marked) r live = only_reached (d ∷ marked) r live
 
-only_told : (level : Level) (time : ℕ) (marked hit : List ℕ) (r : PairRow) → is_suspended (told_row level time marked hit r).state ≡ false → told_row level time marked hit r ≡ r
-only_told level time marked [] r live = only_reach level time marked r live
-only_told level time marked (d ∷ hit) r live = choose (is_among r.device (d ∷ hit)) live
-  where
-    choose : (b : Bool) → is_suspended (reached_row level (d ∷ hit) time (cond b (in_state (since Device time) r) r)).state ≡ false → reached_row level (d ∷ hit) time (cond b (in_state (since Device time) r) r) ≡ r
-    choose true live = absurd (true≢false (sym (ap (λ (x : PairRow). is_suspended x.state) (held level (d ∷ hit) time (in_state (since Device time) r) refl)) ∙ live))
-    choose false live = only_reached level (d ∷ hit) time r live
+  only_hits : (hit : List ℕ) (r : PairRow) → is_suspended (hits_row reach time hit r).state ≡ false → hits_row reach time hit r ≡ r
+  only_hits [] r live = refl
+  only_hits (d ∷ hit) r live = choose (is_among r.device (d ∷ hit)) live
+    where
+      choose : (b : Bool) → is_suspended (reached_row reach (d ∷ hit) time (cond b (in_state (since Device time) r) r)).state ≡ false → reached_row reach (d ∷ hit) time (cond b (in_state (since Device time) r) r) ≡ r
+      choose true live = absurd (true≢false (sym (ap (λ (x : PairRow). is_suspended x.state) (held reach (d ∷ hit) time (in_state (since Device time) r) refl)) ∙ live))
+      choose false live = only_reached (d ∷ hit) r live
+
+  only_told : (marked hit : List ℕ) (r : PairRow) → is_suspended (told_row reach time marked hit r).state ≡ false → told_row reach time marked hit r ≡ r
+  only_told marked hit r live =
+      let first = reach_row reach time marked r in
+      let same = only_hits hit first live in
+      same ∙ only_reach marked r (sym (ap (λ (x : PairRow). is_suspended x.state) same) ∙ live)
 
 -- ---- what the group makes of it
 
@@ -85,19 +89,19 @@ group_makes None done r (Suspended cause at) is = by_suspension None done r.stat
 not_suspended : (a b : PairState) → a ≡ b → is_suspended b ≡ false → is_suspended a ≡ false
 not_suspended a b e is = ap (λ (q : PairState). is_suspended q) e ∙ is
 
-row_grouped : (group : FormedGroup) (level : Level) (time : ℕ) (marked hit : List ℕ) (r : PairRow) → IsGrouped group r (told_row level time marked hit (row_with_group group r))
-row_grouped group level time marked hit r = record {
+row_grouped : (group : FormedGroup) (reach : FaultReach) (time : ℕ) (marked hit : List ℕ) (r : PairRow) → IsGrouped group r (told_row reach time marked hit (row_with_group group r))
+row_grouped group reach time marked hit r = record {
   unbroken = λ live. follows.unbroken (sym (ap (λ (q : PairState). is_suspended q) (same live)) ∙ live);
-  begun = λ e. follows.begun (sym (same (not_suspended (told_row level time marked hit (row_with_group group r)).state Pending e refl)) ∙ e);
-  duplex = λ e. follows.duplex (sym (same (not_suspended (told_row level time marked hit (row_with_group group r)).state Duplex e refl)) ∙ e);
+  begun = λ e. follows.begun (sym (same (not_suspended (told_row reach time marked hit (row_with_group group r)).state Pending e refl)) ∙ e);
+  duplex = λ e. follows.duplex (sym (same (not_suspended (told_row reach time marked hit (row_with_group group r)).state Duplex e refl)) ∙ e);
   done = λ live d. same live ∙ follows.all_done (sym (ap (λ (q : PairState). is_suspended q) (same live)) ∙ live) d;
 }
   where
     follows : Follows (shown_break r.control group.breaks) (is_shown_done group r) r.state (row_with_group group r).state
     follows = group_makes (shown_break r.control group.breaks) (is_shown_done group r) r r.state refl
 
-    same : is_suspended (told_row level time marked hit (row_with_group group r)).state ≡ false → (told_row level time marked hit (row_with_group group r)).state ≡ (row_with_group group r).state
-    same live = ap (λ (x : PairRow). x.state) (only_told level time marked hit (row_with_group group r) live)
+    same : is_suspended (told_row reach time marked hit (row_with_group group r)).state ≡ false → (told_row reach time marked hit (row_with_group group r)).state ≡ (row_with_group group r).state
+    same live = ap (λ (x : PairRow). x.state) (only_told reach time marked hit (row_with_group group r) live)
 
 grouped_each : (group : FormedGroup) (f : PairRow → PairRow) (rows : List PairRow) → ((r : PairRow) → IsGrouped group r (f r)) → AreGrouped group rows (map f rows)
 grouped_each group f [] each = tt
@@ -106,10 +110,9 @@ grouped_each group f (r ∷ rows) each = (each r, grouped_each group f rows each
 pub behind_marks_group : (level : Level) (marked : List ℕ) (group : FormedGroup) (failed : List Bool) (rows : List PairRow) → AreGrouped group rows (rows_behind_mark level marked group failed rows)
 behind_marks_group level marked group failed rows =
     let hit = hit_now failed rows in
-    let told = told_row level group.cut.0 marked hit in
-    subst (λ (next : List PairRow). AreGrouped group rows next) (sym (told_rows level group.cut.0 marked hit (map (row_with_group group) rows) ∙ map-map told (row_with_group group) rows))
-    (grouped_each group (λ r. told (row_with_group group r)) rows (λ r. row_grouped group level group.cut.0 marked hit r))
+    let reach = reach_of level rows in
+    subst (λ (next : List PairRow). AreGrouped group rows next) (sym (told_behind_group level group marked hit rows))
+    (grouped_each group (λ r. told_row reach group.cut.0 marked hit (row_with_group group r)) rows (λ r. row_grouped group reach group.cut.0 marked hit r))
 
 pub records_group : (level : Level) (group : FormedGroup) (failed : List Bool) (rows : List PairRow) → AreGrouped group rows (rows_with_record level group failed rows)
-records_group level group failed rows =
-    subst (λ (next : List PairRow). AreGrouped group rows next) (sym (hit_is_told level group.cut.0 (hit_now failed rows) (map (row_with_group group) rows))) (behind_marks_group level [] group failed rows)
+records_group level group failed rows = behind_marks_group level [] group failed rows

@@ -1,20 +1,24 @@
 -- The devices that are hit now, and what hits with their reach make of a row.
-use Rattle.std.proofs.Common.{◌≡◌, ℕ, zero, suc, Bool, true, false, cond, nat_eq, List, [], ◌∷◌, map, filter, Some, refl, sym, subst, ◌∙◌, true≢false, slice_get}
+use Rattle.std.proofs.Common.{◌≡◌, ℕ, zero, suc, Bool, true, false, cond, nat_eq, List, [], ◌∷◌, ◌++◌, map, filter, Option, Some, None, refl, sym, ap, subst, ◌∙◌, true≢false, slice_get}
 use Rattle.std.specs.List.{list_all, list_any}
 use Rattle.std.proofs.lemmas.Bool.{and_from, and_parts, eq-eqb, or_left}
 use Rattle.std.proofs.lemmas.List.{map-id}
 use Rattle.std.proofs.lemmas.Option.{same_Some}
+use Rattle.std.proofs.lemmas.Simd.{map-map}
 use Rattle.pair_table.specs.declared.level.Level.{Level}
-use Rattle.pair_table.specs.declared.level.Level.TheVariants.{Volume as VolumeLevel, Session as SessionLevel}
 use Rattle.pair_table.specs.declared.row.PairRow.{PairRow}
+use Rattle.pair_table.specs.declared.row.PairState.{PairState}
 use Rattle.pair_table.specs.Devices.{is_among}
-use Rattle.pair_table.specs.declared.row.SuspendCause.TheVariants.{Session}
 use Rattle.pair_table.specs.Rows.{is_suspended}
 use Rattle.pair_table.specs.Tables.{in_state, is_of}
 use Rattle.pair_table.proofs.PutLaws.{number_sym}
 use Rattle.pair_table.proofs.TableLaws.{either_false}
-use Rattle.row_changes.specs.Changes.{after_changes, hit_row, reached_row, since}
-use Rattle.record_rows.specs.Hits.{hit_changes, hit_now, is_hit_now, marked_changes, rows_hit, rows_marked, rows_told, told_changes}
+use Rattle.pending_queue.specs.Groups.{FormedGroup}
+use Rattle.row_changes.specs.Changes.{FaultReach, after_changes, hit_row, reach_of, reached_row, reaches_others, since}
+use Rattle.row_changes.specs.Changes.RowChange.{Reached}
+use Rattle.row_changes.proofs.Reaching.{reached_state, same_reach, unreached}
+use Rattle.record_rows.specs.GroupRows.{row_in, row_with_group, state_with_group}
+use Rattle.record_rows.specs.Hits.{hit_changes, hit_now, is_hit_now, marked_changes, rows_hit, rows_marked, rows_reached, rows_told, told_changes}
 use Rattle.record_rows.proofs.Devices.{apart_first, devices_apart, each_has, none_at}
 
 -- ---- who is hit now
@@ -64,37 +68,58 @@ hit_have_rows failed rows = have_rows failed rows rows (each_has rows)
 
 -- ---- what is told of a row
 
-abbrev pub reach_row : Level → (time : ℕ) → (marked : List ℕ) → PairRow → PairRow
-reach_row level time [] r = r
-reach_row level time (d ∷ marked) r = reached_row level (d ∷ marked) time r
+abbrev pub reach_row : FaultReach → (time : ℕ) → (marked : List ℕ) → PairRow → PairRow
+reach_row reach time [] r = r
+reach_row reach time (d ∷ marked) r = reached_row reach (d ∷ marked) time r
 
-abbrev pub told_row : Level → (time : ℕ) → (marked hit : List ℕ) → PairRow → PairRow
-told_row level time marked [] r = reach_row level time marked r
-told_row level time marked (d ∷ hit) r = reached_row level (d ∷ hit) time (hit_row (d ∷ hit) time r)
+abbrev pub hits_row : FaultReach → (time : ℕ) → (hit : List ℕ) → PairRow → PairRow
+hits_row reach time [] r = r
+hits_row reach time (d ∷ hit) r = reached_row reach (d ∷ hit) time (hit_row (d ∷ hit) time r)
 
-pub told_rows : (level : Level) (time : ℕ) (marked hit : List ℕ) (rows : List PairRow) → rows_told level time marked hit rows ≡ map (told_row level time marked hit) rows
-told_rows level time [] [] rows = sym (map-id rows)
-told_rows level time (m ∷ marked) [] rows = refl
-told_rows level time marked (d ∷ hit) rows = refl
+abbrev pub told_row : FaultReach → (time : ℕ) → (marked hit : List ℕ) → PairRow → PairRow
+told_row reach time marked hit r = hits_row reach time hit (reach_row reach time marked r)
 
--- What hits tell is what a record tells behind no mark.
-pub hit_is_told : (level : Level) (time : ℕ) (hit : List ℕ) (rows : List PairRow) → rows_hit level time hit rows ≡ rows_told level time [] hit rows
-hit_is_told level time [] rows = refl
-hit_is_told level time (d ∷ hit) rows = refl
+reach_rows : (level : Level) (time : ℕ) (marked : List ℕ) (rows : List PairRow) → rows_reached level time marked rows ≡ map (reach_row (reach_of level rows) time marked) rows
+reach_rows level time [] rows = sym (map-id rows)
+reach_rows level time (d ∷ marked) rows = refl
 
-pub hit_changes_told : (level : Level) (time : ℕ) (hit : List ℕ) → hit_changes time hit ≡ told_changes level time [] hit
-hit_changes_told level time [] = refl
-hit_changes_told level time (d ∷ hit) = refl
+hits_rows : (level : Level) (time : ℕ) (hit : List ℕ) (rows : List PairRow) → rows_hit level time hit rows ≡ map (hits_row (reach_of level rows) time hit) rows
+hits_rows level time [] rows = sym (map-id rows)
+hits_rows level time (d ∷ hit) rows = refl
+
+reach_keeps : (reach : FaultReach) (time : ℕ) (marked : List ℕ) (r : PairRow) → reach_row reach time marked r ≡ in_state (reach_row reach time marked r).state r
+reach_keeps reach time [] r = refl
+reach_keeps reach time (d ∷ marked) r = reached_state reach (d ∷ marked) time r
+
+pub told_rows : (level : Level) (time : ℕ) (marked hit : List ℕ) (rows : List PairRow) → rows_told level time marked hit rows ≡ map (told_row (reach_of level rows) time marked hit) rows
+told_rows level time marked hit rows =
+    let reach = reach_of level rows in
+    let first = reach_row reach time marked in
+    hits_rows level time hit (rows_reached level time marked rows)
+    ∙ ap (λ (l : List PairRow). map (hits_row (reach_of level l) time hit) l) (reach_rows level time marked rows)
+    ∙ ap (λ (q : FaultReach). map (hits_row q time hit) (map first rows)) (same_reach level first (reach_keeps reach time marked) rows) ∙ map-map (hits_row reach time hit) first rows
+
+row_in_state : (r : PairRow) (o : Option PairState) → row_in r o ≡ in_state (row_in r o).state r
+row_in_state r None = refl
+row_in_state r (Some state) = refl
+
+-- What is told behind a group reaches whom it would reach before.
+pub told_behind_group : (level : Level) (group : FormedGroup) (marked hit : List ℕ) (rows : List PairRow)
+    → rows_told level group.cut.0 marked hit (map (row_with_group group) rows) ≡ map (λ r. told_row (reach_of level rows) group.cut.0 marked hit (row_with_group group r)) rows
+told_behind_group level group marked hit rows =
+    let grouped = row_with_group group in
+    told_rows level group.cut.0 marked hit (map grouped rows)
+    ∙ ap (λ (q : FaultReach). map (told_row q group.cut.0 marked hit) (map grouped rows)) (same_reach level grouped (λ r. row_in_state r (state_with_group group r)) rows)
+    ∙ map-map (told_row (reach_of level rows) group.cut.0 marked hit) grouped rows
 
 -- A suspended row isn't reached.
-pub held : (level : Level) (devices : List ℕ) (time : ℕ) (r : PairRow) → is_suspended r.state ≡ true → reached_row level devices time r ≡ r
-held VolumeLevel devices time r is = refl
-held SessionLevel devices time r is = choose (is_among r.device devices) (is_suspended r.state) is
+pub held : (reach : FaultReach) (devices : List ℕ) (time : ℕ) (r : PairRow) → is_suspended r.state ≡ true → reached_row reach devices time r ≡ r
+held reach devices time r is = choose (reach.reaches devices r) (is_suspended r.state) is
   where
-    choose : (b c : Bool) → c ≡ true → cond b r (cond c r (in_state (since Session time) r)) ≡ r
-    choose true c is = refl
-    choose false true is = refl
-    choose false false is = absurd (true≢false (sym is))
+    choose : (b c : Bool) → c ≡ true → cond b (cond c r (in_state (since reach.cause time) r)) r ≡ r
+    choose true true is = refl
+    choose true false is = absurd (true≢false (sym is))
+    choose false c is = refl
 
 -- ---- as changes
 
@@ -107,7 +132,12 @@ marks_are_changes level time [] rows = map-id rows
 marks_are_changes level time (d ∷ hit) rows = refl
 
 pub told_are_changes : (level : Level) (time : ℕ) (marked hit : List ℕ) (rows : List PairRow) → rows_told level time marked hit rows ≡ after_changes level (told_changes level time marked hit) rows
-told_are_changes level time [] [] rows = refl
-told_are_changes VolumeLevel time (m ∷ marked) [] rows = map-id rows
-told_are_changes SessionLevel time (m ∷ marked) [] rows = refl
-told_are_changes level time marked (d ∷ hit) rows = refl
+told_are_changes level time [] hit rows = hits_are_changes level time hit rows
+told_are_changes level time (m ∷ marked) hit rows = choose (reaches_others level) refl
+  where
+    due : List PairRow
+    due = rows_reached level time (m ∷ marked) rows
+
+    choose : (b : Bool) → reaches_others level ≡ b → rows_hit level time hit due ≡ after_changes level (cond b (record { time = time; change = Reached (m ∷ marked) } ∷ []) [] ++ hit_changes time hit) rows
+    choose true is = hits_are_changes level time hit due
+    choose false is = ap (rows_hit level time hit) (unreached level (m ∷ marked) time rows is) ∙ hits_are_changes level time hit rows

@@ -1,25 +1,25 @@
 -- What records and marks tell of each row.
 use Rattle.std.proofs.Common.{◌≡◌, inl, inr, ℕ, zero, suc, Bool, true, false, not, cond, nat_eq, ◌&&◌, ◌||◌, List, [], ◌∷◌, map, filter, Option, Some, None, refl, sym, ap, subst, ◌∙◌, true≢false, slice_get}
 use Rattle.std.proofs.lemmas.Bool.{and_parts, eqb-true, not-true}
-use Rattle.std.proofs.lemmas.Simd.{map-map}
 use Rattle.tod_stamp.specs.declared.stamp.Stamp.{Stamp}
 use Rattle.pair_table.specs.declared.level.Level.{Level}
-use Rattle.pair_table.specs.declared.level.Level.TheVariants.{Volume as VolumeLevel, Session as SessionLevel}
 use Rattle.pair_table.specs.declared.row.PairRow.{PairRow}
 use Rattle.pair_table.specs.declared.row.PairState.{PairState}
 use Rattle.pair_table.specs.declared.row.PairState.TheVariants.{Pending, Copy, Duplex, Suspended}
-use Rattle.pair_table.specs.declared.row.SuspendCause.TheVariants.{Device, Session, Control}
+use Rattle.pair_table.specs.declared.row.SuspendCause.TheVariants.{Device, Control}
 use Rattle.pair_table.specs.Devices.{is_among}
 use Rattle.pair_table.specs.Rows.{is_suspended}
 use Rattle.pair_table.specs.Tables.{in_state}
 use Rattle.pending_queue.specs.Groups.{FormedGroup}
-use Rattle.row_changes.specs.Changes.{hit_row, reached_row, since}
+use Rattle.row_changes.specs.Changes.{FaultReach, hit_row, reach_of, reached_row, since}
+use Rattle.row_changes.proofs.Reaching.{reach_is_other}
 use Rattle.record_rows.specs.GroupRows.{is_shown_done, row_in, row_with_group, shown_break, state_by_group}
-use Rattle.record_rows.specs.Hits.{hit_now, is_device_suspended, is_down, is_hit_now, rows_marked}
+use Rattle.record_rows.specs.Hits.{hit_now, is_down, is_hit_now, rows_marked}
+use Rattle.pair_table.specs.States.{is_by_device, is_device_suspended}
 use Rattle.record_rows.specs.Records.{rows_behind_mark, rows_with_hits, rows_with_record}
 use Rattle.record_rows.specs.ToldRows.{AreTold, IsTold}
 use Rattle.record_rows.proofs.Devices.{devices_apart}
-use Rattle.record_rows.proofs.HitRows.{among_hit, held, hit_is_told, reach_row, told_row, told_rows}
+use Rattle.record_rows.proofs.HitRows.{among_hit, held, hits_row, reach_row, told_behind_group, told_row, told_rows}
 
 -- ---- changes of a row that suspend it by no device
 
@@ -64,18 +64,18 @@ mild_group group r = choose (shown_break r.control group.breaks) (is_shown_done 
     choose None done Duplex is = mild_self r
     choose None done (Suspended cause at) is = mild_self r
 
-mild_reached : (level : Level) (devices : List ℕ) (time : ℕ) (r : PairRow) → Mild r (reached_row level devices time r)
-mild_reached VolumeLevel devices time r = mild_self r
-mild_reached SessionLevel devices time r = choose (is_among r.device devices) (is_suspended r.state) refl
-  where
-    choose : (b c : Bool) → is_suspended r.state ≡ c → Mild r (cond b r (cond c r (in_state (since Session time) r)))
-    choose true c is = mild_self r
-    choose false true is = mild_self r
-    choose false false is = fresh r (since Session time) is refl
+module _ (reach : FaultReach) (other : is_by_device reach.cause ≡ false) where
+  mild_reached : (devices : List ℕ) (time : ℕ) (r : PairRow) → Mild r (reached_row reach devices time r)
+  mild_reached devices time r = choose (reach.reaches devices r) (is_suspended r.state) refl
+    where
+      choose : (b c : Bool) → is_suspended r.state ≡ c → Mild r (cond b (cond c r (in_state (since reach.cause time) r)) r)
+      choose true true is = mild_self r
+      choose true false is = fresh r (since reach.cause time) is other
+      choose false c is = mild_self r
 
-mild_reach : (level : Level) (time : ℕ) (marked : List ℕ) (r : PairRow) → Mild r (reach_row level time marked r)
-mild_reach level time [] r = mild_self r
-mild_reach level time (d ∷ marked) r = mild_reached level (d ∷ marked) time r
+  mild_reach : (time : ℕ) (marked : List ℕ) (r : PairRow) → Mild r (reach_row reach time marked r)
+  mild_reach time [] r = mild_self r
+  mild_reach time (d ∷ marked) r = mild_reached (d ∷ marked) time r
 
 -- ---- what is told
 
@@ -117,17 +117,21 @@ hit_told failed r s time hit mild = record {
     parts : (is_down failed r.device ≡ true) × (not (is_device_suspended r.state) ≡ true)
     parts = and_parts (is_down failed r.device) (not (is_device_suspended r.state)) hit
 
--- A row behind mild changes is told by hits with their reach, or by the reach that was due.
-row_told : (failed : List Bool) (level : Level) (time : ℕ) (marked hit : List ℕ) (r s : PairRow) → Mild r s → is_among r.device hit ≡ is_hit_now failed r → IsTold failed time r (told_row level time marked hit s)
-row_told failed level time marked [] r s mild is = calm_told failed time r (reach_row level time marked s) (sym is) (mild_then r s (reach_row level time marked s) mild (mild_reach level time marked s))
-row_told failed level time marked (d ∷ hit) r s mild is = choose (is_among s.device (d ∷ hit)) refl
-  where
-    here : is_among s.device (d ∷ hit) ≡ is_hit_now failed r
-    here = ap (λ (x : PairRow). is_among x.device (d ∷ hit)) mild.same ∙ is
+-- A row behind mild changes is told by what was due, and by hits with their reach.
+module _ (failed : List Bool) (reach : FaultReach) (other : is_by_device reach.cause ≡ false) (time : ℕ) where
+  hits_told : (hit : List ℕ) (r s : PairRow) → Mild r s → is_among r.device hit ≡ is_hit_now failed r → IsTold failed time r (hits_row reach time hit s)
+  hits_told [] r s mild is = calm_told failed time r s (sym is) mild
+  hits_told (d ∷ hit) r s mild is = choose (is_among s.device (d ∷ hit)) refl
+    where
+      here : is_among s.device (d ∷ hit) ≡ is_hit_now failed r
+      here = ap (λ (x : PairRow). is_among x.device (d ∷ hit)) mild.same ∙ is
 
-    choose : (b : Bool) → is_among s.device (d ∷ hit) ≡ b → IsTold failed time r (reached_row level (d ∷ hit) time (cond b (in_state (since Device time) s) s))
-    choose true e = subst (λ (x : PairRow). IsTold failed time r x) (sym (held level (d ∷ hit) time (in_state (since Device time) s) refl)) (hit_told failed r s time (sym here ∙ e) mild)
-    choose false e = calm_told failed time r (reached_row level (d ∷ hit) time s) (sym here ∙ e) (mild_then r s (reached_row level (d ∷ hit) time s) mild (mild_reached level (d ∷ hit) time s))
+      choose : (b : Bool) → is_among s.device (d ∷ hit) ≡ b → IsTold failed time r (reached_row reach (d ∷ hit) time (cond b (in_state (since Device time) s) s))
+      choose true e = subst (λ (x : PairRow). IsTold failed time r x) (sym (held reach (d ∷ hit) time (in_state (since Device time) s) refl)) (hit_told failed r s time (sym here ∙ e) mild)
+      choose false e = calm_told failed time r (reached_row reach (d ∷ hit) time s) (sym here ∙ e) (mild_then r s (reached_row reach (d ∷ hit) time s) mild (mild_reached reach other (d ∷ hit) time s))
+
+  row_told : (marked hit : List ℕ) (r s : PairRow) → Mild r s → is_among r.device hit ≡ is_hit_now failed r → IsTold failed time r (told_row reach time marked hit s)
+  row_told marked hit r s mild is = hits_told hit r (reach_row reach time marked s) (mild_then r s (reach_row reach time marked s) mild (mild_reach reach other time marked s)) is
 
 tell_each : (failed : List Bool) (time : ℕ) (f : PairRow → PairRow) (rows : List PairRow) → ((i : ℕ) (r : PairRow) → slice_get rows i ≡ Some r → IsTold failed time r (f r)) → AreTold failed time rows (map f rows)
 tell_each failed time f [] each = tt
@@ -136,19 +140,20 @@ tell_each failed time f (r ∷ rows) each = (each zero r refl, tell_each failed 
 pub behind_marks_tell : (level : Level) (marked : List ℕ) (group : FormedGroup) (failed : List Bool) (rows : List PairRow) → devices_apart rows ≡ true → AreTold failed group.cut.0 rows (rows_behind_mark level marked group failed rows)
 behind_marks_tell level marked group failed rows apart =
     let hit = hit_now failed rows in
-    let told = told_row level group.cut.0 marked hit in
-    subst (λ (next : List PairRow). AreTold failed group.cut.0 rows next) (sym (told_rows level group.cut.0 marked hit (map (row_with_group group) rows) ∙ map-map told (row_with_group group) rows))
-    (tell_each failed group.cut.0 (λ r. told (row_with_group group r)) rows (λ i r at. row_told failed level group.cut.0 marked hit r (row_with_group group r) (mild_group group r) (among_hit failed rows i r apart at)))
+    let reach = reach_of level rows in
+    subst (λ (next : List PairRow). AreTold failed group.cut.0 rows next) (sym (told_behind_group level group marked hit rows))
+    (tell_each failed group.cut.0 (λ r. told_row reach group.cut.0 marked hit (row_with_group group r)) rows
+    (λ i r at. row_told failed reach (reach_is_other level rows) group.cut.0 marked hit r (row_with_group group r) (mild_group group r) (among_hit failed rows i r apart at)))
 
 pub records_tell : (level : Level) (group : FormedGroup) (failed : List Bool) (rows : List PairRow) → devices_apart rows ≡ true → AreTold failed group.cut.0 rows (rows_with_record level group failed rows)
-records_tell level group failed rows apart =
-    subst (λ (next : List PairRow). AreTold failed group.cut.0 rows next) (sym (hit_is_told level group.cut.0 (hit_now failed rows) (map (row_with_group group) rows))) (behind_marks_tell level [] group failed rows apart)
+records_tell level group failed rows apart = behind_marks_tell level [] group failed rows apart
 
 pub hits_tell : (level : Level) (time : ℕ) (failed : List Bool) (rows : List PairRow) → devices_apart rows ≡ true → AreTold failed time rows (rows_with_hits level time failed rows)
 hits_tell level time failed rows apart =
     let hit = hit_now failed rows in
-    subst (λ (next : List PairRow). AreTold failed time rows next) (sym (hit_is_told level time hit rows ∙ told_rows level time [] hit rows))
-    (tell_each failed time (told_row level time [] hit) rows (λ i r at. row_told failed level time [] hit r r (mild_self r) (among_hit failed rows i r apart at)))
+    let reach = reach_of level rows in
+    subst (λ (next : List PairRow). AreTold failed time rows next) (sym (told_rows level time [] hit rows))
+    (tell_each failed time (told_row reach time [] hit) rows (λ i r at. row_told failed reach (reach_is_other level rows) time [] hit r r (mild_self r) (among_hit failed rows i r apart at)))
 
 pub marks_tell : (time : ℕ) (failed : List Bool) (rows : List PairRow) → devices_apart rows ≡ true → AreTold failed time rows (rows_marked time (hit_now failed rows) rows)
 marks_tell time failed rows apart = tell_each failed time (hit_row hit time) rows (λ i r at. row_marked r (is_among r.device hit) (among_hit failed rows i r apart at))

@@ -1,17 +1,16 @@
 -- The rows that a record names: those that it changes, as they stand behind it.
-use Rattle.std.specs.Prelude.{ℕ, ◌||◌, List, [], ◌∷◌, map, fold, Option, Some, None, if◌then◌else◌}
+use Rattle.std.specs.Prelude.{ℕ, ◌&&◌, ◌||◌, not, List, [], ◌∷◌, map, fold, Option, Some, None, if◌then◌else◌}
 use Rattle.std.specs.List.{flat_map}
-use Rattle.pair_table.specs.declared.level.Level.{Level}
-use Rattle.pair_table.specs.declared.level.Level.TheVariants.{Volume as VolumeLevel, Session as SessionLevel}
 use Rattle.pair_table.specs.declared.row.PairRow.{PairRow}
 use Rattle.pair_table.specs.declared.row.PairState.{PairState}
-use Rattle.pair_table.specs.declared.row.SuspendCause.TheVariants.{Device, Session}
+use Rattle.pair_table.specs.declared.row.SuspendCause.TheVariants.{Device}
 use Rattle.pair_table.specs.Devices.{is_among}
 use Rattle.pair_table.specs.Rows.{is_suspended}
 use Rattle.pair_table.specs.Tables.{in_state, with_row}
 use Rattle.pending_queue.specs.Groups.{FormedGroup}
-use Rattle.row_changes.specs.Changes.{since}
+use Rattle.row_changes.specs.Changes.{FaultReach, since}
 use Rattle.record_rows.specs.GroupRows.{row_in, row_with_group, state_with_group}
+use Rattle.record_rows.specs.Hits.{is_reached}
 
 -- ---- rows by the states to which they change
 
@@ -32,21 +31,17 @@ with_rows_put put rows = fold (λ all r. with_row r all) rows put
 
 -- ---- the states
 
--- the state to which the hits of these devices change a row that isn't theirs, if they reach it
-abbrev pub state_reached : Level → (time : ℕ) → (devices : List ℕ) → PairRow → Option PairState
-state_reached VolumeLevel time devices r = None
-state_reached SessionLevel time devices r = if is_suspended r.state || is_among r.device devices then None else Some (since Session time)
-
--- the state to which a row changes by hits of a record, or if there are none by what a mark has left due
-abbrev pub state_told : Level → (time : ℕ) → (marked hit : List ℕ) → PairRow → Option PairState
-state_told level time [] [] r = None
-state_told level time (m ∷ marked) [] r = state_reached level time (m ∷ marked) r
-state_told level time marked (d ∷ hit) r = if is_among r.device (d ∷ hit) then Some (since Device time) else state_reached level time (d ∷ hit) r
+-- The state to which a row changes by hits of a record, or else by these and those of a mark before it, if they reach it.
+abbrev pub state_told : FaultReach → (time : ℕ) → (marked hit : List ℕ) → PairRow → Option PairState
+state_told reach time marked hit r =
+    if is_among r.device hit then Some (since Device time)
+    else if (is_reached reach marked r || is_reached reach hit r) && not (is_suspended r.state) then Some (since reach.cause time)
+    else None
 
 abbrev pub later_state : (last first : Option PairState) → Option PairState
 later_state (Some state) first = Some state
 later_state None first = first
 
 -- the state to which a record of a group changes a row: hits behind what the group makes of it
-abbrev pub state_with_record : Level → (marked hit : List ℕ) → FormedGroup → PairRow → Option PairState
-state_with_record level marked hit group r = later_state (state_told level group.cut.0 marked hit (row_with_group group r)) (state_with_group group r)
+abbrev pub state_with_record : FaultReach → (marked hit : List ℕ) → FormedGroup → PairRow → Option PairState
+state_with_record reach marked hit group r = later_state (state_told reach group.cut.0 marked hit (row_with_group group r)) (state_with_group group r)

@@ -1,30 +1,13 @@
 -- Hits of devices: which ones no record or mark has told yet, what rows are once they are told, and the changes of rows that this is.
-use Rattle.std.specs.Prelude.{ℕ, ◌&&◌, not, List, [], ◌∷◌, map, filter, Bool, true, false, slice_index_or}
+use Rattle.std.specs.Prelude.{ℕ, ◌&&◌, not, List, [], ◌∷◌, ◌++◌, map, filter, Bool, false, slice_index_or, if◌then◌else◌}
 use Rattle.pair_table.specs.declared.level.Level.{Level}
-use Rattle.pair_table.specs.declared.level.Level.TheVariants.{Volume as VolumeLevel, Session as SessionLevel}
 use Rattle.pair_table.specs.declared.row.PairRow.{PairRow}
-use Rattle.pair_table.specs.declared.row.PairState.{PairState}
-use Rattle.pair_table.specs.declared.row.PairState.TheVariants.{Pending, Copy, Duplex, Suspended}
-use Rattle.pair_table.specs.declared.row.SuspendCause.{SuspendCause}
-use Rattle.pair_table.specs.declared.row.SuspendCause.TheVariants.{Command, Device, Session, Control}
-use Rattle.row_changes.specs.Changes.{Due, Timed, due_after_mark, hit_row, reached_row}
+use Rattle.pair_table.specs.States.{is_device_suspended}
+use Rattle.row_changes.specs.Changes.{Due, FaultReach, Timed, due_after_mark, hit_row, reach_of, reached_row, reaches_others}
 use Rattle.row_changes.specs.Changes.Due.{NoneDue}
 use Rattle.row_changes.specs.Changes.RowChange.{Hit, MarkedHit, Reached}
 
 -- ---- who is hit
-
-abbrev pub is_by_device : SuspendCause → Bool
-is_by_device Device = true
-is_by_device Command = false
-is_by_device Session = false
-is_by_device Control = false
-
--- whether a row in this state is suspended by its own device
-abbrev pub is_device_suspended : PairState → Bool
-is_device_suspended Pending = false
-is_device_suspended Copy = false
-is_device_suspended Duplex = false
-is_device_suspended (Suspended cause since) = is_by_device cause
 
 -- whether the job of a device has failed, by the flags of the devices in order
 abbrev pub is_down : (failed : List Bool) → (device : ℕ) → Bool
@@ -40,10 +23,15 @@ hit_now failed rows = map (λ r. r.device) (filter (is_hit_now failed) rows)
 
 -- ---- the rows
 
+-- whether hits of these devices reach a row; without a hit none is reached
+abbrev pub is_reached : FaultReach → (devices : List ℕ) → PairRow → Bool
+is_reached reach [] r = false
+is_reached reach (d ∷ devices) r = reach.reaches (d ∷ devices) r
+
 -- The rows behind hits at a time, with those that the hits reach. If no device is hit, they are as they were.
 abbrev pub rows_hit : Level → (time : ℕ) → (hit : List ℕ) → List PairRow → List PairRow
 rows_hit level time [] rows = rows
-rows_hit level time (d ∷ hit) rows = map (λ r. reached_row level (d ∷ hit) time (hit_row (d ∷ hit) time r)) rows
+rows_hit level time (d ∷ hit) rows = map (λ r. reached_row (reach_of level rows) (d ∷ hit) time (hit_row (d ∷ hit) time r)) rows
 
 -- The rows behind hits in a mark that is made before a record. The other rows wait for the record.
 abbrev pub rows_marked : (time : ℕ) → (hit : List ℕ) → List PairRow → List PairRow
@@ -52,12 +40,11 @@ rows_marked time hit rows = map (hit_row hit time) rows
 -- The rows that the record brings which these hits in the mark before it have left due.
 abbrev pub rows_reached : Level → (time : ℕ) → (marked : List ℕ) → List PairRow → List PairRow
 rows_reached level time [] rows = rows
-rows_reached level time (d ∷ marked) rows = map (reached_row level (d ∷ marked) time) rows
+rows_reached level time (d ∷ marked) rows = map (reached_row (reach_of level rows) (d ∷ marked) time) rows
 
--- The rows behind a record's own hits. These reach the rows that were due too. Without own hits only those are reached.
+-- The rows behind what a record tells: first the rows that were due, then its own hits.
 abbrev pub rows_told : Level → (time : ℕ) → (marked hit : List ℕ) → List PairRow → List PairRow
-rows_told level time marked [] rows = rows_reached level time marked rows
-rows_told level time marked (d ∷ hit) rows = rows_hit level time (d ∷ hit) rows
+rows_told level time marked hit rows = rows_hit level time hit (rows_reached level time marked rows)
 
 -- ---- the changes
 
@@ -72,12 +59,10 @@ marked_changes time (d ∷ hit) = record { time = time; change = MarkedHit (d �
 -- Under level VOLUME nothing is due.
 abbrev pub reached_changes : Level → (time : ℕ) → (marked : List ℕ) → List Timed
 reached_changes level time [] = []
-reached_changes VolumeLevel time (d ∷ marked) = []
-reached_changes SessionLevel time (d ∷ marked) = record { time = time; change = Reached (d ∷ marked) } ∷ []
+reached_changes level time (d ∷ marked) = if reaches_others level then record { time = time; change = Reached (d ∷ marked) } ∷ [] else []
 
 abbrev pub told_changes : Level → (time : ℕ) → (marked hit : List ℕ) → List Timed
-told_changes level time marked [] = reached_changes level time marked
-told_changes level time marked (d ∷ hit) = hit_changes time (d ∷ hit)
+told_changes level time marked hit = reached_changes level time marked ++ hit_changes time hit
 
 -- what is due behind a mark with these hits
 abbrev pub due_behind_mark : Level → (time : ℕ) → (hit : List ℕ) → Due

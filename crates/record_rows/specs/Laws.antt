@@ -7,7 +7,7 @@ use Rattle.pair_table.specs.declared.row.PairState.{PairState}
 use Rattle.pair_table.specs.Devices.{is_among}
 use Rattle.pair_table.specs.Tables.{none_clash}
 use Rattle.pending_queue.specs.Groups.{FormedGroup}
-use Rattle.row_changes.specs.Changes.{Due, Timed, after_changes, may_all_come}
+use Rattle.row_changes.specs.Changes.{Due, Timed, after_changes, may_all_come, reach_of}
 use Rattle.row_changes.specs.Changes.Due.{NoneDue}
 use Rattle.row_changes.specs.Spans.{hit_count, is_hit_at}
 use Rattle.record_rows.specs.GroupRows.{are_breaks_at_cut}
@@ -109,14 +109,14 @@ ChangedRowsMake = (state : PairRow → Option PairState) (rows : List PairRow) �
 
 -- The rows behind a record, behind one with a mark made for it, and behind hits alone are rows in their new states.
 abbrev pub RecordsChangeStates : Type 0
-RecordsChangeStates = (level : Level) (group : FormedGroup) (failed : List Bool) (rows : List PairRow) → rows_with_record level group failed rows ≡ rows_in_states (state_with_record level [] (hit_now failed rows) group) rows
+RecordsChangeStates = (level : Level) (group : FormedGroup) (failed : List Bool) (rows : List PairRow) → rows_with_record level group failed rows ≡ rows_in_states (state_with_record (reach_of level rows) [] (hit_now failed rows) group) rows
 
 abbrev pub BehindMarksChangeStates : Type 0
 BehindMarksChangeStates = (level : Level) (marked : List ℕ) (group : FormedGroup) (failed : List Bool) (rows : List PairRow)
-    → rows_behind_mark level marked group failed rows ≡ rows_in_states (state_with_record level marked (hit_now failed rows) group) rows
+    → rows_behind_mark level marked group failed rows ≡ rows_in_states (state_with_record (reach_of level rows) marked (hit_now failed rows) group) rows
 
 abbrev pub HitsChangeStates : Type 0
-HitsChangeStates = (level : Level) (time : ℕ) (failed : List Bool) (rows : List PairRow) → rows_with_hits level time failed rows ≡ rows_in_states (state_told level time [] (hit_now failed rows)) rows
+HitsChangeStates = (level : Level) (time : ℕ) (failed : List Bool) (rows : List PairRow) → rows_with_hits level time failed rows ≡ rows_in_states (state_told (reach_of level rows) time [] (hit_now failed rows)) rows
 
 -- ---- how often devices are hit
 

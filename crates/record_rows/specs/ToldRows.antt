@@ -9,7 +9,8 @@ use Rattle.pair_table.specs.Tables.{in_state}
 use Rattle.pending_queue.specs.Groups.{FormedGroup}
 use Rattle.row_changes.specs.Changes.{Due, Timed, due_after, since}
 use Rattle.record_rows.specs.GroupRows.{is_shown_done, shown_break}
-use Rattle.record_rows.specs.Hits.{is_device_suspended, is_down}
+use Rattle.record_rows.specs.Hits.{is_down}
+use Rattle.pair_table.specs.States.{is_device_suspended}
 
 -- A relation holds between each row and the next one in its place.
 abbrev pub InPlaces : (is : PairRow → PairRow → Type 0) → (rows next : List PairRow) → Type 0

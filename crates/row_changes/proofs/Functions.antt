@@ -12,10 +12,12 @@ use Rattle.pair_table.specs.declared.row.PairState.TheVariants.{Pending, Copy, D
 use Rattle.pair_table.specs.declared.row.SuspendCause.TheVariants.{Control as ByControl}
 use Rattle.pair_table.specs.Rows.{is_suspended}
 use Rattle.pair_table.specs.Tables.{clashes, in_state, none_clash, row_of}
-use Rattle.row_changes.specs.Changes.{RowChange, Timed, after_change, after_changes, break_time_of, row_after_change, due_after, is_at, may_all_come, may_come, may_mature, row_may_mature, since}
+use Rattle.row_changes.specs.Changes.{FaultReach, RowChange, Timed, after_change, after_changes, break_time_of, due_after, is_at, may_all_come, may_come, may_mature, reach_of, row_after_change, row_may_mature, since}
 use Rattle.row_changes.specs.Changes.RowChange.{Break, Hit, MarkedHit, Mature, Reached}
 use Rattle.row_changes.specs.Changes.Due.{NoneDue}
-use Rattle.row_changes.specs.Spans.{all_broke, has_no_hit, is_break, breaks_control, is_maturing, is_settled, lies_in, next_row, next_state}
+use Rattle.row_changes.specs.Spans.{all_broke, has_no_hit, is_break, breaks_control, is_maturing, lies_in, next_row, next_state}
+use Rattle.pair_table.specs.States.{is_settled}
+use Rattle.row_changes.proofs.Reaching.{changes_state, same_reach}
 
 -- ---- booleans
 
@@ -29,14 +31,18 @@ same_eq a b = choose (nat_eq a b) (nat_eq b a) refl refl
 
 -- ---- one row
 
--- what changes make of one row
-abbrev pub row_after : Level → List Timed → PairRow → PairRow
-row_after level [] r = r
-row_after level (t ∷ changes) r = row_after level changes (row_after_change level t r)
+-- what changes make of one row, with a reach that stays meanwhile
+abbrev pub row_after : FaultReach → List Timed → PairRow → PairRow
+row_after reach [] r = r
+row_after reach (t ∷ changes) r = row_after reach changes (row_after_change reach t r)
 
-pub after_rows : (level : Level) (changes : List Timed) (rows : List PairRow) → after_changes level changes rows ≡ map (row_after level changes) rows
+pub after_rows : (level : Level) (changes : List Timed) (rows : List PairRow) → after_changes level changes rows ≡ map (row_after (reach_of level rows) changes) rows
 after_rows level [] rows = sym (map-id rows)
-after_rows level (t ∷ changes) rows = after_rows level changes (after_change level t rows) ∙ map-map (row_after level changes) (row_after_change level t) rows
+after_rows level (t ∷ changes) rows =
+    let reach = reach_of level rows in
+    let next = after_change level t rows in
+    after_rows level changes next ∙ map-map (row_after (reach_of level next) changes) (row_after_change reach t) rows
+    ∙ ap (λ (later : FaultReach). map (λ r. row_after later changes (row_after_change reach t r)) rows) (same_reach level (row_after_change reach t) (changes_state reach t) rows)
 
 abbrev is_plain : Timed → Bool
 is_plain t = is_break t || is_maturing t
@@ -55,27 +61,27 @@ abbrev pub state_after : List Timed → (device control : ℕ) → PairState →
 state_after [] device control state = state
 state_after (t ∷ changes) device control state = state_after changes device control (state_by t device control state)
 
-changed_is : (level : Level) (time : ℕ) (change : RowChange) (r : PairRow) → let t : Timed = record { time = time; change = change } in is_plain t ≡ true → row_after_change level t r ≡ in_state (state_by t r.device r.control r.state) r
-changed_is level time (Mature d s) r plain = choose (nat_eq d r.device)
+changed_is : (reach : FaultReach) (time : ℕ) (change : RowChange) (r : PairRow) → let t : Timed = record { time = time; change = change } in is_plain t ≡ true → row_after_change reach t r ≡ in_state (state_by t r.device r.control r.state) r
+changed_is reach time (Mature d s) r plain = choose (nat_eq d r.device)
   where
     choose : (b : Bool) → cond b (in_state s r) r ≡ in_state (cond b s r.state) r
     choose true = refl
     choose false = refl
-changed_is level time (Break k) r plain = choose (nat_eq r.control k) (is_suspended r.state)
+changed_is reach time (Break k) r plain = choose (nat_eq r.control k) (is_suspended r.state)
   where
     choose : (b c : Bool) → cond b (cond c r (in_state (since ByControl time) r)) r ≡ in_state (cond b (cond c r.state (since ByControl time)) r.state) r
     choose true true = refl
     choose true false = refl
     choose false c = refl
-changed_is level time (Hit devices) r plain = absurd cc
-changed_is level time (MarkedHit devices) r plain = absurd cc
-changed_is level time (Reached devices) r plain = absurd cc
+changed_is reach time (Hit devices) r plain = absurd cc
+changed_is reach time (MarkedHit devices) r plain = absurd cc
+changed_is reach time (Reached devices) r plain = absurd cc
 
-pub row_is : (level : Level) (changes : List Timed) (r : PairRow) → has_no_hit changes ≡ true → row_after level changes r ≡ in_state (state_after changes r.device r.control r.state) r
-row_is level [] r plain = refl
-row_is level (t ∷ changes) r plain =
+pub row_is : (reach : FaultReach) (changes : List Timed) (r : PairRow) → has_no_hit changes ≡ true → row_after reach changes r ≡ in_state (state_after changes r.device r.control r.state) r
+row_is reach [] r plain = refl
+row_is reach (t ∷ changes) r plain =
     let parts = and_parts (is_plain t) (has_no_hit changes) plain in
-    ap (row_after level changes) (changed_is level t.time t.change r parts.0) ∙ row_is level changes (in_state (state_by t r.device r.control r.state) r) parts.1
+    ap (row_after reach changes) (changed_is reach t.time t.change r parts.0) ∙ row_is reach changes (in_state (state_by t r.device r.control r.state) r) parts.1
 
 -- ---- look-ups
 
@@ -93,8 +99,9 @@ found_in_map f keeps d (x ∷ rows) r e = choose (nat_eq d x.device) refl (found
 -- the device's row after a change that is no hit
 found_after : (level : Level) (t : Timed) (d : ℕ) (rows : List PairRow) (r : PairRow) → is_plain t ≡ true → row_of d rows ≡ Some r → row_of d (after_change level t rows) ≡ Some (in_state (state_by t r.device r.control r.state) r)
 found_after level t d rows r plain e =
-    found_in_map (row_after_change level t) (λ x. ap (λ (y : PairRow). y.device) (changed_is level t.time t.change x plain)) d rows r e
-    ∙ ap (λ (y : PairRow). let s : Option PairRow = Some y in s) (changed_is level t.time t.change r plain)
+    let reach = reach_of level rows in
+    found_in_map (row_after_change reach t) (λ x. ap (λ (y : PairRow). y.device) (changed_is reach t.time t.change x plain)) d rows r e
+    ∙ ap (λ (y : PairRow). let s : Option PairRow = Some y in s) (changed_is reach t.time t.change r plain)
 
 -- ---- the state of a row after changes
 
@@ -305,9 +312,10 @@ pub rows_determined : (level : Level) (breaks : List (Option ℕ)) (from to : �
     → all_broke from to 0 breaks changes ≡ true → list_all (λ t. not (is_break t && nat_eq t.time to)) changes ≡ true → list_all (λ r. is_settled r.state) (after_changes level changes rows) ≡ true → has_no_hit changes ≡ true
     → after_changes level changes rows ≡ map (next_row breaks from to) rows
 rows_determined level breaks from to changes rows apart may broke differs settled plain =
+    let reach = reach_of level rows in
     let as_map = after_rows level changes rows in
-    as_map ∙ same_map (row_after level changes) (next_row breaks from to) rows (λ i x at.
-    let is = row_is level changes x plain in
+    as_map ∙ same_map (row_after reach changes) (next_row breaks from to) rows (λ i x at.
+    let is = row_is reach changes x plain in
     let s = settles level breaks to x.device x.control from changes rows x.state (x, founds rows apart i x at, refl, refl, refl) may plain differs in
-    let end = subst (λ (y : PairRow). is_settled y.state ≡ true) is (settled_at (row_after level changes) rows i x (subst (λ (l : List PairRow). list_all (λ r. is_settled r.state) l ≡ true) as_map settled) at) in
+    let end = subst (λ (y : PairRow). is_settled y.state ≡ true) is (settled_at (row_after reach changes) rows i x (subst (λ (l : List PairRow). list_all (λ r. is_settled r.state) l ≡ true) as_map settled) at) in
     is ∙ row_is_next breaks from to changes x (state_after changes x.device x.control x.state) broke s end)

@@ -1,5 +1,5 @@
 -- How the rows of a session change between two commands.
-use Rattle.std.specs.Prelude.{ℕ, zero, suc, ◌==◌, ◌&&◌, List, [], ◌∷◌, ◌++◌, length, map, Bool, true, false, Option, Some, None, nat_le, bytes_eq, if◌then◌else◌}
+use Rattle.std.specs.Prelude.{ℕ, zero, suc, ◌==◌, ◌&&◌, not, List, [], ◌∷◌, ◌++◌, length, map, Bool, true, false, Option, Some, None, nat_le, bytes_eq, if◌then◌else◌}
 use Rattle.std.specs.List.{list_any, list_all}
 use Rattle.pair_table.specs.declared.level.Level.{Level}
 use Rattle.pair_table.specs.declared.level.Level.TheVariants.{Volume as VolumeLevel, Session as SessionLevel}
@@ -15,11 +15,10 @@ use Rattle.pair_table.specs.Devices.{is_among}
 -- A change of rows. Rows are named by their devices.
 --   Mature: a pending row becomes copying or duplex, or a copying row duplex.
 --   Break: every row of the control that isn't suspended is suspended by the control.
---   Hit: volumes failed at one time. Their rows, suspended or not, are suspended by the device; under level SESSION every other row
---     that isn't suspended is suspended by the session.
+--   Hit: volumes failed at one time. Their rows, suspended or not, are suspended by the device; and every other row that isn't suspended
+--     and that the hit reaches is suspended: by the session under level SESSION.
 --   MarkedHit: the same of a hit that stands in a mark which logging makes before its record, where the other rows still wait.
---   Reached: after hits of these devices in such a mark, with the record: under level SESSION every other row that isn't suspended is
---     suspended by the session.
+--   Reached: after hits of these devices in such a mark, with the record: the rows that these reach are suspended.
 pub data RowChange : Type 0 where
   Mature : (device : ℕ) → (state : PairState) → RowChange
   Break : (control : ℕ) → RowChange
@@ -48,22 +47,31 @@ broken_row control time r = if r.control == control then suspended_by ByControl 
 abbrev pub hit_row : (devices : List ℕ) → (time : ℕ) → PairRow → PairRow
 hit_row devices time r = if is_among r.device devices then in_state (since ByDevice time) r else r
 
--- The others that a hit of these devices reaches: none under level VOLUME, all under level SESSION.
-abbrev pub reached_row : Level → (devices : List ℕ) → (time : ℕ) → PairRow → PairRow
-reached_row VolumeLevel devices time r = r
-reached_row SessionLevel devices time r = if is_among r.device devices then r else suspended_by BySession time r
+-- What failures reach: by which cause a row is suspended then, and which rows hits of some devices reach.
+pub record FaultReach : Type 0 where
+  pub cause : SuspendCause
+  pub reaches : (devices : List ℕ) → PairRow → Bool
 
-abbrev pub row_after_change : Level → Timed → PairRow → PairRow
-row_after_change level t r = elim t.change [
+-- Among rows: none under level VOLUME, and all but those hit under level SESSION.
+abbrev pub reach_of : Level → List PairRow → FaultReach
+reach_of VolumeLevel rows = record { cause = BySession; reaches = λ devices r. false }
+reach_of SessionLevel rows = record { cause = BySession; reaches = λ devices r. not (is_among r.device devices) }
+
+-- a row that hits of these devices reach is suspended
+abbrev pub reached_row : FaultReach → (devices : List ℕ) → (time : ℕ) → PairRow → PairRow
+reached_row reach devices time r = if reach.reaches devices r then suspended_by reach.cause time r else r
+
+abbrev pub row_after_change : FaultReach → Timed → PairRow → PairRow
+row_after_change reach t r = elim t.change [
   | Mature device state ↦ row_in_state device state r
   | Break control ↦ broken_row control t.time r
-  | Hit devices ↦ reached_row level devices t.time (hit_row devices t.time r)
+  | Hit devices ↦ reached_row reach devices t.time (hit_row devices t.time r)
   | MarkedHit devices ↦ hit_row devices t.time r
-  | Reached devices ↦ reached_row level devices t.time r
+  | Reached devices ↦ reached_row reach devices t.time r
 ]
 
 abbrev pub after_change : Level → Timed → List PairRow → List PairRow
-after_change level t rows = map (row_after_change level t) rows
+after_change level t rows = map (row_after_change (reach_of level rows) t) rows
 
 abbrev pub after_changes : Level → List Timed → List PairRow → List PairRow
 after_changes level [] rows = rows
@@ -101,9 +109,10 @@ row_may_mature state (Some r) = may_mature r.state state
 abbrev pub are_hit : (devices : List ℕ) → List PairRow → Bool
 are_hit devices rows = nat_le 1 (length devices) && list_all (λ d. list_any (is_of d) rows) devices
 
-abbrev pub is_session_level : Level → Bool
-is_session_level VolumeLevel = false
-is_session_level SessionLevel = true
+-- whether a failure may reach other rows
+abbrev pub reaches_others : Level → Bool
+reaches_others VolumeLevel = false
+reaches_others SessionLevel = true
 
 -- ---- what a hit in a mark leaves due
 
@@ -148,14 +157,14 @@ due_in_record (DueIn cut devices) time = DueIn cut devices
 
 -- what is due after a hit of these devices in a mark at a time
 abbrev pub due_after_mark : Level → Due → (time : ℕ) → (devices : List ℕ) → Due
-due_after_mark level due time devices = if is_session_level level then DueSince time (devices_hit due ++ devices) else NoneDue
+due_after_mark level due time devices = if reaches_others level then DueSince time (devices_hit due ++ devices) else NoneDue
 
 -- what is due after a change
 abbrev pub due_after : Level → Due → Timed → Due
 due_after level due t = elim t.change [
   | Mature device state ↦ due_in_record due t.time
   | Break control ↦ due_in_record due t.time
-  | Hit devices ↦ NoneDue
+  | Hit devices ↦ due_in_record due t.time
   | MarkedHit devices ↦ due_after_mark level due t.time devices
   | Reached devices ↦ NoneDue
 ]

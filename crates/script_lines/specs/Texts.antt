@@ -1,6 +1,7 @@
 -- What was heard of one line of a script, with its line feed, and how it ended.
 use Rattle.std.specs.Prelude.{◌≡◌, ◌⊎◌, ℕ, ◌==◌, ◌<◌, ◌≤◌, List, [], ◌∷◌, ◌++◌, length, Bool, false, Option, Some, None, if◌then◌else◌}
 use Rattle.std.specs.List.{list_any}
+use Rattle.xrc_edge.specs.declared.limits.TheConstants.{LONGEST_LINE, LONGEST_TEXT}
 use Rattle.crash_plant.specs.declared.device.Heard.{Heard}
 use Rattle.crash_plant.specs.declared.device.Heard.TheVariants.{Byte, End}
 use Rattle.script_lines.specs.declared.line_end.LineEnd.{LineEnd}
@@ -10,9 +11,9 @@ use Rattle.script_lines.specs.declared.line_end.LineEnd.TheVariants.{Nothing, Wh
 abbrev pub has_feed : (text : List ℕ) → Bool
 has_feed text = list_any (λ b. b == 10) text
 
--- The front of a line: at most 256 bytes, and no line feed.
+-- The front of a line: at most the bytes of the longest line, and no line feed.
 pub record IsFront (text : List ℕ) : Type 0 where
-  pub short : length text ≤ 256
+  pub short : length text ≤ LONGEST_LINE
   pub no_feed : has_feed text ≡ false
 
 -- A line and its line feed.
@@ -31,9 +32,9 @@ pub record IsLast (tells : Type 0) (text left : List ℕ) : Type 0 where
 abbrev pub IsWhole : (tells : Type 0) → (text left : List ℕ) → Type 0
 IsWhole tells text left = IsFed text ⊎ IsLast tells text left
 
--- 257 bytes, of which none is a line feed
+-- one byte more, and none of them a line feed
 pub record IsTooLong (text : List ℕ) : Type 0 where
-  pub size : length text ≡ 257
+  pub size : length text ≡ LONGEST_TEXT
   pub no_feed : has_feed text ≡ false
 
 -- Nothing was heard, and the script has ended, where bytes are told.

@@ -7,7 +7,7 @@ use crate::line_text::LineText;
 use xrc_command::{Line, read_line};
 
 /// What a line asks that was heard, by what stands before its line feed; None exactly where this is no line of the grammar.
-pub fn asked_line(text: &LineText) -> Option<Line>
+pub(crate) fn asked_line(text: &LineText) -> Option<Line>
     ensures spelled { result ≡ line_spelled (first_line text.now) }
     ensures read { IfSome result (λ line. IsLine line (first_line text.now)) }
     ensures every { (line : _) → IsLine line (first_line text.now) → result ≡ Some line }

@@ -6,9 +6,9 @@ ghost use Rattle.script_lines.specs.Texts.{IsFront, IsNothing, IsTooLong, IsWhol
 ghost use Rattle.script_lines.specs.declared.line_end.LineEnd.TheVariants.{Nothing, TooLong, Whole};
 
 use crate::line_end::LineEnd;
-use crate::line_text::{LineText, MOST};
+use crate::line_text::LineText;
 use crash_plant::{Heard, Plant};
-use xrc_edge::Failed;
+use xrc_edge::{Failed, LONGEST_TEXT};
 
 // Puts what was heard next behind the front of a line, and says how the line ended with it. None where it goes on.
 fn put_heard(text: &mut LineText, heard: Heard) -> Option<LineEnd>
@@ -46,8 +46,8 @@ fn hear_next<P: Plant>(plant: &mut P, text: &mut LineText) -> Result<Option<Line
 }
 
 /// Hears the next line of the script into the text, from which all that stood there is gone: no byte behind its line feed, and of a
-/// line that is too long none behind its byte 257.
-pub fn hear_line<P: Plant>(plant: &mut P, text: &mut LineText) -> Result<LineEnd, Failed>
+/// line that is too long none behind the first byte too many.
+pub(crate) fn hear_line<P: Plant>(plant: &mut P, text: &mut LineText) -> Result<LineEnd, Failed>
     ensures heard { P.tells → HearsText text.new (P.state plant.old) (P.state plant.new) }
     ensures keeps { P.tells → (first : P) → KeepsHearing [] text.new (P.state first) (P.state plant.old) (P.state plant.new) }
     ensures whole { result ≡ Ok Whole → IsWhole P.tells text.new (P.state plant.new).script }
@@ -59,7 +59,7 @@ pub fn hear_line<P: Plant>(plant: &mut P, text: &mut LineText) -> Result<LineEnd
     ensures cause { HasCause (P.state plant.old).console_faults (P.state plant.new).console_faults result }
 {
     text.clear();
-    for _ in 0..MOST {
+    for _ in 0..LONGEST_TEXT {
         if let Some(end) = hear_next(plant, text)? {
             return Ok(end);
         }

@@ -3,7 +3,7 @@
 pub enum LineEnd {
     /// With its line feed, or with the end of the script behind at least one byte.
     Whole,
-    /// With its byte 257, which is no line feed.
+    /// With one byte too many, which is no line feed.
     TooLong,
     /// The script had ended.
     Nothing,

@@ -1,14 +1,12 @@
 ghost use Rattle.std.specs.Prelude.{◌≡◌, ◌≤◌, ◌++◌, ◌∷◌, ◌↔◌, ◌==◌, [], ℕ, List, IsTrue, length};
+ghost use Rattle.xrc_edge.specs.declared.limits.TheConstants.{LONGEST_LINE};
 ghost use Rattle.std.specs.List.{position};
 ghost use Rattle.consistency.specs.Courses.{first_line};
 
 use std::marker::Model;
 use xrc_edge::Text;
 
-/// The most bytes that are heard of a line: 256 before its line feed, and one more.
-pub(crate) const MOST: usize = 257;
-
-/// What was heard of a line, with its line feed: at most 257 bytes. It takes no memory. Contracts see the list of its bytes.
+/// What was heard of a line, with its line feed: at most `LONGEST_TEXT` bytes. It takes no memory. Contracts see the list of its bytes.
 #[derive(Drop)]
 pub struct LineText {
     text: Text,
@@ -57,7 +55,7 @@ impl LineText {
     }
 
     pub(crate) fn push(&mut self, byte: u8)
-        requires { length self.old ≤ 256 }
+        requires { length self.old ≤ LONGEST_LINE }
         ensures { self.new ≡ self.old ++ byte ∷ [] }
     {
         self.text.push(byte);

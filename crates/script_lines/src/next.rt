@@ -14,10 +14,7 @@ use crate::line_text::LineText;
 use crash_plant::Plant;
 use tod_stamp::Stamp;
 use xrc_command::Line;
-use xrc_edge::Failed;
-
-/// The most lines of a script.
-const MOST_LINES: u32 = 100_000;
+use xrc_edge::{Failed, MOST_LINES};
 
 /// What comes next in a script.
 #[derive(Clone, Copy, Debug, PartialEq, Eq)]

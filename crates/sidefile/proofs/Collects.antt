@@ -4,6 +4,7 @@ use Rattle.std.specs.Prelude.{All, IsTrue}
 use Rattle.std.proofs.lemmas.Bool.{leb-true, eqb-true}
 use Rattle.std.proofs.lemmas.List.Elements.{All-nil, All-cons, All-append}
 use Rattle.std.proofs.lemmas.List.Folds.{list_all-append}
+use Rattle.ckd_track.specs.declared.layout.TheConstants.{WRITES_OF_RUN}
 use Rattle.xrc_edge.specs.Causes.{Rose}
 use Rattle.tod_stamp.specs.declared.stamp.Stamp.{Stamp}
 use Rattle.ckd_track.specs.declared.write.Write.{Write}
@@ -20,7 +21,6 @@ use Rattle.write_trace.specs.Writes.{writes_of, IsWriteTo}
 use Rattle.write_trace.specs.Answers.{ReaderState, ReadsEntry}
 use Rattle.sidefile.specs.declared.look.Look.{Look}
 use Rattle.sidefile.specs.declared.look.Look.TheVariants as looks
-use Rattle.sidefile.specs.Runs.{quota}
 use Rattle.sidefile.specs.Looks.{FindsNext, IsEntryTo, ReadsAllEntries, EndsAfter, FailsAfter, have_stamp, AddsWrites, TakesRun}
 use Rattle.sidefile.proofs.Steps.{reads_all, ends_there, bad_there, fails_there, none_read, read_then, ends_then, fails_then, writes_then}
 
@@ -82,14 +82,14 @@ pub record Collected (before now : Option (List ℕ)) (faults risen : ℕ) (old 
   pub stamps : IsTrue (have_stamp stamp taken)
   pub kept : All (IsWriteTo old.volumes) (writes_of taken)
   pub writes : all ≡ first ++ writes_of taken
-  pub room : length all ≤ quota
+  pub room : length all ≤ WRITES_OF_RUN
   pub volumes : new.volumes ≡ old.volumes
   pub last : new.last ≡ stamp
   pub goes_on : new.stopped ≡ None
   pub same_count : risen ≡ faults
   pub reads : ReadsAllEntries before now old new taken
 
-pub collected_none : (told : Option (List ℕ)) (faults : ℕ) (r : ReaderState) (stamp : ℕ) (first : List Write) → length first ≤ quota → r.last ≡ stamp → r.stopped ≡ None → Collected told told faults faults r r stamp first first
+pub collected_none : (told : Option (List ℕ)) (faults : ℕ) (r : ReaderState) (stamp : ℕ) (first : List Write) → length first ≤ WRITES_OF_RUN → r.last ≡ stamp → r.stopped ≡ None → Collected told told faults faults r r stamp first first
 collected_none told faults r stamp first room last goes = record {
   taken = [];
   stamps = refl;
@@ -113,7 +113,7 @@ module _ {a b c : Option (List ℕ)} {f1 f2 : ℕ} {r0 r1 r2 : ReaderState} {sta
       (subst (λ (v : List VolumeHead). IsEntryTo v e) h.volumes k.0, subst (λ n. n ≤ stamp_of e) h.last k.1)
 
 module _ {a b c : Option (List ℕ)} {f1 f2 f3 : ℕ} {r0 r1 r2 : ReaderState} {stamp : ℕ} {first all : List Write} (h : Collected a b f1 f2 r0 r1 stamp first all) where
-  pub collected_more : (e : Entry) (more : List Write) → ReadsEntry b c r1 r2 e → stamp_of e ≡ stamp → more ≡ all ++ writes_of (e ∷ []) → length more ≤ quota → f3 ≡ f2 → Collected a c f1 f3 r0 r2 stamp first more
+  pub collected_more : (e : Entry) (more : List Write) → ReadsEntry b c r1 r2 e → stamp_of e ≡ stamp → more ≡ all ++ writes_of (e ∷ []) → length more ≤ WRITES_OF_RUN → f3 ≡ f2 → Collected a c f1 f3 r0 r2 stamp first more
   collected_more e more reads same is room count =
       let k = kept_more h e reads in record {
         taken = h.taken ++ e ∷ [];
@@ -197,7 +197,7 @@ module _ {a b c : Option (List ℕ)} {f1 f2 f3 : ℕ} {r0 r1 r2 : ReaderState} {
         stamps = h.stamps;
         kept = h.kept;
         writes = is ∙ h.writes;
-        room = subst (λ (ws : List Write). length ws ≤ quota) (sym is) h.room;
+        room = subst (λ (ws : List Write). length ws ≤ WRITES_OF_RUN) (sym is) h.room;
         volumes = reads.volumes ∙ h.volumes;
         found = (
           ap (λ (x : Stamp). x.0) (sym at) ∙ stamped,
@@ -211,7 +211,7 @@ module _ {a b c : Option (List ℕ)} {f1 f2 f3 : ℕ} {r0 r1 r2 : ReaderState} {
     stamps = h.stamps;
     kept = h.kept;
     writes = put ∙ h.writes;
-    room = subst (λ (ws : List Write). length ws ≤ quota) (sym put) h.room;
+    room = subst (λ (ws : List Write). length ws ≤ WRITES_OF_RUN) (sym put) h.room;
     volumes = reads.volumes ∙ h.volumes;
     found = count ∙ h.same_count;
   }

@@ -2,6 +2,7 @@
 use Rattle.std.proofs.Common.{◌≡◌, ◌≢◌, ℕ, ◌-◌, ◌<◌, ◌≤◌, min, Bool, true, false, cond, nat_eq, eq-eqb, ◌&&◌, List, [], ◌∷◌, ◌++◌, length, Option, refl, sym, ap, subst, ◌∙◌, arith, length-append}
 use Rattle.std.specs.List.{flat_map}
 use Rattle.std.proofs.lemmas.Bool.{eqb-true, ne_eqb, le-ltb, lt-ltb}
+use Rattle.ckd_track.specs.declared.layout.TheConstants.{WRITES_OF_RUN}
 use Rattle.ckd_track.specs.declared.write.Batch.{Batch}
 use Rattle.ckd_track.specs.declared.write.Write.{Write}
 use Rattle.ckd_track.specs.declared.write.Cause.{Cause}
@@ -11,7 +12,7 @@ use Rattle.write_trace.specs.declared.entry.Entry.TheVariants.{Written}
 use Rattle.write_trace.specs.Entries.{stamp_of}
 use Rattle.write_trace.specs.Writes.{writes_of}
 use Rattle.sidefile.specs.declared.hand.Hand.TheVariants as hands
-use Rattle.sidefile.specs.Runs.{run_stamp, with_first, runs, quota, RunsAreAll}
+use Rattle.sidefile.specs.Runs.{run_stamp, with_first, runs, RunsAreAll}
 use Rattle.sidefile.specs.Breaks.{stamp, break_after}
 use Rattle.sidefile.specs.Hands.{batch_of, broken_or, hand, left_after}
 use Rattle.sidefile.specs.Looks.{have_stamp}
@@ -114,12 +115,12 @@ hand_above control cause limit first entries above =
 
 -- a whole run, and an entry behind it
 pub hand_before : (control : ℕ) (cause : Option Cause) (limit : ℕ) (first : Entry) (taken : List Entry) (next : Entry) (more : List Entry)
-    → have_stamp (stamp_of first) taken ≡ true → stamp_of first ≢ stamp_of next → stamp_of first ≤ limit → length (writes_of (first ∷ taken)) ≤ quota
+    → have_stamp (stamp_of first) taken ≡ true → stamp_of first ≢ stamp_of next → stamp_of first ≤ limit → length (writes_of (first ∷ taken)) ≤ WRITES_OF_RUN
     → hand control cause limit (runs (first ∷ taken ++ next ∷ more)) ≡ hands.Batch (batch_of control (first ∷ taken) (min limit (stamp_of next - 1)))
 hand_before control cause limit first taken next more stamps other there room =
     let b = begins next more in
     ap (hand control cause limit) (run_before first taken next more stamps other ∙ ap (λ (t : List (List Entry)). (first ∷ taken) ∷ t) b.is)
-    ∙ rw (le-ltb limit (stamp_of first) there, le-ltb quota (length (writes_of (first ∷ taken))) room) refl
+    ∙ rw (le-ltb limit (stamp_of first) there, le-ltb WRITES_OF_RUN (length (writes_of (first ∷ taken))) room) refl
 
 pub left_before : (first : Entry) (taken : List Entry) (next : Entry) (more : List Entry) (b : Batch) → have_stamp (stamp_of first) taken ≡ true → stamp_of first ≢ stamp_of next
     → runs (next ∷ more) ≡ left_after (hands.Batch b) (runs (first ∷ taken ++ next ∷ more))
@@ -130,20 +131,20 @@ left_at_end first taken b stamps = ap (left_after (hands.Batch b)) (sym (run_at_
 
 -- a run that the end ends
 pub hand_at_end : (control : ℕ) (cause : Option Cause) (limit : ℕ) (first : Entry) (taken : List Entry)
-    → have_stamp (stamp_of first) taken ≡ true → stamp_of first ≤ limit → length (writes_of (first ∷ taken)) ≤ quota
+    → have_stamp (stamp_of first) taken ≡ true → stamp_of first ≤ limit → length (writes_of (first ∷ taken)) ≤ WRITES_OF_RUN
     → hand control cause limit (runs (first ∷ taken)) ≡ broken_or (hands.Batch (batch_of control (first ∷ taken) limit)) (break_after cause (stamp_of first))
 hand_at_end control cause limit first taken stamps there room =
     ap (hand control cause limit) (run_at_end first taken stamps)
-    ∙ rw (le-ltb limit (stamp_of first) there, le-ltb quota (length (writes_of (first ∷ taken))) room) refl
+    ∙ rw (le-ltb limit (stamp_of first) there, le-ltb WRITES_OF_RUN (length (writes_of (first ∷ taken))) room) refl
 
 -- a run with a write too many
 pub hand_crowded : (control : ℕ) (cause : Option Cause) (limit : ℕ) (first : Entry) (taken : List Entry) (w : Write) (more : List Entry)
-    → have_stamp (stamp_of first) taken ≡ true → w.stamp.0 ≡ stamp_of first → stamp_of first ≤ limit → length (writes_of (first ∷ taken)) ≡ quota
+    → have_stamp (stamp_of first) taken ≡ true → w.stamp.0 ≡ stamp_of first → stamp_of first ≤ limit → length (writes_of (first ∷ taken)) ≡ WRITES_OF_RUN
     → hand control cause limit (runs (first ∷ taken ++ Written w ∷ more)) ≡ hands.Broken (Crowded (stamp (stamp_of first))) (stamp (stamp_of first - 1))
 hand_crowded control cause limit first taken w more stamps same there full =
     let g = run_with first taken (Written w) more stamps same in
     let run = (first ∷ taken ++ Written w ∷ []) ++ g.others in
-    let crowded : quota < length (writes_of run) = omega (
+    let crowded : WRITES_OF_RUN < length (writes_of run) = omega (
       arith,
       full,
       ap length (writes_append (first ∷ taken ++ Written w ∷ []) g.others),
@@ -153,7 +154,7 @@ hand_crowded control cause limit first taken w more stamps same there full =
     ) in
     ap (hand control cause limit) g.is ∙ choose g.others g.more crowded
   where
-    choose : (others : List Entry) (more : List (List Entry)) → quota < length (writes_of ((first ∷ taken ++ Written w ∷ []) ++ others))
+    choose : (others : List Entry) (more : List (List Entry)) → WRITES_OF_RUN < length (writes_of ((first ∷ taken ++ Written w ∷ []) ++ others))
         → hand control cause limit (((first ∷ taken ++ Written w ∷ []) ++ others) ∷ more) ≡ hands.Broken (Crowded (stamp (stamp_of first))) (stamp (stamp_of first - 1))
-    choose others [] crowded = rw (le-ltb limit (stamp_of first) there, lt-ltb quota (length (writes_of ((first ∷ taken ++ Written w ∷ []) ++ others))) crowded) refl
-    choose others (next ∷ more) crowded = rw (le-ltb limit (stamp_of first) there, lt-ltb quota (length (writes_of ((first ∷ taken ++ Written w ∷ []) ++ others))) crowded) refl
+    choose others [] crowded = rw (le-ltb limit (stamp_of first) there, lt-ltb WRITES_OF_RUN (length (writes_of ((first ∷ taken ++ Written w ∷ []) ++ others))) crowded) refl
+    choose others (next ∷ more) crowded = rw (le-ltb limit (stamp_of first) there, lt-ltb WRITES_OF_RUN (length (writes_of ((first ∷ taken ++ Written w ∷ []) ++ others))) crowded) refl

@@ -3,6 +3,7 @@ use Rattle.std.proofs.Common.{◌≡◌, ◌≢◌, ℕ, ◌-◌, ◌<◌, ◌�
 use Rattle.std.specs.Prelude.{All}
 use Rattle.std.proofs.lemmas.Bool.{eqb-true}
 use Rattle.std.proofs.lemmas.List.Elements.{All-nil, All-cons, All-append}
+use Rattle.ckd_track.specs.declared.layout.TheConstants.{WRITES_OF_RUN}
 use Rattle.tod_stamp.specs.Fields.{Left}
 use Rattle.tod_stamp.specs.declared.stamp.Stamp.{Stamp}
 use Rattle.ckd_track.specs.declared.write.Batch.{Batch}
@@ -23,7 +24,7 @@ use Rattle.sidefile.specs.declared.hand.Hand.TheVariants as hands
 use Rattle.sidefile.specs.declared.look.Look.{Look}
 use Rattle.sidefile.specs.declared.look.Look.TheVariants as looks
 use Rattle.sidefile.specs.declared.turn.Handover.{Handover}
-use Rattle.sidefile.specs.Runs.{runs, quota}
+use Rattle.sidefile.specs.Runs.{runs}
 use Rattle.sidefile.specs.Breaks.{stamp, break_after}
 use Rattle.sidefile.specs.Hands.{batch_of, broken_or, hand, left_after}
 use Rattle.sidefile.specs.AheadEntries.{IsAhead, read_of, entries_ahead, ahead, cause_ahead, cause_to_come}
@@ -121,8 +122,8 @@ module _ {before now : Option (List ℕ)} {faults risen : ℕ} {old new : Reader
   writes_are : all ≡ writes_of (first ∷ h.taken)
   writes_are = all_writes first h.taken one all is_one h.writes
 
-  room : length (writes_of (first ∷ h.taken)) ≤ quota
-  room = subst (λ (ws : List Write). length ws ≤ quota) writes_are h.room
+  room : length (writes_of (first ∷ h.taken)) ≤ WRITES_OF_RUN
+  room = subst (λ (ws : List Write). length ws ≤ WRITES_OF_RUN) writes_are h.room
 
   -- what a batch of the run keeps
   run_kept : (time : Stamp) → stamp_of first ≤ time.0 → time.0 ≤ limit → IsRunOf old.volumes control upto limit (record { control = control; writes = all; upto = time })

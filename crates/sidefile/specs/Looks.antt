@@ -1,6 +1,7 @@
 -- What a look at the next entry finds, and what the rest of a run is found to be.
 use Rattle.std.specs.Prelude.{◌≡◌, ◌<◌, ◌≤◌, ℕ, ◌+◌, ◌==◌, List, [], ◌∷◌, ◌++◌, length, All, Bool, Option, Some, None, Result, Ok, Err, IsTrue}
 use Rattle.std.specs.List.{list_all}
+use Rattle.ckd_track.specs.declared.layout.TheConstants.{WRITES_OF_RUN}
 use Rattle.xrc_edge.specs.Causes.{Rose}
 use Rattle.ckd_track.specs.declared.write.Write.{Write}
 use Rattle.ckd_track.specs.declared.write.Cause.{Cause}
@@ -17,7 +18,6 @@ use Rattle.write_trace.specs.UnreadBytes.{unread}
 use Rattle.write_trace.specs.Answers.{ReaderState, ReadsEntry, EndsThere, IsBadThere, FailsThere, Stops}
 use Rattle.sidefile.specs.declared.look.Look.{Look}
 use Rattle.sidefile.specs.declared.look.Look.TheVariants as looks
-use Rattle.sidefile.specs.Runs.{quota}
 use Rattle.sidefile.specs.AheadEntries.{IsFault, read_of, cause_ahead}
 
 -- ---- one look
@@ -71,9 +71,9 @@ WritesAfter before old taken stamp =
 
 -- The writes of an entry were put behind those of its run, or the entry is one write too many, or there was no memory.
 abbrev pub AddsWrites : (old new : List Write) → Entry → Result (Unit {0}) Look → Type 0
-AddsWrites old new e (Ok done) = (new ≡ old ++ writes_of (e ∷ [])) × (length new ≤ quota)
+AddsWrites old new e (Ok done) = (new ≡ old ++ writes_of (e ∷ [])) × (length new ≤ WRITES_OF_RUN)
 AddsWrites old new e (Err looks.NoMemory) = new ≡ old
-AddsWrites old new e (Err (looks.Bad (Crowded s))) = (new ≡ old) × (length old ≡ quota) × ((w : Write) × (e ≡ Written w) × (w.stamp ≡ s))
+AddsWrites old new e (Err (looks.Bad (Crowded s))) = (new ≡ old) × (length old ≡ WRITES_OF_RUN) × ((w : Write) × (e ≡ Written w) × (w.stamp ≡ s))
 AddsWrites old new e (Err other) = ⊥
 
 abbrev pub have_stamp : (stamp : ℕ) → List Entry → Bool
@@ -86,7 +86,7 @@ FoundBehind before now faults risen old new stamp taken writes (looks.Next e) =
 FoundBehind before now faults risen old new stamp taken writes looks.Ended = EndsAfter before old taken None × (new.stopped ≡ Some (AtEnd ends.Ended)) × (risen ≡ faults)
 FoundBehind before now faults risen old new stamp taken writes (looks.Bad (BadTrace place)) = EndsAfter before old taken (Some (BadTrace place)) × (risen ≡ faults)
 FoundBehind before now faults risen old new stamp taken writes (looks.Bad ReadFault) = FailsAfter before now old taken × Rose faults risen
-FoundBehind before now faults risen old new stamp taken writes (looks.Bad (Crowded s)) = (s.0 ≡ stamp) × (length writes ≡ quota) × WritesAfter before old taken stamp × (risen ≡ faults)
+FoundBehind before now faults risen old new stamp taken writes (looks.Bad (Crowded s)) = (s.0 ≡ stamp) × (length writes ≡ WRITES_OF_RUN) × WritesAfter before old taken stamp × (risen ≡ faults)
 FoundBehind before now faults risen old new stamp taken writes looks.NoMemory = risen ≡ faults
 
 -- The rest of a run was taken: its entries, all of that stamp, and their writes behind those that were there.
@@ -95,6 +95,6 @@ pub record TakesRun (before now : Option (List ℕ)) (faults risen : ℕ) (old n
   pub stamps : IsTrue (have_stamp stamp taken)
   pub kept : All (IsWriteTo old.volumes) (writes_of taken)
   pub writes : all ≡ first ++ writes_of taken
-  pub room : length all ≤ quota
+  pub room : length all ≤ WRITES_OF_RUN
   pub volumes : new.volumes ≡ old.volumes
   pub found : FoundBehind before now faults risen old new stamp taken all look

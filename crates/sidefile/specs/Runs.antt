@@ -21,12 +21,9 @@ abbrev pub runs : List Entry → List (List Entry)
 runs [] = []
 runs (e ∷ entries) = with_first e (runs entries)
 
--- the most writes of a run; idle entries don't count.
-abbrev pub quota : ℕ
-quota = WRITES_OF_RUN
-
+-- A run of more writes than a run may have is crowded.
 abbrev pub is_crowded : List Entry → Bool
-is_crowded run = nat_lt quota (length (writes_of run))
+is_crowded run = nat_lt WRITES_OF_RUN (length (writes_of run))
 
 -- ---- the law
 

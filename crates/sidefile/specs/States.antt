@@ -1,5 +1,6 @@
 -- A sidefile, and what it keeps.
 use Rattle.std.specs.Prelude.{◌≡◌, ◌<◌, ◌≤◌, ◌⊎◌, ◌||◌, ℕ, Bool, List, length, All, Option, Some, None, is_some, nat_lt}
+use Rattle.ckd_track.specs.declared.layout.TheConstants.{WRITES_OF_RUN}
 use Rattle.xrc_edge.specs.Causes.{Rose}
 use Rattle.ckd_track.specs.declared.write.Batch.{Batch}
 use Rattle.ckd_track.specs.declared.write.Cause.TheVariants.{ReadFault}
@@ -13,7 +14,6 @@ use Rattle.write_trace.specs.Answers.{ReaderState}
 use Rattle.sidefile.specs.declared.hand.Hand.{Hand}
 use Rattle.sidefile.specs.declared.hand.Hand.TheVariants as hands
 use Rattle.sidefile.specs.declared.hand.Halt.{Halt}
-use Rattle.sidefile.specs.Runs.{quota}
 use Rattle.sidefile.specs.Looks.{IsEntryTo}
 use Rattle.sidefile.specs.ExactHands.{SidefileFront}
 
@@ -58,7 +58,7 @@ is_past limit s = is_some s.halted || is_next_above limit s.waiting s.reader
 pub record IsRunOf (volumes : List VolumeHead) (control before limit : ℕ) (batch : Batch) : Type 0 where
   pub from : batch.control ≡ control
   pub kept : All (IsWriteTo volumes) batch.writes
-  pub room : length batch.writes ≤ quota
+  pub room : length batch.writes ≤ WRITES_OF_RUN
   pub stamp : ℕ
   pub stamps : All (λ w. w.stamp.0 ≡ stamp) batch.writes
   pub above : before < stamp

@@ -1,9 +1,9 @@
 //! Taking a run.
 
 ghost use Rattle.std.specs.Prelude.{◌≡◌, ◌≤◌, [], ◌∷◌, ◌++◌, None, Some, length, OnOk};
+ghost use Rattle.ckd_track.specs.declared.layout.TheConstants.{WRITES_OF_RUN};
 ghost use Rattle.write_trace.specs.Entries.{stamp_of as stamp_of_entry};
 ghost use Rattle.write_trace.specs.Writes.{writes_of};
-ghost use Rattle.sidefile.specs.Runs.{quota};
 ghost use Rattle.sidefile.specs.Looks.{TakesRun, AddsWrites};
 
 use crate::look::{Look, look_ahead};
@@ -25,7 +25,7 @@ pub fn stamp_of(entry: &Entry) -> Stamp
 
 /// Puts the write of an entry, if it has one, behind the writes of its run. Otherwise says why it doesn't stand there.
 pub fn add(alloc: Global, writes: &mut WriteList, entry: Entry) -> Result<(), Look>
-    requires { length writes.old ≤ quota }
+    requires { length writes.old ≤ WRITES_OF_RUN }
     ensures { AddsWrites writes.old writes.new entry result }
 {
     let Entry::Written(write) = entry else {
@@ -50,7 +50,7 @@ pub fn take_run<S: Source>(
 ) -> Look
     requires goes_on { reader.old.stopped ≡ None }
     requires last { reader.old.last ≡ stamp.0 }
-    requires room { length writes.old ≤ quota }
+    requires room { length writes.old ≤ WRITES_OF_RUN }
     ensures { TakesRun (S.left source.old) (S.left source.new) (S.faults source.old) (S.faults source.new) reader.old reader.new stamp.0 writes.old writes.new result }
 {
     loop {

@@ -11,7 +11,7 @@ use Rattle.pair_table.specs.Tables.{in_state}
 use Rattle.xrc_journal.specs.Items.{Earlier, Form, Item, anywhere, are_items_behind, behind, is_item}
 use Rattle.xrc_journal.specs.Items.Item.{Pair}
 use Rattle.site_store.specs.declared.hits.Hits.{Hits}
-use Rattle.site_store.specs.Hits.{is_hit_by, pair_in, pairs_with_next, state_by_hits, with_hits}
+use Rattle.site_store.specs.Hits.{is_hit_by, is_reached_by, pair_in, pairs_with_next, state_by_hits, with_hits}
 use Rattle.site_store.proofs.RowPuts.{changed_is_row}
 
 module _ (hits : Hits) (time : hits.time.0 < 2 ^ 64) where
@@ -33,7 +33,7 @@ module _ (hits : Hits) (time : hits.time.0 < 2 ^ 64) where
   hits_keep [] are earlier = refl
   hits_keep (r ∷ rows) are earlier =
       let parts = and_parts (is_row r) (list_all is_row rows) are in
-      by_hits (is_hit_by hits r.device) hits.reaches r (pairs_with_next (with_hits hits) rows) parts.0 (hits_keep rows parts.1) earlier
+      by_hits (is_hit_by hits r.device) (is_reached_by hits r.device) r (pairs_with_next (with_hits hits) rows) parts.0 (hits_keep rows parts.1) earlier
 
 -- Items that keep them behind whatever items keep them behind these.
 pub keep_both : (form : Form) (earlier : Earlier) (xs ys : List Item) → are_items_behind form earlier xs ≡ true → ((e : Earlier) → are_items_behind form e ys ≡ true) → are_items_behind form earlier (xs ++ ys) ≡ true

@@ -1,5 +1,5 @@
 -- Which rows are hit, one row after another.
-use Rattle.std.proofs.Common.{◌≡◌, inl, inr, ℕ, zero, suc, ◌<◌, set, Some, None, ◌==◌, ◌&&◌, ◌||◌, cond, Bool, true, false, List, [], ◌∷◌, length, map, filter, get_or, refl, sym, ap, subst, ◌∙◌, arith}
+use Rattle.std.proofs.Common.{◌≡◌, inl, inr, ℕ, zero, suc, ◌<◌, set, Some, ◌==◌, ◌&&◌, ◌||◌, cond, Bool, true, false, List, [], ◌∷◌, length, map, filter, get_or, refl, sym, ap, subst, ◌∙◌, arith}
 use Rattle.std.specs.Prelude.{slice_get, nat_lt}
 use Rattle.std.specs.List.{list_any}
 use Rattle.std.proofs.lemmas.Bool.{and_parts, cases_eq, eq-eqb, ltb-true, ne_eqb}
@@ -79,9 +79,3 @@ flag_or flags i d b within = elim (cases_eq i d) [
     or_false : (c : Bool) → (c || false) ≡ c
     or_false true = refl
     or_false false = refl
-
--- Within the rows one stands.
-pub none_within : (rows : List PairRow) (i : ℕ) → i < length rows → None ≡ slice_get rows i → ⊥
-none_within [] i lt is = absurd (omega (arith, lt))
-none_within (r ∷ rows) zero lt is = absurd (cc is)
-none_within (r ∷ rows) (suc i) lt is = none_within rows i (omega (arith, lt)) is

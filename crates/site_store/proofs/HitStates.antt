@@ -1,7 +1,6 @@
 -- The states that hits give rows, as those of records and marks.
-use Rattle.std.proofs.Common.{◌≡◌, ℕ, ◌<◌, ◌&&◌, ◌||◌, Bool, true, false, List, [], ◌∷◌, Option, Some, None, refl, sym, ap, ◌∙◌}
-use Rattle.std.specs.Prelude.{if◌then◌else◌, nat_lt, not}
-use Rattle.std.specs.List.{list_all}
+use Rattle.std.proofs.Common.{◌≡◌, ℕ, ◌<◌, ◌&&◌, Bool, true, false, cond, get_or, List, [], ◌∷◌, Option, Some, None, refl, sym, ◌∙◌}
+use Rattle.std.specs.Prelude.{nat_lt, not}
 use Rattle.std.proofs.lemmas.Bool.{and_parts, ltb-true}
 use Rattle.tod_stamp.specs.declared.stamp.Stamp.{Stamp}
 use Rattle.pair_table.specs.declared.level.Level.{Level}
@@ -9,69 +8,67 @@ use Rattle.pair_table.specs.declared.level.Level.TheVariants.{Volume as VolumeLe
 use Rattle.pair_table.specs.declared.row.PairRow.{PairRow}
 use Rattle.pair_table.specs.declared.row.PairState.{PairState}
 use Rattle.pair_table.specs.declared.row.SuspendCause.TheVariants.{Device, Session}
-use Rattle.pair_table.specs.Devices.{is_among}
 use Rattle.pair_table.specs.Rows.{is_suspended}
 use Rattle.pair_table.specs.Tables.{are_below}
-use Rattle.row_changes.specs.Changes.{is_session_level, since}
-use Rattle.record_rows.specs.ChangedRows.{later_state, rows_in_states, state_reached, state_told, state_with_record}
+use Rattle.row_changes.specs.Changes.{reach_of, reaches_others, since}
+use Rattle.record_rows.specs.ChangedRows.{later_state, rows_in_states, state_told, state_with_record}
 use Rattle.record_rows.specs.GroupRows.{row_in, row_with_group, state_with_group}
-use Rattle.record_rows.specs.Hits.{hit_now}
+use Rattle.record_rows.specs.Hits.{hit_now, is_reached}
 use Rattle.record_rows.specs.Records.{rows_behind_mark, rows_with_hits}
 use Rattle.pending_queue.specs.Groups.{FormedGroup}
 use Rattle.record_rows.proofs.Changed.{behind_marks_change, hits_change}
+use Rattle.site_store.specs.declared.hits.HitDevices.{HitDevices}
 use Rattle.site_store.specs.declared.hits.Hits.{Hits}
-use Rattle.site_store.specs.Hits.{AreHits, are_some, next_by_hits, state_by_hits, state_or, with_group_and_hits, with_hits}
+use Rattle.site_store.specs.Hits.{AreDevices, AreHits, is_hit_by, is_reached_by, next_by_hits, state_by_hits, state_or, with_group_and_hits, with_hits}
 
-or_false : (a : Bool) → (a || false) ≡ a
-or_false true = refl
-or_false false = refl
+-- ---- whom hits reach
 
-or_implied : (a b : Bool) → (b ≡ true → a ≡ true) → (a || b) ≡ a
-or_implied true b so = refl
-or_implied false true so = sym (so refl)
-or_implied false false so = refl
+-- what is said of a device's row
+abbrev pub reaches_by : Level → HitDevices → (device : ℕ) → Bool
+reaches_by level hit d = (reaches_others level && hit.any) && not (get_or hit.are d false)
+
+pub reaches_is : (level : Level) (devices : List ℕ) (hit : HitDevices) (rows : List PairRow) (r : PairRow) → AreDevices devices hit → r.device < 64 → reaches_by level hit r.device ≡ is_reached (reach_of level rows) devices r
+reaches_is VolumeLevel [] hit rows r are lt = refl
+reaches_is VolumeLevel (d ∷ devices) hit rows r are lt = refl
+reaches_is SessionLevel [] hit rows r are lt = λ i. are.any_is i && not (get_or hit.are r.device false)
+reaches_is SessionLevel (d ∷ devices) hit rows r are lt = λ i. are.any_is i && not (are.flags r.device lt i)
 
 -- ---- one row
 
--- a row of which it is told whether it is hit, where some are
-by_hit : (level : Level) (time : Stamp) (b x : Bool) (devices : List ℕ) (r : PairRow) → is_among r.device devices ≡ b
-    → state_by_hits b (is_session_level level && (x || true)) time r.state ≡ (if b then Some (since Device time.0) else state_reached level time.0 devices r)
-by_hit level time true x devices r is = refl
-by_hit VolumeLevel time false x devices r is = refl
-by_hit SessionLevel time false true devices r is = ap (λ (b : Bool). if b then None else Some (since Session time.0)) (sym (ap (λ (b : Bool). is_suspended r.state || b) is ∙ or_false (is_suspended r.state)))
-by_hit SessionLevel time false false devices r is = ap (λ (b : Bool). if b then None else Some (since Session time.0)) (sym (ap (λ (b : Bool). is_suspended r.state || b) is ∙ or_false (is_suspended r.state)))
+-- The session suspends the rows that hits reach.
+reach_cause : (level : Level) (rows : List PairRow) → (reach_of level rows).cause ≡ Session
+reach_cause VolumeLevel rows = refl
+reach_cause SessionLevel rows = refl
 
-by_lists : (level : Level) (time : Stamp) (marked hit : List ℕ) (r : PairRow) → (is_among r.device marked ≡ true → is_suspended r.state ≡ true)
-    → state_by_hits (is_among r.device hit) (is_session_level level && (are_some marked || are_some hit)) time r.state ≡ state_told level time.0 marked hit r
-by_lists VolumeLevel time [] [] r so = refl
-by_lists SessionLevel time [] [] r so = refl
-by_lists VolumeLevel time (m ∷ marked) [] r so = refl
-by_lists SessionLevel time (m ∷ marked) [] r so = ap (λ (b : Bool). if b then None else Some (since Session time.0)) (sym (or_implied (is_suspended r.state) (is_among r.device (m ∷ marked)) so))
-by_lists level time [] (d ∷ hit) r so = by_hit level time (is_among r.device (d ∷ hit)) false (d ∷ hit) r refl
-by_lists level time (m ∷ marked) (d ∷ hit) r so = by_hit level time (is_among r.device (d ∷ hit)) true (d ∷ hit) r refl
+by_flags : (h q : Bool) (time : Stamp) (state : PairState) → state_by_hits h q time state ≡ cond h (Some (since Device time.0)) (cond (q && not (is_suspended state)) (Some (since Session time.0)) None)
+by_flags true q time state = refl
+by_flags false false time state = refl
+by_flags false true time state = by_state (is_suspended state)
+  where
+    by_state : (b : Bool) → cond b None (Some (since Session time.0)) ≡ cond (not b) (Some (since Session time.0)) None
+    by_state true = refl
+    by_state false = refl
 
--- Hits change a row as a record tells it that comes behind a mark with these hits, or with none. The rows that the mark hit are suspended.
-pub told_state : (level : Level) (time : Stamp) (failed : List Bool) (due : Bool) (marked : List ℕ) (all : List PairRow) (hits : Hits) → AreHits level time failed due all hits → due ≡ are_some marked → (r : PairRow) → r.device < 64
-    → (is_among r.device marked ≡ true → is_suspended r.state ≡ true) → with_hits hits r ≡ state_told level time.0 marked (hit_now failed all) r
-told_state level time failed due marked all hits are is_due r lt so =
-    let hit = hit_now failed all in
-    ap (λ (b : Bool). state_by_hits b hits.reaches hits.time r.state) (are.devices r.device lt)
-    ∙ ap (λ (b : Bool). state_by_hits (is_among r.device hit) b hits.time r.state) (are.reaches ∙ ap (λ (b : Bool). is_session_level level && (b || are_some hit)) is_due)
-    ∙ ap (λ (t : Stamp). state_by_hits (is_among r.device hit) (is_session_level level && (are_some marked || are_some hit)) t r.state) are.time_is
-    ∙ by_lists level time marked hit r so
+module _ (level : Level) (time : Stamp) (failed : List Bool) (marked : List ℕ) (all : List PairRow) (hits : Hits) (are : AreHits level time failed marked all hits) where
+  -- Hits change a row as a record tells it that comes behind a mark with these hits, or with none.
+  pub told_state : (r : PairRow) → r.device < 64 → with_hits hits r ≡ state_told (reach_of level all) time.0 marked (hit_now failed all) r
+  told_state r lt =
+      let hit = hit_now failed all in
+      let reach = reach_of level all in
+      by_flags (is_hit_by hits r.device) (is_reached_by hits r.device) hits.time r.state
+      ∙ (λ i. cond (are.devices r.device lt i) (Some (since Device (are.time_is i).0)) (cond (are.reached all r lt i && not (is_suspended r.state)) (Some (since (sym (reach_cause level all) i) (are.time_is i).0)) None))
 
--- ---- all rows
+  -- ---- all rows
 
-in_states_told : (level : Level) (time : Stamp) (failed : List Bool) (all rows : List PairRow) (hits : Hits) → AreHits level time failed false all hits → are_below 64 rows ≡ true → rows_in_states (with_hits hits) rows ≡ rows_in_states (state_told level time.0 [] (hit_now failed all)) rows
-in_states_told level time failed all [] hits are below = refl
-in_states_told level time failed all (r ∷ rows) hits are below =
-    let parts = and_parts (nat_lt r.device 64) (are_below 64 rows) below in
-    ap (λ (s : Option PairState). row_in r s ∷ rows_in_states (with_hits hits) rows) (told_state level time failed false [] all hits are refl r (ltb-true r.device 64 parts.0) (λ none. cc none))
-    ∙ ap (λ (l : List PairRow). row_in r (state_told level time.0 [] (hit_now failed all) r) ∷ l) (in_states_told level time failed all rows hits are parts.1)
+  in_states_told : (rows : List PairRow) → are_below 64 rows ≡ true → rows_in_states (with_hits hits) rows ≡ rows_in_states (state_told (reach_of level all) time.0 marked (hit_now failed all)) rows
+  in_states_told [] below = refl
+  in_states_told (r ∷ rows) below =
+      let parts = and_parts (nat_lt r.device 64) (are_below 64 rows) below in
+      λ i. row_in r (told_state r (ltb-true r.device 64 parts.0) i) ∷ in_states_told rows parts.1 i
 
 -- The rows behind hits alone.
-pub hits_make_rows : (level : Level) (time : Stamp) (failed : List Bool) (rows : List PairRow) (hits : Hits) → AreHits level time failed false rows hits → are_below 64 rows ≡ true → rows_in_states (with_hits hits) rows ≡ rows_with_hits level time.0 failed rows
-hits_make_rows level time failed rows hits are below = in_states_told level time failed rows rows hits are below ∙ sym (hits_change level time.0 failed rows)
+pub hits_make_rows : (level : Level) (time : Stamp) (failed : List Bool) (rows : List PairRow) (hits : Hits) → AreHits level time failed [] rows hits → are_below 64 rows ≡ true → rows_in_states (with_hits hits) rows ≡ rows_with_hits level time.0 failed rows
+hits_make_rows level time failed rows hits are below = in_states_told level time failed [] rows hits are rows below ∙ sym (hits_change level time.0 failed rows)
 
 -- ---- the rows behind a group
 
@@ -83,26 +80,16 @@ below_in : (n : ℕ) (r : PairRow) (o : Option PairState) → r.device < n → (
 below_in n r (Some state) lt = lt
 below_in n r None lt = lt
 
--- whether a row that a mark hit is suspended behind the group
-abbrev pub is_hit_suspended : (marked : List ℕ) → FormedGroup → PairRow → Bool
-is_hit_suspended marked group r = not (is_among (row_with_group group r).device marked) || is_suspended (row_with_group group r).state
-
-implied : (a b : Bool) → (not a || b) ≡ true → a ≡ true → b ≡ true
-implied true b either so = either
-implied false b either so = cc
-
-in_states_logged : (level : Level) (group : FormedGroup) (failed : List Bool) (due : Bool) (marked : List ℕ) (all rows : List PairRow) (hits : Hits) → AreHits level group.cut failed due all hits → due ≡ are_some marked → are_below 64 rows ≡ true → list_all (is_hit_suspended marked group) rows ≡ true
-    → rows_in_states (with_group_and_hits group hits) rows ≡ rows_in_states (state_with_record level marked (hit_now failed all) group) rows
-in_states_logged level group failed due marked all [] hits are is_due below suspended = refl
-in_states_logged level group failed due marked all (r ∷ rows) hits are is_due below suspended =
+in_states_logged : (level : Level) (group : FormedGroup) (failed : List Bool) (marked : List ℕ) (all rows : List PairRow) (hits : Hits) → AreHits level group.cut failed marked all hits → are_below 64 rows ≡ true
+    → rows_in_states (with_group_and_hits group hits) rows ≡ rows_in_states (state_with_record (reach_of level all) marked (hit_now failed all) group) rows
+in_states_logged level group failed marked all [] hits are below = refl
+in_states_logged level group failed marked all (r ∷ rows) hits are below =
     let parts = and_parts (nat_lt r.device 64) (are_below 64 rows) below in
-    let held = and_parts (is_hit_suspended marked group r) (list_all (is_hit_suspended marked group) rows) suspended in
     let grouped = state_with_group group r in
-    let told = told_state level group.cut failed due marked all hits are is_due (row_with_group group r) (below_in 64 r grouped (ltb-true r.device 64 parts.0)) (implied (is_among (row_with_group group r).device marked) (is_suspended (row_with_group group r).state) held.0) in
-    ap (λ (o : Option PairState). row_in r (later_state o grouped) ∷ rows_in_states (with_group_and_hits group hits) rows) (with_row_in hits r grouped ∙ told)
-    ∙ ap (λ (l : List PairRow). row_in r (state_with_record level marked (hit_now failed all) group r) ∷ l) (in_states_logged level group failed due marked all rows hits are is_due parts.1 held.1)
+    let told = told_state level group.cut failed marked all hits are (row_with_group group r) (below_in 64 r grouped (ltb-true r.device 64 parts.0)) in
+    λ i. row_in r (later_state ((with_row_in hits r grouped ∙ told) i) grouped) ∷ in_states_logged level group failed marked all rows hits are parts.1 i
 
 -- The rows behind a group's record, which may come behind a mark with these hits.
-pub group_makes_rows : (level : Level) (group : FormedGroup) (failed : List Bool) (due : Bool) (marked : List ℕ) (rows : List PairRow) (hits : Hits) → AreHits level group.cut failed due rows hits → due ≡ are_some marked → are_below 64 rows ≡ true → list_all (is_hit_suspended marked group) rows ≡ true
+pub group_makes_rows : (level : Level) (group : FormedGroup) (failed : List Bool) (marked : List ℕ) (rows : List PairRow) (hits : Hits) → AreHits level group.cut failed marked rows hits → are_below 64 rows ≡ true
     → rows_in_states (with_group_and_hits group hits) rows ≡ rows_behind_mark level marked group failed rows
-group_makes_rows level group failed due marked rows hits are is_due below suspended = in_states_logged level group failed due marked rows rows hits are is_due below suspended ∙ sym (behind_marks_change level marked group failed rows)
+group_makes_rows level group failed marked rows hits are below = in_states_logged level group failed marked rows rows hits are below ∙ sym (behind_marks_change level marked group failed rows)

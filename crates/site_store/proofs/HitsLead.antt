@@ -28,7 +28,7 @@ use Rattle.xrc_journal.specs.Items.{Item, item_spelling}
 use Rattle.xrc_journal.specs.Items.Item.{Pair}
 use Rattle.site_store.specs.declared.hits.Hits.{Hits}
 use Rattle.site_store.specs.Changing.{Lead}
-use Rattle.site_store.specs.Hits.{AreHits, NextStates, pair_in, pairs_with_next, state_by_hits, with_hits}
+use Rattle.site_store.specs.Hits.{AreHits, NextStates, is_reached_by, pair_in, pairs_with_next, state_by_hits, with_hits}
 use Rattle.site_store.proofs.Breaks.{eqb_sym_false}
 use Rattle.site_store.proofs.HitStates.{hits_make_rows}
 use Rattle.site_store.proofs.RowsNear.{AreNear, IsNear, bare, bare_rows, near_bare, near_same, near_through, near_unfit, same_are}
@@ -140,11 +140,11 @@ module _ (next : NextStates) where
 
 -- ---- hits
 
-hit_changes : (level : Level) (time : Stamp) (failed : List Bool) (due : Bool) (rows : List PairRow) (hits : Hits) → AreHits level time failed due rows hits → none_clash rows ≡ true → are_below 64 rows ≡ true → ChangeHit (with_hits hits) failed rows
-hit_changes level time failed due rows hits are apart below i row at hit =
+hit_changes : (level : Level) (time : Stamp) (failed : List Bool) (marked : List ℕ) (rows : List PairRow) (hits : Hits) → AreHits level time failed marked rows hits → none_clash rows ≡ true → are_below 64 rows ≡ true → ChangeHit (with_hits hits) failed rows
+hit_changes level time failed marked rows hits are apart below i row at hit =
     let lt = below_at rows i row below at in
     let among : is_among row.device (hit_now failed rows) ≡ true = among_hit failed rows i row (apart_of rows apart) at ∙ hit in
-    (Suspended Device hits.time, ap (λ (b : Bool). state_by_hits b hits.reaches hits.time row.state) (are.devices row.device lt ∙ among))
+    (Suspended Device hits.time, ap (λ (b : Bool). state_by_hits b (is_reached_by hits row.device) hits.time row.state) (are.devices row.device lt ∙ among))
   where
     below_at : (rows : List PairRow) (i : ℕ) (row : PairRow) → are_below 64 rows ≡ true → slice_get rows i ≡ Some row → row.device < 64
     below_at [] i row below is = absurd cc
@@ -167,7 +167,7 @@ near_marked failed time rows apart = marked_near failed time (hit_now failed row
 
 -- ---- a change and its hits
 
-module _ (level : Level) (cut : Stamp) (failed : List Bool) (rows : List PairRow) (hits : Hits) (are : AreHits level cut failed false rows hits) (volumes : ℕ) (keep : are_rows volumes rows ≡ true) (few : are_below 64 rows ≡ true) (changed : List Item) (first : List PairRow)
+module _ (level : Level) (cut : Stamp) (failed : List Bool) (rows : List PairRow) (hits : Hits) (are : AreHits level cut failed [] rows hits) (volumes : ℕ) (keep : are_rows volumes rows ≡ true) (few : are_below 64 rows ≡ true) (changed : List Item) (first : List PairRow)
     (leads : Lead volumes changed first rows) where
   apart : none_clash rows ≡ true
   apart = (rows_parts volumes rows keep).apart
@@ -178,7 +178,7 @@ module _ (level : Level) (cut : Stamp) (failed : List Bool) (rows : List PairRow
       let pairs = pairs_with_next (with_hits hits) rows in
       let then : AreNear failed (rows_through changed ns) rows = subst (λ (l : List PairRow). AreNear failed (rows_through changed ns) l) leads.leads (near_through failed changed ns first near) in
       record {
-        leads = rows_append changed pairs ns ∙ near_lead (with_hits hits) failed (rows_through changed ns) rows then apart (hit_changes level cut failed false rows hits are apart few) ∙ hits_make_rows level cut failed rows hits are few;
+        leads = rows_append changed pairs ns ∙ near_lead (with_hits hits) failed (rows_through changed ns) rows then apart (hit_changes level cut failed [] rows hits are apart few) ∙ hits_make_rows level cut failed rows hits are few;
         fit = unfit_first volumes 0 changed pairs ns (near_unfit failed volumes 0 changed ns first near ∙ leads.fit) (λ p. pairs_fit (with_hits hits) volumes p rows (rows_through changed ns) rows keep (near_bare failed (rows_through changed ns) rows then) apart (λ row among. among));
       }
 

@@ -38,6 +38,7 @@ pub mod HomeJobs
 pub mod MarkFits
 pub mod MarkMade
 pub mod MarkRows
+pub mod NextMark
 pub mod MarkSeen
 pub mod MarkStands
 pub mod Puts

@@ -2,6 +2,7 @@
 use Rattle.std.proofs.Common.{◌≡◌, ◌≢◌, inr, ℕ, ◌+◌, ◌*◌, ◌-◌, ◌^◌, ◌≤◌, ◌<◌, Bool, true, false, List, [], length, Ok, Err, Result, refl, sym, ap, subst, ◌∙◌, arith}
 use Rattle.std.specs.Prelude.{IsErrOf, OnOk}
 use Rattle.std.specs.List.{All}
+use Rattle.ckd_track.specs.declared.layout.TheConstants.{WRITES_OF_RUN}
 use Rattle.crash_plant.specs.declared.device.Device.{Device}
 use Rattle.crash_plant.specs.declared.device.Device.TheVariants.{Journal, Volume}
 use Rattle.crash_plant.specs.declared.spot.Spot.{Spot}
@@ -11,8 +12,9 @@ use Rattle.crash_plant.specs.Moments.{PlantState}
 use Rattle.applier.specs.Returns.{OnlyReads, WorksOnLent}
 use Rattle.applier.proofs.Works.{works_lent_more, works_lent_trans}
 use Rattle.pair_table.specs.declared.level.Level.{Level}
+use Rattle.pair_table.specs.declared.level.Level.TheVariants.{Volume as VolumeLevel}
 use Rattle.pair_table.specs.declared.row.PairRow.{PairRow}
-use Rattle.pending_queue.specs.Groups.{FormedGroup, most_of_control}
+use Rattle.pending_queue.specs.Groups.{FormedGroup}
 use Rattle.record_rows.specs.ChangedRows.{rows_in_states}
 use Rattle.record_rows.specs.Hits.{hit_now}
 use Rattle.record_rows.specs.Records.{rows_behind_mark, rows_with_record}
@@ -28,19 +30,21 @@ use Rattle.site_store.specs.Causes.{FailByCounts, HasStoreCause}
 use Rattle.site_store.specs.Hits.{AreHits, are_some, with_group_and_hits}
 use Rattle.site_store.specs.Jobs.{body_room}
 use Rattle.site_store.specs.Logging.{FailByEntries, FormsRecord, HasEntryOn, IsOfLog, IsOfSomeRow, LogsBy, LogsGroup, MayLog, StaysUnwritten, rows_before, rows_logged}
-use Rattle.site_store.specs.Marking.{MakesMark}
+use Rattle.site_store.specs.Marking.{MakesMark, behind_next_mark, rows_at_mark}
 use Rattle.site_store.specs.Recording.{HasRoomBehindSwitch, MayPutRecord, ShowsRecord, group_with}
 use Rattle.site_store.specs.Records.{IsJournal, IsOfMark, behind_mark, one_more}
 use Rattle.site_store.specs.Sites.{SiteState}
 use Rattle.site_store.specs.Standing.{FitsPlant, Leaves, MayRecord, SiteStands, none_excepted}
 use Rattle.site_store.specs.Placements.{is_spent, record_needs_more, placement_from}
-use Rattle.site_store.proofs.LogFails.{StoresQuiet, cause_then, fails_trans, quiet_reads, spent_cause}
+use Rattle.site_store.proofs.LogFails.{StoresQuiet, cause_then, fails_trans, quiet_ok, quiet_reads, spent_cause}
 use Rattle.site_store.proofs.LogForms.{FirstForm, HasPlace, fits_formed, formed_ready, formed_stands, forms_first, group_behind_mark, logs_spent, marked_entries, marked_stage, plain_place, plain_stage}
 use Rattle.site_store.proofs.LogPut.{IsReady, logged_site, may_put}
 use Rattle.site_store.proofs.LogReads.{with_failed}
 use Rattle.site_store.proofs.LogStage.{PutStage, put_cause, put_failed, put_fails, put_leaves, put_logs, put_others}
 use Rattle.site_store.proofs.LogStart.{FormedBy, first_formed, first_rows, formed_short, marked_formed, marked_rows, placement_still}
 use Rattle.site_store.proofs.MarkFirst.{room_behind_mark, suffice}
+use Rattle.site_store.proofs.MarkRows.{hits_alone}
+use Rattle.site_store.proofs.NextMark.{behind_level, makes_alone}
 use Rattle.site_store.proofs.RecordPuts.{on_ok}
 
 -- ---- a record put, from any stage
@@ -98,19 +102,19 @@ pub record IsFirst (tells : Type 0) (group : FormedGroup) (site : SiteState) (ol
   pub placement_is : placement ≡ placement_from mid site.at site.mark.at items
 
 module _ (tells : Type 0) (group : FormedGroup) (site : SiteState) (old mid : PlantState) (held now : BodyState) (due was failed : List Bool) (hits : Hits) (ready : MayRecord tells site old) (told_is : site.told ≡ site.table.rows)
-    (forms : FormsRecord tells group site.table.rows old held now due failed hits) (are : AreHits site.level group.cut failed false site.table.rows hits) where
+    (forms : FormsRecord tells group site.table.rows old held now due failed hits) (are : AreHits site.level group.cut failed [] site.table.rows hits) where
   forms_told : FormsRecord tells group site.told old held now due failed hits
   forms_told = subst (λ (rows : List PairRow). FormsRecord tells group rows old held now due failed hits) (sym told_is) forms
 
-  hits_told : AreHits site.level group.cut failed false site.told hits
-  hits_told = subst (λ (rows : List PairRow). AreHits site.level group.cut failed false rows hits) (sym told_is) are
+  hits_told : AreHits site.level group.cut failed [] site.told hits
+  hits_told = subst (λ (rows : List PairRow). AreHits site.level group.cut failed [] rows hits) (sym told_is) are
 
   -- the rows behind it
   pub first_after : rows_in_states (with_group_and_hits group hits) site.table.rows ≡ rows_with_record site.level group failed site.told
   first_after = ap (λ (rows : List PairRow). rows_in_states (with_group_and_hits group hits) rows) (sym told_is) ∙ first_rows tells group site old held now due failed hits forms_told ready.fast.fits hits_told
 
   pub is_first : (placement : Placement) → MayLog site group → was ≡ site.failed → FailByCounts was failed old.faults mid.faults → FailByEntries site.table.rows group.entries was failed → OnlyReads tells old mid → NoneLent mid → WorksOnLent tells (λ device. (d : ℕ) × (device ≡ Volume d) × HasEntryOn site.table.rows group.entries d) old mid
-      → length group.entries ≤ most_of_control * group.controls → placement ≡ placement_from mid site.at site.mark.at now.items → IsFirst tells group site old mid failed now.items placement
+      → length group.entries ≤ WRITES_OF_RUN * group.controls → placement ≡ placement_from mid site.at site.mark.at now.items → IsFirst tells group site old mid failed now.items placement
   is_first placement may was_is fails enters reads home works few placement_is = record {
     ready = ready;
     may = may;
@@ -246,6 +250,18 @@ pub record MadeMark (tells : Type 0) (site behind : SiteState) (old marked : Pla
   pub quiet : StoresQuiet old.faults marked.faults
   pub fails : FailByCounts site.failed behind.failed old.faults marked.faults
 
+-- So it is where no change waits to be logged: the mark's rows tell the hits alone.
+pub made_mark : (tells : Type 0) (site behind : SiteState) (old marked : PlantState) → site.is_ahead ≡ false → behind ≡ behind_next_mark site.mark.ended (rows_at_mark VolumeLevel site behind.failed) behind.failed site → Leaves tells (λ e. none_excepted) site behind old marked
+    → MakesMark tells site.mark.ended (rows_at_mark VolumeLevel site behind.failed) site behind old marked (Ok tt) → WorksOn tells (IsOfMark site) old marked → HasStoreCause old.faults marked.faults (Ok tt) → FailByCounts site.failed behind.failed old.faults marked.faults → MadeMark tells site behind old marked
+made_mark tells site behind old marked level is leaves makes works cause fails = record {
+  is = is ∙ behind_level site.mark.ended (rows_at_mark VolumeLevel site behind.failed) behind.failed site level ∙ ap (λ (rows : List PairRow). behind_mark site.mark.ended rows behind.failed site) (hits_alone site.time behind.failed site.told);
+  leaves = leaves;
+  makes = makes_alone tells site.mark.ended behind.failed site behind old marked (Ok tt) makes;
+  works = works;
+  quiet = quiet_ok old.faults marked.faults cause;
+  fails = fails;
+}
+
 -- the rows behind the record
 abbrev pub rows_after : FormedGroup → (site behind : SiteState) → (failed : List Bool) → List PairRow
 rows_after group site behind failed = rows_behind_mark behind.level (hit_now behind.failed site.told) group failed behind.told
@@ -280,22 +296,21 @@ module _ (tells : Type 0) (group : FormedGroup) (site behind : SiteState) (old m
   pub behind_few : group.controls ≤ behind.controls
   behind_few = omega (arith, may.controls, ap (λ (s : SiteState). s.controls) mark.is)
 
-  module _ (last : PlantState) (held now : BodyState) (due was failed : List Bool) (reached : Bool) (hits : Hits) (forms : FormsRecord tells group behind.table.rows marked held now due failed hits) (are : AreHits behind.level group.cut failed reached behind.table.rows hits)
-      (reached_is : reached ≡ are_some (hit_now behind.failed site.told)) where
+  module _ (last : PlantState) (held now : BodyState) (due was failed : List Bool) (hits : Hits) (forms : FormsRecord tells group behind.table.rows marked held now due failed hits) (are : AreHits behind.level group.cut failed (hit_now behind.failed site.told) behind.table.rows hits) where
     told_forms : FormsRecord tells group behind.told marked held now due failed hits
     told_forms = subst (λ (rows : List PairRow). FormsRecord tells group rows marked held now due failed hits) (sym behind_told) forms
 
-    told_hits : AreHits behind.level group.cut failed reached behind.told hits
-    told_hits = subst (λ (rows : List PairRow). AreHits behind.level group.cut failed reached rows hits) (sym behind_told) are
+    told_hits : AreHits behind.level group.cut failed (hit_now behind.failed site.told) behind.told hits
+    told_hits = subst (λ (rows : List PairRow). AreHits behind.level group.cut failed (hit_now behind.failed site.told) rows hits) (sym behind_told) are
 
     -- the rows behind it
     pub behind_after : rows_in_states (with_group_and_hits group hits) behind.table.rows ≡ rows_after group site behind failed
     behind_after =
         ap (λ (rows : List PairRow). rows_in_states (with_group_and_hits group hits) rows) (sym behind_told)
-        ∙ marked_rows tells group behind marked held now due failed hits told_forms mark.leaves.fits (hit_now behind.failed site.told) site.time site.told reached (ap (λ (s : SiteState). s.told) mark.is) reached_is told_hits
+        ∙ marked_rows tells group behind marked held now due failed hits told_forms mark.leaves.fits (hit_now behind.failed site.told) told_hits
 
     pub is_behind : site.at.number < 2 ^ 64 - 2 → was ≡ behind.failed → FailByCounts was failed marked.faults last.faults → FailByEntries behind.table.rows group.entries was failed → OnlyReads tells marked last → NoneLent last
-        → WorksOnLent tells (λ device. (d : ℕ) × (device ≡ Volume d) × HasEntryOn behind.table.rows group.entries d) marked last → length group.entries ≤ most_of_control * group.controls → IsBehind tells group site behind old marked last failed now.items
+        → WorksOnLent tells (λ device. (d : ℕ) × (device ≡ Volume d) × HasEntryOn behind.table.rows group.entries d) marked last → length group.entries ≤ WRITES_OF_RUN * group.controls → IsBehind tells group site behind old marked last failed now.items
     is_behind number was_is fails enters reads home works few = record {
       idle = ready.idle;
       late = may.cut;
@@ -303,7 +318,7 @@ module _ (tells : Type 0) (group : FormedGroup) (site behind : SiteState) (old m
       stands = ready.fast.stands;
       number = number;
       mark = mark;
-      by = marked_formed tells group behind marked held now due failed hits told_forms mark.leaves.fits (hit_now behind.failed site.told) site.time site.told reached (ap (λ (s : SiteState). s.told) mark.is) reached_is told_hits;
+      by = marked_formed tells group behind marked held now due failed hits told_forms mark.leaves.fits (hit_now behind.failed site.told) told_hits;
       works = works;
       reads = reads;
       home = home;

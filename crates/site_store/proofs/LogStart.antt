@@ -1,8 +1,9 @@
 -- A group's record as it was formed from a site's rows, over plain states.
-use Rattle.std.proofs.Common.{◌≡◌, ◌≢◌, ℕ, ◌+◌, ◌*◌, ◌-◌, ◌^◌, ◌≤◌, ◌==◌, Bool, true, false, List, length, None, refl, sym, ap, subst, ◌∙◌, arith}
+use Rattle.std.proofs.Common.{◌≡◌, ◌≢◌, ℕ, ◌+◌, ◌*◌, ◌-◌, ◌^◌, ◌≤◌, ◌==◌, Bool, true, false, List, [], length, None, refl, sym, ap, subst, ◌∙◌, arith}
 use Rattle.std.specs.Prelude.{nat_le, if◌then◌else◌}
 use Rattle.std.specs.List.{list_all}
 use Rattle.std.proofs.lemmas.Bool.{eqb-false, eqb-true}
+use Rattle.ckd_track.specs.declared.layout.TheConstants.{WRITES_OF_RUN}
 use Rattle.crash_plant.specs.declared.device.Device.TheVariants.{Journal}
 use Rattle.crash_plant.specs.declared.spot.Spot.{Spot}
 use Rattle.crash_plant.specs.Calls.{SameSite}
@@ -10,7 +11,7 @@ use Rattle.crash_plant.specs.Moments.{PlantState}
 use Rattle.pair_table.specs.declared.row.PairRow.{PairRow}
 use Rattle.pair_table.specs.Tables.{are_below}
 use Rattle.pending_queue.specs.Entries.{WaitingEntry}
-use Rattle.pending_queue.specs.Groups.{FormedGroup, most_of_control}
+use Rattle.pending_queue.specs.Groups.{FormedGroup}
 use Rattle.record_rows.specs.ChangedRows.{rows_in_states}
 use Rattle.record_rows.specs.Records.{rows_behind_mark, rows_with_record}
 use Rattle.record_rows.specs.Hits.{rows_marked}
@@ -31,7 +32,7 @@ use Rattle.site_store.specs.Sites.{SiteState}
 use Rattle.site_store.specs.Standing.{FitsPlant, row_has_volume}
 use Rattle.site_store.specs.Placements.{placement_from}
 use Rattle.site_store.proofs.Below.{below_volumes}
-use Rattle.site_store.proofs.LogRows.{marked_makes_rows, record_makes_rows}
+use Rattle.site_store.proofs.HitStates.{group_makes_rows}
 use Rattle.site_store.proofs.RecordPairsFit.{next_have_volumes}
 
 -- The items of a record lead from a site's rows to these, which tell the jobs that have failed.
@@ -54,30 +55,24 @@ module _ (tells : Type 0) (group : FormedGroup) (site : SiteState) (plant : Plan
   low_rows = below_volumes plant 64 site.told fits.lengths.volumes fits.told
 
   -- Alone it tells the hits of all jobs that have failed.
-  pub first_rows : AreHits site.level group.cut failed false site.told hits → rows_in_states (with_group_and_hits group hits) site.told ≡ rows_with_record site.level group failed site.told
-  first_rows are = record_makes_rows site.level group failed site.told hits are low_rows
+  pub first_rows : AreHits site.level group.cut failed [] site.told hits → rows_in_states (with_group_and_hits group hits) site.told ≡ rows_with_record site.level group failed site.told
+  first_rows are = group_makes_rows site.level group failed [] site.told hits are low_rows
 
-  pub first_formed : AreHits site.level group.cut failed false site.told hits → FormedBy tells group site plant failed now.items (rows_with_record site.level group failed site.told)
+  pub first_formed : AreHits site.level group.cut failed [] site.told hits → FormedBy tells group site plant failed now.items (rows_with_record site.level group failed site.told)
   first_formed are = formed_by (rows_with_record site.level group failed site.told) (first_rows are) (records_tell site.level group failed site.told (apart_of site.told forms.rules.apart))
 
   -- Behind a mark it brings the rows that the mark's hits reach, too.
-  pub marked_rows : (hit : List ℕ) (time : ℕ) (rows : List PairRow) (due : Bool) → site.told ≡ rows_marked time hit rows → due ≡ are_some hit → AreHits site.level group.cut failed due site.told hits
-      → rows_in_states (with_group_and_hits group hits) site.told ≡ rows_behind_mark site.level hit group failed site.told
-  marked_rows hit time rows due is is_due are =
-      ap (λ (l : List PairRow). rows_in_states (with_group_and_hits group hits) l) is
-      ∙ marked_makes_rows site.level group failed hit time rows due hits is_due (subst (λ (l : List PairRow). AreHits site.level group.cut failed due l hits) is are) (ap (λ (l : List PairRow). are_below 64 l) (sym is) ∙ low_rows)
-      ∙ ap (λ (l : List PairRow). rows_behind_mark site.level hit group failed l) (sym is)
+  pub marked_rows : (hit : List ℕ) → AreHits site.level group.cut failed hit site.told hits → rows_in_states (with_group_and_hits group hits) site.told ≡ rows_behind_mark site.level hit group failed site.told
+  marked_rows hit are = group_makes_rows site.level group failed hit site.told hits are low_rows
 
-  pub marked_formed : (hit : List ℕ) (time : ℕ) (rows : List PairRow) (due : Bool) → site.told ≡ rows_marked time hit rows → due ≡ are_some hit → AreHits site.level group.cut failed due site.told hits
-      → FormedBy tells group site plant failed now.items (rows_behind_mark site.level hit group failed site.told)
-  marked_formed hit time rows due is is_due are =
-      formed_by (rows_behind_mark site.level hit group failed site.told) (marked_rows hit time rows due is is_due are) (behind_marks_tell site.level hit group failed site.told (apart_of site.told forms.rules.apart))
+  pub marked_formed : (hit : List ℕ) → AreHits site.level group.cut failed hit site.told hits → FormedBy tells group site plant failed now.items (rows_behind_mark site.level hit group failed site.told)
+  marked_formed hit are = formed_by (rows_behind_mark site.level hit group failed site.told) (marked_rows hit are) (behind_marks_tell site.level hit group failed site.told (apart_of site.told forms.rules.apart))
 
 -- The body has room for the largest record of the site's controls.
-pub formed_short : (controls of : ℕ) (entries : List WaitingEntry) (items : List Item) → of ≤ controls → length entries ≤ most_of_control * of → length (body_spelling items) ≤ 56669 * length entries + 64 * 31 → length (body_spelling items) ≤ body_room controls
+pub formed_short : (controls of : ℕ) (entries : List WaitingEntry) (items : List Item) → of ≤ controls → length entries ≤ WRITES_OF_RUN * of → length (body_spelling items) ≤ 56669 * length entries + 64 * 31 → length (body_spelling items) ≤ body_room controls
 formed_short controls of entries items fit few short = omega (arith, fit, few, short)
 
-pub room_formed : (controls of room : ℕ) (entries : List WaitingEntry) → room ≡ body_room controls → of ≤ controls → length entries ≤ most_of_control * of → 56670 * length entries + 64 * 31 ≤ room
+pub room_formed : (controls of room : ℕ) (entries : List WaitingEntry) → room ≡ body_room controls → of ≤ controls → length entries ≤ WRITES_OF_RUN * of → 56670 * length entries + 64 * 31 ≤ room
 room_formed controls of room entries is fit few = omega (arith, is, fit, few)
 
 -- Reads leave the placement.

@@ -5,18 +5,19 @@ use Rattle.std.specs.List.{list_all, list_any}
 use Rattle.std.proofs.lemmas.Bool.{and_from, and_parts}
 use Rattle.crash_plant.specs.Moments.{PlantState}
 use Rattle.pair_table.specs.declared.level.Level.{Level}
-use Rattle.pair_table.specs.declared.level.Level.TheVariants.{Volume as VolumeLevel, Session as SessionLevel}
+use Rattle.pair_table.specs.declared.level.Level.TheVariants.{Volume as VolumeLevel}
 use Rattle.pair_table.specs.declared.row.PairRow.{PairRow}
 use Rattle.pair_table.specs.declared.row.PairState.{PairState}
 use Rattle.pair_table.specs.declared.row.PairState.TheVariants.{Pending, Copy, Duplex, Suspended}
-use Rattle.pair_table.specs.declared.row.SuspendCause.TheVariants.{Device, Session}
+use Rattle.pair_table.specs.declared.row.SuspendCause.TheVariants.{Device}
 use Rattle.pair_table.specs.Devices.{is_among}
 use Rattle.pair_table.specs.Rows.{is_suspended}
 use Rattle.pair_table.specs.Tables.{are_below, is_of}
-use Rattle.row_changes.specs.Changes.{since}
-use Rattle.record_rows.specs.ChangedRows.{rows_in_states, state_reached, state_told}
+use Rattle.row_changes.specs.Changes.{FaultReach, reach_of, since}
+use Rattle.record_rows.specs.ChangedRows.{rows_in_states, state_told}
 use Rattle.record_rows.specs.GroupRows.{row_in}
-use Rattle.record_rows.specs.Hits.{hit_now, is_device_suspended, is_down, is_hit_now, rows_hit, rows_marked}
+use Rattle.record_rows.specs.Hits.{hit_now, is_down, is_hit_now, is_reached, rows_hit, rows_marked}
+use Rattle.pair_table.specs.States.{is_device_suspended}
 use Rattle.record_rows.specs.Records.{rows_with_hits}
 use Rattle.record_rows.proofs.Changed.{hits_change}
 use Rattle.record_rows.proofs.GroupSteps.{device_in}
@@ -53,7 +54,7 @@ in_states_have plant state (r ∷ rows) have =
 -- Rows with hits are on volumes of the plant as before.
 pub hits_have : (plant : PlantState) (level : Level) (time : ℕ) (failed : List Bool) (rows : List PairRow) → list_all (row_has_volume plant) rows ≡ true → list_all (row_has_volume plant) (rows_with_hits level time failed rows) ≡ true
 hits_have plant level time failed rows have =
-    ap (list_all (row_has_volume plant)) (hits_change level time failed rows) ∙ in_states_have plant (state_told level time [] (hit_now failed rows)) rows have
+    ap (list_all (row_has_volume plant)) (hits_change level time failed rows) ∙ in_states_have plant (state_told (reach_of level rows) time [] (hit_now failed rows)) rows have
 
 -- Rows in other states are of the devices that they were of.
 pub in_states_below : (n : ℕ) (state : PairRow → Option PairState) (rows : List PairRow) → are_below n rows ≡ true → are_below n (rows_in_states state rows) ≡ true
@@ -71,27 +72,25 @@ suspended_too Copy is = cc
 suspended_too Duplex is = cc
 suspended_too (Suspended cause time) is = refl
 
--- A suspended row isn't reached.
-not_reached : (level : Level) (time : ℕ) (devices : List ℕ) (r : PairRow) → is_suspended r.state ≡ true → state_reached level time devices r ≡ None
-not_reached VolumeLevel time devices r is = refl
-not_reached SessionLevel time devices r is = ap (λ (b : Bool). cond (b || is_among r.device devices) None (Some (since Session time))) is
+-- A row that isn't hit and that is suspended stays as it is.
+kept_state : (reach : FaultReach) (time : ℕ) (hit : List ℕ) (r : PairRow) → is_among r.device hit ≡ false → is_suspended r.state ≡ true → state_told reach time [] hit r ≡ None
+kept_state reach time hit r not_hit is =
+    (λ i. cond (not_hit i) (Some (since Device time)) (cond (is_reached reach hit r && not (is i)) (Some (since reach.cause time)) None)) ∙ not_reached (is_reached reach hit r)
+  where
+    not_reached : (b : Bool) → cond (b && false) (Some (since reach.cause time)) None ≡ None
+    not_reached true = refl
+    not_reached false = refl
 
--- A row that isn't hit and that its device suspends stays as it is.
-kept_state : (level : Level) (time : ℕ) (hit : List ℕ) (r : PairRow) → is_among r.device hit ≡ false → is_suspended r.state ≡ true → state_told level time [] hit r ≡ None
-kept_state level time [] r not_hit is = refl
-kept_state level time (d ∷ hit) r not_hit is = ap (λ (b : Bool). cond b (Some (since Device time)) (state_reached level time (d ∷ hit) r)) not_hit ∙ not_reached level time (d ∷ hit) r is
-
-hit_state : (level : Level) (time : ℕ) (hit : List ℕ) (r : PairRow) → is_among r.device hit ≡ true → state_told level time [] hit r ≡ Some (since Device time)
-hit_state level time [] r is = cc
-hit_state level time (d ∷ hit) r is = ap (λ (b : Bool). cond b (Some (since Device time)) (state_reached level time (d ∷ hit) r)) is
+hit_state : (reach : FaultReach) (time : ℕ) (hit : List ℕ) (r : PairRow) → is_among r.device hit ≡ true → state_told reach time [] hit r ≡ Some (since Device time)
+hit_state reach time hit r is = λ i. cond (is i) (Some (since Device time)) (cond (is_reached reach hit r && not (is_suspended r.state)) (Some (since reach.cause time)) None)
 
 -- The row of a failed device is suspended by it.
-told_suspended : (level : Level) (time : ℕ) (failed : List Bool) (hit : List ℕ) (r : PairRow) → is_down failed r.device ≡ true → (is_hit_now failed r ≡ true → is_among r.device hit ≡ true) → is_device_suspended (row_in r (state_told level time [] hit r)).state ≡ true
-told_suspended level time failed hit r down so = by_hit (is_among r.device hit) refl (is_device_suspended r.state) refl
+told_suspended : (reach : FaultReach) (time : ℕ) (failed : List Bool) (hit : List ℕ) (r : PairRow) → is_down failed r.device ≡ true → (is_hit_now failed r ≡ true → is_among r.device hit ≡ true) → is_device_suspended (row_in r (state_told reach time [] hit r)).state ≡ true
+told_suspended reach time failed hit r down so = by_hit (is_among r.device hit) refl (is_device_suspended r.state) refl
   where
-    by_hit : (b : Bool) → is_among r.device hit ≡ b → (s : Bool) → is_device_suspended r.state ≡ s → is_device_suspended (row_in r (state_told level time [] hit r)).state ≡ true
-    by_hit true is s was = ap (λ (o : Option PairState). is_device_suspended (row_in r o).state) (hit_state level time hit r is)
-    by_hit false is true was = ap (λ (o : Option PairState). is_device_suspended (row_in r o).state) (kept_state level time hit r is (suspended_too r.state was)) ∙ was
+    by_hit : (b : Bool) → is_among r.device hit ≡ b → (s : Bool) → is_device_suspended r.state ≡ s → is_device_suspended (row_in r (state_told reach time [] hit r)).state ≡ true
+    by_hit true is s was = ap (λ (o : Option PairState). is_device_suspended (row_in r o).state) (hit_state reach time hit r is)
+    by_hit false is true was = ap (λ (o : Option PairState). is_device_suspended (row_in r o).state) (kept_state reach time hit r is (suspended_too r.state was)) ∙ was
     by_hit false is false was =
         let hits : is_hit_now failed r ≡ true = and_from (is_down failed r.device) (not (is_device_suspended r.state)) down (ap not was) in
         let among = so hits in
@@ -105,30 +104,30 @@ other_device a b c same differ = not_eq (a == c) refl
     not_eq true is = let e : (b == a) ≡ true = eq-eqb b a (sym same ∙ sym (eqb-true a c is)) in cc
 
 -- Such a row doesn't keep the device.
-row_not_kept : (level : Level) (time : ℕ) (failed : List Bool) (hit : List ℕ) (d : ℕ) (r : PairRow) → is_down failed d ≡ true → (is_hit_now failed r ≡ true → (r.device == d) ≡ true → is_among d hit ≡ true)
-    → (let s = row_in r (state_told level time [] hit r) in (is_of d s && not (is_device_suspended s.state)) ≡ false)
-row_not_kept level time failed hit d r down so = by_device (r.device == d) refl
+row_not_kept : (reach : FaultReach) (time : ℕ) (failed : List Bool) (hit : List ℕ) (d : ℕ) (r : PairRow) → is_down failed d ≡ true → (is_hit_now failed r ≡ true → (r.device == d) ≡ true → is_among d hit ≡ true)
+    → (let s = row_in r (state_told reach time [] hit r) in (is_of d s && not (is_device_suspended s.state)) ≡ false)
+row_not_kept reach time failed hit d r down so = by_device (r.device == d) refl
   where
     suspended_row : (a b : Bool) → b ≡ true → (a && not b) ≡ false
     suspended_row true true is = refl
     suspended_row false b is = refl
     suspended_row true false is = cc
 
-    by_device : (b : Bool) → (r.device == d) ≡ b → (let s = row_in r (state_told level time [] hit r) in (is_of d s && not (is_device_suspended s.state)) ≡ false)
+    by_device : (b : Bool) → (r.device == d) ≡ b → (let s = row_in r (state_told reach time [] hit r) in (is_of d s && not (is_device_suspended s.state)) ≡ false)
     by_device true is =
-        let s = row_in r (state_told level time [] hit r) in
+        let s = row_in r (state_told reach time [] hit r) in
         let same : r.device ≡ d = eqb-true r.device d is in
-        suspended_row (is_of d s) (is_device_suspended s.state) (told_suspended level time failed hit r (ap (is_down failed) same ∙ down) (λ hits. ap (λ (n : ℕ). is_among n hit) same ∙ so hits is))
+        suspended_row (is_of d s) (is_device_suspended s.state) (told_suspended reach time failed hit r (ap (is_down failed) same ∙ down) (λ hits. ap (λ (n : ℕ). is_among n hit) same ∙ so hits is))
     by_device false is =
-        let s = row_in r (state_told level time [] hit r) in
-        ap (λ (b : Bool). b && not (is_device_suspended s.state)) (other_device d r.device s.device (device_in r (state_told level time [] hit r)) is)
+        let s = row_in r (state_told reach time [] hit r) in
+        ap (λ (b : Bool). b && not (is_device_suspended s.state)) (other_device d r.device s.device (device_in r (state_told reach time [] hit r)) is)
 
 -- So no device that has failed is kept.
-none_kept : (level : Level) (time : ℕ) (failed : List Bool) (hit : List ℕ) (d : ℕ) (rows : List PairRow) → is_down failed d ≡ true → (list_any (hits_device failed d) rows ≡ true → is_among d hit ≡ true) → is_kept d (rows_in_states (state_told level time [] hit) rows) ≡ false
-none_kept level time failed hit d [] down so = refl
-none_kept level time failed hit d (r ∷ rows) down so =
-    neither (row_not_kept level time failed hit d r down (λ hits on_it. so (ap (λ (b : Bool). b || list_any (hits_device failed d) rows) (and_from (is_hit_now failed r) (r.device == d) hits on_it))))
-    (none_kept level time failed hit d rows down (λ any. so (behind (hits_device failed d r) any)))
+none_kept : (reach : FaultReach) (time : ℕ) (failed : List Bool) (hit : List ℕ) (d : ℕ) (rows : List PairRow) → is_down failed d ≡ true → (list_any (hits_device failed d) rows ≡ true → is_among d hit ≡ true) → is_kept d (rows_in_states (state_told reach time [] hit) rows) ≡ false
+none_kept reach time failed hit d [] down so = refl
+none_kept reach time failed hit d (r ∷ rows) down so =
+    neither (row_not_kept reach time failed hit d r down (λ hits on_it. so (ap (λ (b : Bool). b || list_any (hits_device failed d) rows) (and_from (is_hit_now failed r) (r.device == d) hits on_it))))
+    (none_kept reach time failed hit d rows down (λ any. so (behind (hits_device failed d r) any)))
   where
     behind : (b : Bool) → list_any (hits_device failed d) rows ≡ true → (b || list_any (hits_device failed d) rows) ≡ true
     behind true any = refl
@@ -145,5 +144,5 @@ kept_good level time failed rows d kept = by_flag (is_down failed d) refl
     by_flag false good = good
     by_flag true down =
         let none : is_kept d (rows_with_hits level time failed rows) ≡ false = ap (is_kept d) (hits_change level time failed rows)
-        ∙ none_kept level time failed (hit_now failed rows) d rows down (λ any. sym (among_hit failed d rows) ∙ any) in
+        ∙ none_kept (reach_of level rows) time failed (hit_now failed rows) d rows down (λ any. sym (among_hit failed d rows) ∙ any) in
         cc

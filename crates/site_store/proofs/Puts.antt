@@ -1,13 +1,19 @@
 -- The moments of a state and of the mark behind it, over plain states.
-use Rattle.std.proofs.Common.{◌≡◌, ◌≢◌, inl, inr, ℕ, List, Ok, sym, ap, subst, ◌∙◌}
+use Rattle.std.proofs.Common.{◌≡◌, ◌≢◌, ◌≤◌, inl, inr, ℕ, ◌+◌, List, ◌∷◌, length, drop, slice_index, Ok, sym, ap, subst, ◌∙◌, arith}
+use Rattle.std.proofs.lemmas.List.{get_or-drop}
 use Rattle.crash_plant.specs.declared.device.Device.{Device}
 use Rattle.crash_plant.specs.declared.device.Device.TheVariants.{Control, State}
 use Rattle.crash_plant.specs.Choices.{Choice, IsChoice, AllFollow}
 use Rattle.crash_plant.specs.Moments.{PlantState, on, Follows, IsDurable}
 use Rattle.crash_plant.specs.Calls.{WorksOn}
+use Rattle.crash_plant.specs.Bytes.{patched}
 use Rattle.crash_plant.proofs.Choices.{choices_then, works_on_choices}
+use Rattle.crash_plant.proofs.Patches.{patched_torn}
 use Rattle.control_set.specs.declared.value.Mark.{Mark}
-use Rattle.control_set.specs.Slots.{OldOrNew, chosen_mark, lengths_of}
+use Rattle.control_set.specs.Marks.{IsInRange, mark_spelling}
+use Rattle.control_set.specs.Slots.{NoGateOpen, OldOrNew, chosen_mark, free_place, is_second_free, lengths_of, place_of_slot, slot_of}
+use Rattle.control_set.proofs.Again.{length_is}
+use Rattle.control_set.proofs.Reading.{closed_is}
 use Rattle.control_set.proofs.Lengths.{same_lengths}
 use Rattle.state_set.specs.Slots.{OneSlot, Stored, state_of}
 use Rattle.site_store.specs.Marking.{IsMarked, PutsMark}
@@ -73,3 +79,14 @@ module _ (tells : Type 0) (told : tells) (old mid : PlantState) (m : Mark) (s : 
 
     pub puts_both : AllFollow (PutsMark (lengths_of old) old.volumes m s) old new
     puts_both = choices_then old mid new PutsState MarksControl (PutsMark (lengths_of old) old.volumes m s) ((put_works.elapses told).kept State).later put_choices mark_works.site (mark_works.elapses told) mark_choices state_put both_put
+
+-- With no gate open the mark goes to the first slot, and the gate of the second stays.
+pub second_stays : (lengths : List ℕ) (m : Mark) (x y z : List ℕ) → 1024 ≤ length x → IsInRange m → NoGateOpen x → y ≡ x → z ≡ patched (free_place lengths y) (1 ∷ mark_spelling m) y → slice_index z 512 ≡ slice_index x 512
+second_stays lengths m x y z long range gates same put =
+    let off : slice_index y 0 ≢ 1 = λ is. gates.first (ap (λ (l : List ℕ). slice_index l 0) (sym same) ∙ is) in
+    let first : free_place lengths y ≡ 0 = λ i. place_of_slot (is_second_free (closed_is lengths y off i) (slot_of lengths (drop 512 y))) in
+    let size : length (1 ∷ mark_spelling m) ≡ 49 = omega (arith, length_is m range) in
+    let torn = patched_torn 0 (1 ∷ mark_spelling m) y z (omega (arith, size, long, ap length same)) (subst (λ (k : ℕ). z ≡ patched k (1 ∷ mark_spelling m) y) first put) in
+    let end : 0 + length (1 ∷ mark_spelling m) ≡ 49 = omega (arith, size) in
+    let after : drop 49 z ≡ drop 49 y = subst (λ (n : ℕ). drop n z ≡ drop n y) end torn.after in
+    sym (get_or-drop 49 z 463 0) ∙ ap (λ (l : List ℕ). slice_index l 463) after ∙ get_or-drop 49 y 463 0 ∙ ap (λ (l : List ℕ). slice_index l 512) same

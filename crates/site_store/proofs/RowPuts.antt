@@ -93,6 +93,12 @@ taken_at next [] (suc i) = refl
 taken_at next (r ∷ rows) zero = refl
 taken_at next (r ∷ rows) (suc i) = taken_at next rows i
 
+pub taken_long : (next : NextStates) (rows : List PairRow) (i : ℕ) → length (taken next rows i) ≡ length rows
+taken_long next [] zero = refl
+taken_long next [] (suc i) = refl
+taken_long next (r ∷ rows) zero = refl
+taken_long next (r ∷ rows) (suc i) = ap suc (taken_long next rows i)
+
 pub taken_has : (next : NextStates) (rows : List PairRow) (i : ℕ) (row : PairRow) → slice_get rows i ≡ Some row → list_any (is_of row.device) (taken next rows i) ≡ true
 taken_has next [] i row is = absurd cc
 taken_has next (r ∷ rows) zero row is =

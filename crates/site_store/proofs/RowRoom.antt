@@ -14,6 +14,7 @@ use Rattle.control_set.specs.Marks.{IsMark}
 use Rattle.control_set.proofs.Lengths.{same_lengths}
 use Rattle.pair_table.specs.declared.row.PairRow.{PairRow}
 use Rattle.pair_table.specs.declared.row.PairState.{PairState}
+use Rattle.row_changes.specs.Changes.{reach_of}
 use Rattle.record_rows.specs.ChangedRows.{rows_in_states, state_told}
 use Rattle.record_rows.specs.GroupRows.{row_in}
 use Rattle.record_rows.specs.Hits.{hit_now}
@@ -148,7 +149,7 @@ states_have plant state (r ∷ rows) have = by_state (state r) (row_has_volume p
 
 -- The rows with hits are on the same volumes.
 pub hits_have : (plant : PlantState) (level : Level) (cut : ℕ) (failed : List Bool) (rows : List PairRow) → list_all (row_has_volume plant) rows ≡ true → list_all (row_has_volume plant) (rows_with_hits level cut failed rows) ≡ true
-hits_have plant level cut failed rows have = ap (list_all (row_has_volume plant)) (hits_change level cut failed rows) ∙ states_have plant (state_told level cut [] (hit_now failed rows)) rows have
+hits_have plant level cut failed rows have = ap (list_all (row_has_volume plant)) (hits_change level cut failed rows) ∙ states_have plant (state_told (reach_of level rows) cut [] (hit_now failed rows)) rows have
 
 lengths_still : (controls : ℕ) (old new : PlantState) → SameSite old new → HasLengths controls old → HasLengths controls new
 lengths_still controls old new same lengths = record {

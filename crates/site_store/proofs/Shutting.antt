@@ -18,7 +18,7 @@ use Rattle.control_set.proofs.Reading.{closed_is, first_part, open_is, same_slot
 use Rattle.control_set.proofs.Stands.{none_of_gates}
 use Rattle.site_store.specs.declared.starting.SlotFront.{SlotFront}
 use Rattle.site_store.proofs.Calls.{durable_same}
-use Rattle.site_store.specs.Formats.{AreHalves, CountsOrNone, ShutsControl, ShutsSlots, front_at}
+use Rattle.site_store.specs.Formats.{AreHalves, AreZeroed, CountsOrNone, ShutsControl, ShutsSlots, front_at}
 
 -- ---- bytes
 
@@ -267,12 +267,19 @@ pub other_stays : (p q : ℕ) (x y : List ℕ) → AreHalves p q → Torn p 1 x 
 other_stays p q x y halves torn =
     ap (λ (k : ℕ). slice_index y k) halves.2 ∙ other_gate halves.0 x y (subst (λ (k : ℕ). Torn k 1 x y) halves.1 torn) ∙ ap (λ (k : ℕ). slice_index x k) (sym halves.2)
 
+pub other_halves : (p q : ℕ) → AreHalves p q → AreHalves q p
+other_halves p q (false, one, other) = (true, other, one)
+other_halves p q (true, one, other) = (false, other, one)
+
 -- The second gate is shut behind the first one.
 pub none_open : (p q : ℕ) (y z : List ℕ) → AreHalves p q → slice_index y p ≢ 1 → slice_index z q ≢ 1 → Torn q 1 y z → NoGateOpen z
 none_open p q y z halves off last torn = gates_off z halves.0
-    (λ on. off (sym (other_stays q p y z (back halves) torn) ∙ ap (λ (k : ℕ). slice_index z k) halves.1 ∙ on))
+    (λ on. off (sym (other_stays q p y z (other_halves p q halves) torn) ∙ ap (λ (k : ℕ). slice_index z k) halves.1 ∙ on))
     (λ on. last (ap (λ (k : ℕ). slice_index z k) halves.2 ∙ on))
-  where
-    back : AreHalves p q → AreHalves q p
-    back (false, one, other) = (true, other, one)
-    back (true, one, other) = (false, other, one)
+
+-- Two gates that had the byte 0 where they were open: by their fronts.
+pub zeroed_by : (x z : List ℕ) (first second : SlotFront) → first ≡ front_at 0 x → second ≡ front_at 512 x → (first.is_open ≡ true → slice_index z first.place ≡ 0) → (second.is_open ≡ true → slice_index z second.place ≡ 0) → AreZeroed x z
+zeroed_by x z first second first_is second_is a b = record {
+  first = λ on. sym (ap (λ (f : SlotFront). slice_index z f.place) first_is) ∙ a (ap (λ (f : SlotFront). f.is_open) first_is ∙ eq-eqb (slice_index x 0) 1 on);
+  second = λ on. sym (ap (λ (f : SlotFront). slice_index z f.place) second_is) ∙ b (ap (λ (f : SlotFront). f.is_open) second_is ∙ eq-eqb (slice_index x 512) 1 on);
+}

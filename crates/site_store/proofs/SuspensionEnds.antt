@@ -79,7 +79,7 @@ pub record AreFormed (tells : Type 0) (cut : Stamp) (site : SiteState) (old : Pl
   pub ready : MayRecord tells site old
   pub late : site.time ≤ cut.0
   pub some : hit_now site.failed site.told ≢ []
-  pub are : AreHits site.level cut site.failed false site.told hits
+  pub are : AreHits site.level cut site.failed [] site.told hits
   pub rules : AreRowsSound site.told
   pub short : length (body_spelling (pairs_with_next (with_hits hits) site.told)) ≤ 64 * 31
 
@@ -99,7 +99,7 @@ none_hit view site other jobs first is told failed level was none =
     (λ i. hit_now (sym first_is i) (sym rows i)) ∙ none_of (hit_now (map has_job_failed first) view.table.rows) none
 
 pub are_formed : {V : Type 0} (tells : Type 0) (cut : Stamp) (view site : SiteState) (other : List PairRow) (old : PlantState) (jobs first now : List (VolumeJob V)) (hits : Hits) (body : BodyState) (room : ℕ) → view ≡ site → view.told ≡ cond view.is_ahead other view.table.rows → view.failed ≡ map has_job_failed jobs
-    → MayRecord tells site old → site.time ≤ cut.0 → first ≡ jobs → now ≡ jobs → true ≡ are_some (hit_now (map has_job_failed first) view.table.rows) → AreHits view.level cut (map has_job_failed now) false view.table.rows hits → AreRowsSound view.table.rows
+    → MayRecord tells site old → site.time ≤ cut.0 → first ≡ jobs → now ≡ jobs → true ≡ are_some (hit_now (map has_job_failed first) view.table.rows) → AreHits view.level cut (map has_job_failed now) [] view.table.rows hits → AreRowsSound view.table.rows
     → body ≡ record { items = pairs_with_next (with_hits hits) view.table.rows; room = room } → length (body_spelling body.items) ≤ 64 * 31 → AreFormed tells cut site old hits
 are_formed tells cut view site other old jobs first now hits body room is told failed ready late was same some are rules put short =
     let rows = told_there view site other is told ready.level in
@@ -110,7 +110,7 @@ are_formed tells cut view site other old jobs first now hits body room is told f
       ready = ready;
       late = late;
       some = subst (λ (x : Type 0). x) (λ i. hit_now (first_is i) (rows i) ≢ []) (some_of (hit_now (map has_job_failed first) view.table.rows) some);
-      are = subst (λ (x : Type 0). x) (λ i. AreHits (is i).level cut (now_is i) false (rows i) hits) are;
+      are = subst (λ (x : Type 0). x) (λ i. AreHits (is i).level cut (now_is i) [] (rows i) hits) are;
       rules = subst AreRowsSound rows rules;
       short = subst (λ (l : List Item). length (body_spelling l) ≤ 64 * 31) (ap (λ (h : BodyState). h.items) put ∙ ap (pairs_with_next (with_hits hits)) rows) short;
     }
@@ -125,7 +125,7 @@ module _ (tells : Type 0) (cut : Stamp) (site : SiteState) (old : PlantState) (h
   abbrev some : hit_now site.failed site.told ≢ []
   some = formed.some
 
-  abbrev are : AreHits site.level cut site.failed false site.told hits
+  abbrev are : AreHits site.level cut site.failed [] site.told hits
   are = formed.are
 
   abbrev rules : AreRowsSound site.told

@@ -11,6 +11,7 @@ use Rattle.crash_plant.proofs.Choices.{part_still}
 use Rattle.crash_plant.proofs.Steps.{works_on_more, works_on_trans}
 use Rattle.applier.specs.Returns.{OnlyReads, WorksOnLent}
 use Rattle.applier.proofs.Works.{lent_of_works, works_lent_more, works_lent_trans}
+use Rattle.pair_table.specs.declared.level.Level.{Level}
 use Rattle.pair_table.specs.declared.row.PairRow.{PairRow}
 use Rattle.pair_table.specs.declared.row.PairState.TheVariants.{Duplex}
 use Rattle.record_rows.specs.Deeds.Deed.{Marked}
@@ -27,7 +28,7 @@ use Rattle.xrc_journal.specs.declared.job.VolumeJob.{VolumeJob}
 use Rattle.site_store.specs.declared.store_error.StoreError.{StoreError}
 use Rattle.site_store.specs.Causes.{FailByCounts, HasStoreCause}
 use Rattle.site_store.specs.Jobs.{has_device, has_job_failed}
-use Rattle.site_store.specs.Marking.{IsAmong, IsMarked, MakesMark, MayPutMark, Syncs, excepted_with_waiting}
+use Rattle.site_store.specs.Marking.{IsAmong, IsMarked, MakesMark, MayPutMark, Syncs, behind_next_mark, excepted_with_waiting, rows_at_mark}
 use Rattle.site_store.specs.Records.{IsOfMark, IsStore}
 use Rattle.site_store.specs.Sites.{SiteState, is_written}
 use Rattle.site_store.specs.Standing.{AreApplied, Leaves, SiteStands, StandsFast}
@@ -113,6 +114,9 @@ module _ (tells : Type 0) (site : SiteState) (failed : List Bool) (old mid : Pla
     synced = durable;
   }
 
+  pub seen_may : (view : SiteState) → view ≡ site → MayPutMark tells after mid → MayPutMark tells (record view { failed = failed }) mid
+  seen_may view is may = subst (λ (s : SiteState). MayPutMark tells (record s { failed = failed }) mid) (sym is) may
+
   module _ (ended : Bool) (rows : List PairRow) (next : SiteState) (new : PlantState) where
     -- A mark that is made then is made behind the syncs.
     pub makes_behind : (result : Result (Unit {0}) StoreError) → WorksOn tells IsMarked mid new → MakesMark tells ended rows after next mid new result → MakesMark tells ended rows site next old new result
@@ -152,6 +156,25 @@ module _ (tells : Type 0) (site : SiteState) (failed : List Bool) (old mid : Pla
     alone = λ d lt was. let came = synced.fails.alone d lt was in (came.0, marks.others_faults (Volume d) (λ no. no) ∙ came.1);
     by_count = λ d lt was. subst (λ (n : ℕ). FailsByCount (slice_index_or failed d false) (old.faults (Volume d)) n) (sym (marks.others_faults (Volume d) (λ no. no))) (synced.fails.by_count d lt was);
   }
+
+  -- ---- as a site's fields show the mark
+
+  module _ (view next : SiteState) (new : PlantState) (put ended : Bool) (reached reach : Level) (is : view ≡ site) (ends : put ≡ ended) (reaches : reached ≡ reach) (same : next.failed ≡ failed) (marks : WorksOn tells IsMarked mid new) where
+    pub seen_makes : (result : Result (Unit {0}) StoreError) → MakesMark tells put (rows_at_mark reached (record view { failed = failed }) failed) (record view { failed = failed }) next mid new result → MakesMark tells ended (rows_at_mark reach site next.failed) site next old new result
+    seen_makes result makes =
+        makes_behind ended (rows_at_mark reach site next.failed) next new result marks
+        (subst (λ (x : Type 0). x) (λ i. MakesMark tells (ends i) (rows_at_mark (reaches i) (record (is i) { failed = failed }) (sym same i)) (record (is i) { failed = failed }) next mid new result) makes)
+
+    pub seen_leaves : (now : Exceptions → Exceptions) → Leaves tells now (record view { failed = failed }) next mid new → Leaves tells now site next old new
+    seen_leaves now leaves = leaves_behind ended (rows_at_mark reach site next.failed) next new now (subst (λ (x : Type 0). x) (λ i. Leaves tells now (record (is i) { failed = failed }) next mid new) leaves)
+
+    pub seen_next : next ≡ behind_next_mark put (rows_at_mark reached (record view { failed = failed }) failed) failed (record view { failed = failed }) → next ≡ behind_next_mark ended (rows_at_mark reach site next.failed) next.failed site
+    seen_next behind =
+        behind ∙ (λ i. behind_next_mark (ends i) (rows_at_mark (reaches i) (record (is i) { failed = failed }) failed) failed (record (is i) { failed = failed }))
+        ∙ ap (λ (l : List Bool). behind_next_mark ended (rows_at_mark reach site l) l site) (sym same)
+
+    pub seen_fails : FailByCounts site.failed next.failed old.faults new.faults
+    seen_fails = subst (λ (l : List Bool). FailByCounts site.failed l old.faults new.faults) (sym same) (fails_behind new marks)
 
 among_mark : (site : SiteState) (d : Device) → IsAmong site.written d → IsOfMark site d
 among_mark site Control among = absurd among

@@ -1,6 +1,9 @@
 -- A command's change and suspensions as records of rows, the site behind them, and the deeds that these are.
 use Rattle.std.specs.Prelude.{◌≡◌, ◌≢◌, ◌↔◌, ℕ, ◌+◌, ◌*◌, ◌≤◌, List, [], ◌∷◌, ◌++◌, length, map, Bool, true, false, Option, Some, None, Result, OnOk, IsOk, IsErrOf}
 use Rattle.std.specs.List.{flat_map}
+use Rattle.xrc_journal.specs.declared.layout.TheConstants.{ROW_ITEM}
+use Rattle.pair_table.specs.declared.limits.TheConstants.{MOST_ROWS}
+use Rattle.xrc_edge.specs.declared.limits.TheConstants.{MOST_SITE_VOLUMES}
 use Rattle.crash_plant.specs.Moments.{PlantState}
 use Rattle.pair_table.specs.declared.command.Change.{Change}
 use Rattle.pair_table.specs.declared.command.Change.TheVariants.{Nothing, Started, Added, Resumed, Gone as GoneRows, Suspended, Ended}
@@ -87,7 +90,7 @@ pub record MayChange (tells : Type 0) (cut : ℕ) (change : Change) (site : Site
   pub fast : StandsFast tells site plant
   pub idle : site.waiting ≡ []
   pub cut_is : site.time ≤ cut
-  pub few : named_devices change ≤ 64
+  pub few : named_devices change ≤ MOST_SITE_VOLUMES
   pub ahead : changed_items change site.table.rows ≢ [] → site.is_ahead ≡ true
   pub lead : Lead plant.volumes (changed_items change site.table.rows) site.told site.table.rows
 
@@ -100,11 +103,11 @@ pub record AreChangeItems (cut : ℕ) (change : Change) (failed : List Bool) (si
 -- The record of a change as it is formed: the rows that it names, and behind them those of the hits at its cut.
 pub record FormsChange (level : Level) (cut : Stamp) (failed : List Bool) (change : Change) (rows : List PairRow) (held now : BodyState) : Type 0 where
   pub hits : Hits
-  pub are : AreHits level cut failed false rows hits
+  pub are : AreHits level cut failed [] rows hits
   pub now_is : now ≡ record { items = changed_items change rows ++ pairs_with_next (with_hits hits) rows; room = held.room }
   pub rules : AreRowsSound rows
   pub keep : AreItems anywhere now.items
-  pub short : length (body_spelling now.items) ≤ named_devices change * 31 + 64 * 31
+  pub short : length (body_spelling now.items) ≤ named_devices change * ROW_ITEM + MOST_ROWS * ROW_ITEM
 
 -- The record as it is formed first decides the placement.
 pub record IsPlacementOfChange (cut : ℕ) (change : Change) (site : SiteState) (plant : PlantState) (placement : Placement) : Type 0 where

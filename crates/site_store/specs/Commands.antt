@@ -1,6 +1,8 @@
 -- Commands on a site's pairs: the site behind a change of the table.
 use Rattle.std.specs.Prelude.{◌≡◌, ◌≢◌, ℕ, length, nat_lt, nat_le, IsTrue, ◌+◌, ◌*◌, ◌<◌, ◌≤◌, ◌==◌, ◌&&◌, ◌||◌, List, [], ◌∷◌, Bool, true, false, Option, Some, None, Ok, if◌then◌else◌}
 use Rattle.std.specs.List.{list_all}
+use Rattle.ckd_track.specs.declared.layout.TheConstants.{CYLINDER_LENGTH, FIRST_SLOT}
+use Rattle.xrc_edge.specs.declared.limits.TheConstants.{MOST_SITE_VOLUMES}
 use Rattle.crash_plant.specs.declared.device.Device.TheVariants.{Volume}
 use Rattle.crash_plant.specs.Moments.{PlantState}
 use Rattle.pair_table.specs.declared.command.Change.{Change}
@@ -83,14 +85,14 @@ excepted_by_change change site excepted d x = excepted d x || (has_failed site d
 
 -- A change is to be logged behind a site: it names few devices, and its items lead from the rows on the devices to those of the table.
 pub record IsToLog (change : Change) (site : SiteState) : Type 0 where
-  pub few : named_devices change ≤ 64
+  pub few : named_devices change ≤ MOST_SITE_VOLUMES
   pub ahead : changed_items change site.table.rows ≢ [] → site.is_ahead ≡ true
   pub lead : Lead (length site.failed) (changed_items change site.table.rows) site.told site.table.rows
 
 -- A label's device is a volume of the plant, and has the slots of the label's cylinders.
 abbrev pub label_has_volume : PlantState → NamedDevice → Bool
 label_has_volume plant label =
-    nat_lt label.device plant.volumes && nat_le (512 + label.cylinders * 860160) (plant.lengths (Volume label.device))
+    nat_lt label.device plant.volumes && nat_le (FIRST_SLOT + label.cylinders * CYLINDER_LENGTH) (plant.lengths (Volume label.device))
 
 abbrev pub LabelsFit : PlantState → Naming → Type 0
 LabelsFit plant names = IsTrue (list_all (label_has_volume plant) names.labels)

@@ -5,7 +5,7 @@ use Rattle.pair_table.specs.declared.row.PairRow.{PairRow}
 use Rattle.pair_table.specs.Tables.{is_of}
 use Rattle.pending_queue.specs.Entries.{WaitingEntry, is_whole}
 use Rattle.image_former.specs.Entries.{is_entry_on}
-use Rattle.record_rows.specs.Hits.{is_device_suspended}
+use Rattle.pair_table.specs.States.{is_device_suspended}
 use Rattle.record_rows.specs.Deeds.{Deed, entries_by_deed, rows_by_deed}
 
 -- A track is excepted where an item of it was logged before its device's job last failed, and wasn't applied. Once a mark counts behind

@@ -47,6 +47,11 @@ pub record AreShut (lengths control : List ℕ) : Type 0 where
   pub first : IsTrue (is_closed (slot_of lengths control))
   pub second : IsTrue (is_closed (slot_of lengths (drop second_slot control)))
 
+-- The gates of the control's slots that read 1 have the byte 0.
+pub record AreZeroed (old new : List ℕ) : Type 0 where
+  pub first : slice_index old 0 ≡ 1 → slice_index new 0 ≡ 0
+  pub second : slice_index old second_slot ≡ 1 → slice_index new second_slot ≡ 0
+
 -- Where it was told which mark counts, that mark counts, or none: an older one never counts again.
 abbrev pub CountsOrNone : (lengths old new : List ℕ) → Type 0
 CountsOrNone lengths old new =
@@ -78,6 +83,12 @@ pub record IsShut (plant : PlantState) : Type 0 where
   pub first : slice_index (plant.bytes (Journal 0)) 0 ≢ 1
   pub control : IsDurable (on plant Control)
   pub journal : IsDurable (on plant (Journal 0))
+
+-- Behind a start the gates that it shut have the byte 0: that of the first record, and that of the control's second slot if it read 1. The
+-- first mark stands in the first slot.
+pub record HasZeroedGates (old new : PlantState) : Type 0 where
+  pub second : slice_index (old.bytes Control) second_slot ≡ 1 → slice_index (new.bytes Control) second_slot ≡ 0
+  pub first_record : slice_index (new.bytes (Journal 0)) 0 ≡ 0
 
 -- what a session means that starts at a time
 abbrev pub started_means : (session : List ℕ) → Level → (at : Stamp) → Means

@@ -1,6 +1,7 @@
 -- What a record changes of rows: what the group makes of them, and behind that the hits of failed volumes.
-use Rattle.std.specs.Prelude.{◌≡◌, ℕ, ◌<◌, ◌&&◌, ◌||◌, List, [], ◌∷◌, Bool, true, false, Option, Some, None, slice_index_or, if◌then◌else◌}
+use Rattle.std.specs.Prelude.{◌≡◌, ℕ, ◌<◌, ◌||◌, List, [], ◌∷◌, Bool, true, false, Option, Some, None, slice_index_or, if◌then◌else◌}
 use Rattle.std.specs.List.{flat_map}
+use Rattle.xrc_edge.specs.declared.limits.TheConstants.{MOST_SITE_VOLUMES}
 use Rattle.tod_stamp.specs.declared.stamp.Stamp.{Stamp}
 use Rattle.pair_table.specs.declared.level.Level.{Level}
 use Rattle.pair_table.specs.declared.row.PairRow.{PairRow}
@@ -13,10 +14,11 @@ use Rattle.pair_table.specs.Tables.{in_state}
 use Rattle.pending_queue.specs.Groups.{FormedGroup}
 use Rattle.record_rows.specs.ChangedRows.{later_state}
 use Rattle.record_rows.specs.GroupRows.{state_with_group}
-use Rattle.record_rows.specs.Hits.{hit_now}
-use Rattle.row_changes.specs.Changes.{is_session_level}
+use Rattle.record_rows.specs.Hits.{hit_now, is_reached}
+use Rattle.row_changes.specs.Changes.{reach_of}
 use Rattle.xrc_journal.specs.Items.{Item}
 use Rattle.xrc_journal.specs.Items.Item.{Pair}
+use Rattle.site_store.specs.declared.hits.HitDevices.{HitDevices}
 use Rattle.site_store.specs.declared.hits.Hits.{Hits}
 
 -- ---- rows that change their state
@@ -46,17 +48,20 @@ pairs_with_next next rows = flat_map (pair_with_next next) rows
 
 -- ---- hits
 
--- A hit suspends a row by its device, whatever its state, and reaches those that aren't suspended.
-abbrev pub state_by_hits : (hit reaches : Bool) → (time : Stamp) → PairState → Option PairState
-state_by_hits true reaches time state = Some (Suspended Device time)
+-- A hit suspends a row by its device, whatever its state. A row that hits reach is suspended by the session, unless it is already.
+abbrev pub state_by_hits : (hit reached : Bool) → (time : Stamp) → PairState → Option PairState
+state_by_hits true reached time state = Some (Suspended Device time)
 state_by_hits false true time state = if is_suspended state then None else Some (Suspended Session time)
 state_by_hits false false time state = None
 
 abbrev pub is_hit_by : Hits → (device : ℕ) → Bool
 is_hit_by hits device = slice_index_or hits.devices device false
 
+abbrev pub is_reached_by : Hits → (device : ℕ) → Bool
+is_reached_by hits device = slice_index_or hits.reached device false
+
 abbrev pub next_by_hits : Hits → (device : ℕ) → PairState → Option PairState
-next_by_hits hits device state = state_by_hits (is_hit_by hits device) hits.reaches hits.time state
+next_by_hits hits device state = state_by_hits (is_hit_by hits device) (is_reached_by hits device) hits.time state
 
 abbrev pub with_hits : Hits → NextStates
 with_hits hits row = next_by_hits hits row.device row.state
@@ -66,10 +71,20 @@ abbrev pub are_some : List ℕ → Bool
 are_some [] = false
 are_some (d ∷ devices) = true
 
--- The hits of these rows once these jobs have failed, at a time. Under level SESSION they reach the others, as do those that are due.
-pub record AreHits (level : Level) (time : Stamp) (failed : List Bool) (due : Bool) (rows : List PairRow) (hits : Hits) : Type 0 where
-  pub devices : (d : ℕ) → d < 64 → is_hit_by hits d ≡ is_among d (hit_now failed rows)
-  pub reaches : hits.reaches ≡ (is_session_level level && (due || are_some (hit_now failed rows)))
+-- The devices that are hit, among the first 64, are those of a list.
+pub record AreDevices (devices : List ℕ) (hit : HitDevices) : Type 0 where
+  pub flags : (d : ℕ) → d < MOST_SITE_VOLUMES → slice_index_or hit.are d false ≡ is_among d devices
+  pub any_is : hit.any ≡ are_some devices
+
+-- The flags say of each device whether the hits of a mark or those behind it reach its row.
+abbrev pub AreReached : Level → (marked hit : List ℕ) → (flags : List Bool) → Type 0
+AreReached level marked hit flags =
+    (rows : List PairRow) (r : PairRow) → r.device < MOST_SITE_VOLUMES → slice_index_or flags r.device false ≡ (is_reached (reach_of level rows) marked r || is_reached (reach_of level rows) hit r)
+
+-- The hits of these rows once these jobs have failed, at a time, behind a mark in which these devices were hit.
+pub record AreHits (level : Level) (time : Stamp) (failed : List Bool) (marked : List ℕ) (rows : List PairRow) (hits : Hits) : Type 0 where
+  pub devices : (d : ℕ) → d < MOST_SITE_VOLUMES → is_hit_by hits d ≡ is_among d (hit_now failed rows)
+  pub reached : AreReached level marked (hit_now failed rows) hits.reached
   pub time_is : hits.time ≡ time
 
 -- ---- the record of a group

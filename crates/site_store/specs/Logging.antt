@@ -1,6 +1,9 @@
 -- A formed group as a record: its items, the site behind it, and the deeds that this is.
 use Rattle.std.specs.Prelude.{◌≡◌, ◌≢◌, ◌≤◌, ◌⊎◌, ◌↔◌, ℕ, ◌+◌, ◌*◌, ◌<◌, ◌&&◌, List, [], ◌∷◌, ◌++◌, length, Bool, true, false, None, Result, OnOk, IsErrOf, IsSomeAnd, IsTrue, slice_index_or, not}
 use Rattle.std.specs.List.{All, list_any, list_all}
+use Rattle.xrc_journal.specs.declared.layout.TheConstants.{ROW_ITEM}
+use Rattle.pair_table.specs.declared.limits.TheConstants.{MOST_ROWS}
+use Rattle.xrc_edge.specs.declared.limits.TheConstants.{MOST_SITE_VOLUMES}
 use Rattle.ckd_track.specs.SlotPlaces.{slot_track}
 use Rattle.crash_plant.specs.declared.device.Device.{Device}
 use Rattle.crash_plant.specs.declared.device.Device.TheVariants.{Volume}
@@ -76,7 +79,7 @@ IsOfLog site group device = IsOfRecord site device ⊎ IsOfEntries site.table.ro
 pub record MayForm {V : Type 0} (group : FormedGroup) (rows : List PairRow) (jobs : List (VolumeJob V)) (due : List Bool) (plant : PlantState) : Type 0 where
   pub home : NoneLent plant
   pub volumes : length jobs ≡ plant.volumes
-  pub few : plant.volumes ≤ 64
+  pub few : plant.volumes ≤ MOST_SITE_VOLUMES
   pub idle : are_home_from 0 jobs ≡ true
   pub have : list_all (row_has_volume plant) rows ≡ true
   pub entries : All (IsOfSomeRow rows) group.entries
@@ -143,7 +146,7 @@ pub record FormsRecord (tells : Type 0) (group : FormedGroup) (rows : List PairR
   pub fit : first_unfit plant.volumes 0 rows now.items ≡ None
   pub rules : AreRowsSound rows
   pub room : now.room ≡ held.room
-  pub short : length (body_spelling now.items) ≤ 56669 * length group.entries + 64 * 31
+  pub short : length (body_spelling now.items) ≤ 56669 * length group.entries + MOST_ROWS * ROW_ITEM
   pub due_is : (d : ℕ) → slice_index_or due d false ≡ has_device d now.items
 
 -- ---- the rows

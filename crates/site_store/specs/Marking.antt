@@ -1,6 +1,7 @@
 -- A mark: the site behind it, the deed that it is, and what is written for it.
-use Rattle.std.specs.Prelude.{◌≡◌, ◌≢◌, ◌<◌, ◌-◌, ◌^◌, ◌≤◌, ◌⊎◌, ◌↔◌, ℕ, ◌||◌, List, [], ◌∷◌, Bool, true, false, Some, Ok, Err, Result, OnOk, IsErrOf, IsTrue, slice_index_or}
+use Rattle.std.specs.Prelude.{◌≡◌, ◌≢◌, ◌<◌, ◌-◌, ◌^◌, ◌≤◌, ◌⊎◌, ◌↔◌, ℕ, ◌||◌, cond, List, [], ◌∷◌, Bool, true, false, Some, Ok, Err, Result, OnOk, IsErrOf, IsTrue, slice_index_or}
 use Rattle.std.specs.List.{Contains, list_any}
+use Rattle.crash_plant.specs.declared.layout.TheConstants.{CONTROL_LENGTH, STATE_LENGTH}
 use Rattle.crash_plant.specs.declared.device.Device.{Device}
 use Rattle.crash_plant.specs.declared.device.Device.TheVariants.{Control, State, Journal, Volume}
 use Rattle.crash_plant.specs.Calls.{WorksOn}
@@ -14,7 +15,7 @@ use Rattle.xrc_journal.specs.Contents.{is_of_track}
 use Rattle.pair_table.specs.declared.level.Level.{Level}
 use Rattle.pair_table.specs.declared.row.PairRow.{PairRow}
 use Rattle.pair_table.specs.declared.row.PairState.TheVariants.{Duplex}
-use Rattle.pair_table.specs.Tables.{Table, are_below}
+use Rattle.pair_table.specs.Tables.{Table, are_below, with_rows}
 use Rattle.site_store.specs.declared.store_error.StoreError.{StoreError}
 use Rattle.site_store.specs.declared.store_error.StoreError.TheVariants.{Spent}
 use Rattle.site_store.specs.Sites.{SiteState, has_failed, is_written}
@@ -24,7 +25,6 @@ use Rattle.site_store.specs.DoneDeeds.{BeginsDeeds, DoesDeeds}
 use Rattle.site_store.specs.Exceptions.{Exceptions}
 use Rattle.record_rows.specs.Deeds.Deed.{Marked}
 use Rattle.site_store.specs.Records.{VolumesStay, behind_mark}
-use Rattle.record_rows.specs.Hits.{hit_now, rows_marked}
 use Rattle.record_rows.specs.Records.{rows_with_hits}
 use Rattle.site_store.specs.Placements.{is_mark_spent}
 
@@ -42,13 +42,9 @@ excepted_with_waiting site excepted d x = excepted d x || list_any (is_of_track 
 abbrev pub rows_at_mark : (reach : Level) → SiteState → (failed : List Bool) → List PairRow
 rows_at_mark reach site failed = rows_with_hits reach site.time failed site.told
 
--- the same of a mark that a record follows, for which the rows that the hits reach wait
-abbrev pub rows_before_record : SiteState → (failed : List Bool) → List PairRow
-rows_before_record site failed = rows_marked site.time (hit_now failed site.told) site.told
-
--- the site behind a mark that is made while a change waits to be logged: the table stays ahead of the rows on the devices
-abbrev pub behind_mark_ahead : (rows : List PairRow) → (failed : List Bool) → SiteState → SiteState
-behind_mark_ahead rows failed site = record (behind_mark site.mark.ended rows failed site) { table = site.table; is_ahead = true }
+-- the site behind the next mark with these rows: a change that waits to be logged waits on, and its table stays ahead of them
+abbrev pub behind_next_mark : (ended : Bool) → (rows : List PairRow) → (failed : List Bool) → SiteState → SiteState
+behind_next_mark ended rows failed site = record (behind_mark ended rows failed site) { table = cond site.is_ahead site.table (with_rows site.table rows); is_ahead = site.is_ahead }
 
 -- A mark with these rows is the next deed.
 pub record MakesMark (tells : Type 0) (ended : Bool) (rows : List PairRow) (site next : SiteState) (old new : PlantState) (result : Result (Unit {0}) StoreError) : Type 0 where
@@ -63,10 +59,6 @@ pub record MakesMark (tells : Type 0) (ended : Bool) (rows : List PairRow) (site
 -- The mark's rows tell the hits of all jobs that have failed by then.
 abbrev pub DoesMark : (tells : Type 0) → (site next : SiteState) → (ended : Bool) → (old new : PlantState) → Result (Unit {0}) StoreError → Type 0
 DoesMark tells site next ended old new result = MakesMark tells ended (rows_at_mark site.level site next.failed) site next old new result
-
--- So do those of a mark that a record follows.
-abbrev pub DoesMarkFirst : (tells : Type 0) → (site next : SiteState) → (old new : PlantState) → Result (Unit {0}) StoreError → Type 0
-DoesMarkFirst tells site next old new result = MakesMark tells site.mark.ended (rows_before_record site next.failed) site next old new result
 
 -- After Ok the mark counts, and its rows tell the hits of all jobs that have failed by then, those of its own syncs among them. The
 -- numbers are spent where the mark that counts has the last one; nothing is called then.
@@ -84,8 +76,8 @@ pub record MayPutMark (tells : Type 0) (site : SiteState) (plant : PlantState) :
 
 -- A mark may be written behind its state with these rows, which it names by their session.
 pub record MayWriteMark (tells : Type 0) (mark : Mark) (table : Table) (plant : PlantState) : Type 0 where
-  pub control : 1024 ≤ plant.lengths Control
-  pub state : 16384 ≤ plant.lengths State
+  pub control : CONTROL_LENGTH ≤ plant.lengths Control
+  pub state : STATE_LENGTH ≤ plant.lengths State
   pub devices : IsTrue (are_below plant.volumes table.rows)
   pub keeps : IsMark (lengths_of plant) mark
   pub session : mark.session ≡ table.session

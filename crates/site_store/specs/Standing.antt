@@ -1,6 +1,9 @@
 -- What is between a site's calls: that its numbers fit the plant, and what every crash would leave.
 use Rattle.std.specs.Prelude.{◌≡◌, ◌⊎◌, ℕ, ◌+◌, ◌*◌, ◌<◌, ◌≤◌, ◌&&◌, List, [], ◌++◌, length, Bool, true, false, nat_lt, nat_le, Some, Ok, IsTrue}
 use Rattle.std.specs.List.{list_all, Contains}
+use Rattle.crash_plant.specs.declared.layout.TheConstants.{CONTROL_LENGTH, STATE_LENGTH}
+use Rattle.ckd_track.specs.declared.layout.TheConstants.{CYLINDER_LENGTH, FIRST_SLOT}
+use Rattle.xrc_edge.specs.declared.limits.TheConstants.{FEWEST_JOURNALS, MOST_CONTROLS, MOST_JOURNALS, MOST_SITE_VOLUMES}
 use Rattle.ckd_track.specs.SlotPlaces.{slot_track}
 use Rattle.crash_plant.specs.declared.device.Device.TheVariants.{Control, State, Journal, Volume}
 use Rattle.crash_plant.specs.Calls.{NoneLent}
@@ -24,20 +27,20 @@ use Rattle.site_store.specs.Sites.{SiteState, has_failed, is_written, meant_for}
 -- The lengths and numbers of a site's devices: control and state, 2 to 16 journals that hold the largest record of so many
 -- controls, and up to 64 volumes.
 pub record HasLengths (controls : ℕ) (plant : PlantState) : Type 0 where
-  pub control : 1024 ≤ plant.lengths Control
-  pub state : 16384 ≤ plant.lengths State
-  pub journals : (2 ≤ plant.journals) × (plant.journals ≤ 16)
+  pub control : CONTROL_LENGTH ≤ plant.lengths Control
+  pub state : STATE_LENGTH ≤ plant.lengths State
+  pub journals : (FEWEST_JOURNALS ≤ plant.journals) × (plant.journals ≤ MOST_JOURNALS)
   pub journal : (j : ℕ) → j < plant.journals → journal_length controls ≤ plant.lengths (Journal j)
-  pub volumes : plant.volumes ≤ 64
+  pub volumes : plant.volumes ≤ MOST_SITE_VOLUMES
 
 -- A row's device is a volume of the plant, and has the slots of the row's cylinders.
 abbrev pub row_has_volume : PlantState → PairRow → Bool
-row_has_volume plant row = nat_lt row.device plant.volumes && nat_le (512 + row.cylinders * 860160) (plant.lengths (Volume row.device))
+row_has_volume plant row = nat_lt row.device plant.volumes && nat_le (FIRST_SLOT + row.cylinders * CYLINDER_LENGTH) (plant.lengths (Volume row.device))
 
 -- A site's numbers fit the plant, whether this tells its bytes or not.
 pub record FitsPlant (site : SiteState) (plant : PlantState) : Type 0 where
   pub home : NoneLent plant
-  pub controls : (1 ≤ site.controls) × (site.controls ≤ 16)
+  pub controls : (1 ≤ site.controls) × (site.controls ≤ MOST_CONTROLS)
   pub lengths : HasLengths site.controls plant
   pub rows : IsTrue (list_all (row_has_volume plant) site.table.rows)
   pub told : IsTrue (list_all (row_has_volume plant) site.told)

@@ -1,6 +1,9 @@
 //! A command's change, logged.
 
 ghost use Rattle.std.specs.Prelude.{◌≡◌, ◌≢◌, ◌≤◌, ◌+◌, ◌*◌, ◌++◌, [], true, false, length, map, OnOk, IsErrOf, IsTrue};
+ghost use Rattle.xrc_journal.specs.declared.layout.TheConstants.{ROW_ITEM};
+ghost use Rattle.pair_table.specs.declared.limits.TheConstants.{MOST_ROWS};
+ghost use Rattle.xrc_edge.specs.declared.limits.TheConstants.{MOST_SITE_VOLUMES};
 ghost use Rattle.applier.specs.Returns.{WorksOnLent};
 ghost use Rattle.crash_plant.specs.Calls.{Silent, WorksOn};
 ghost use Rattle.xrc_journal.specs.Items.{body_spelling};
@@ -76,14 +79,14 @@ fn form_change<V>(
     change: &Change,
 ) -> bool
     requires below { IsTrue (are_below (length jobs.now) table.now.rows) }
-    requires few { length jobs.now ≤ 64 }
-    requires room { named_devices change.now * 31 + 64 * 31 ≤ body.old.room }
+    requires few { length jobs.now ≤ MOST_SITE_VOLUMES }
+    requires room { named_devices change.now * ROW_ITEM + MOST_ROWS * ROW_ITEM ≤ body.old.room }
     ensures none { result ≡ false → changed_items change.now table.now.rows ≡ [] }
     ensures room { body.new.room ≡ body.old.room }
     ensures some { result ≡ true → changed_items change.now table.now.rows ≢ [] }
     ensures forms { result ≡ true → FormsChange level cut (map has_job_failed jobs.now) change.now table.now.rows body.old body.new }
 {
-    let hits = hits_at(jobs, table, level, cut, false);
+    let hits = hits_at(jobs, table, level, cut);
     take_change(body, table, change);
     if body.bytes().is_empty() {
         return false;
@@ -96,11 +99,11 @@ impl<V> Site<V> {
     /// Goes on from a change that was logged.
     fn take_logged(&mut self, cut: Stamp)
         requires below { IsTrue (are_below (length self.old.failed) self.old.table.rows) }
-        requires few { length self.old.failed ≤ 64 }
+        requires few { length self.old.failed ≤ MOST_SITE_VOLUMES }
         ensures { let rows = rows_with_hits self.old.level cut.0 self.old.failed self.old.table.rows in
             self.new ≡ record self.old { table = with_rows self.old.table rows; is_ahead = false; told = rows; time = cut.0 } }
     {
-        let hits = hits_at(&self.jobs, &self.table, self.level, cut, false);
+        let hits = hits_at(&self.jobs, &self.table, self.level, cut);
         take_hits(&mut self.table, &hits);
         self.ahead = false;
         self.time = cut;
@@ -126,7 +129,7 @@ impl<V> Site<V> {
         ensures volumes { VolumesStay P.tells (P.state plant.old) (P.state plant.new) }
         ensures failed { FailByCounts self.old.failed self.new.failed (P.state plant.old).faults (P.state plant.new).faults }
     {
-        self.mark_told(plant)?;
+        self.mark_first(plant, Level::Volume)?;
         // No item waits behind a mark.
         self.waits = false;
         let level = self.level;

@@ -34,10 +34,7 @@ fn copy_rows(alloc: Global, from: &PairTable, to: &mut PairTable) -> Result<(), 
     ensures session { to.new.session ≡ to.old.session }
     ensures rules { AreRowsSound from.now.rows }
 {
-    for place in 0..from.len() {
-        let Some(row) = from.row(place) else {
-            unreachable!()
-        };
+    for row in from.rows() {
         to.put_row(alloc, *row)?;
     }
     Ok(())

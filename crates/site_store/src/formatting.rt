@@ -1,10 +1,11 @@
 //! The start of a session.
 
 ghost use Rattle.std.specs.Prelude.{◌≡◌, ◌≤◌, [], false, true, map, replicate, IfOk, OnOk, IsErrOf};
+ghost use Rattle.xrc_edge.specs.declared.limits.TheConstants.{MOST_CONTROLS};
 ghost use Rattle.crash_plant.specs.Calls.{NoneLent, Silent, WorksOn};
 ghost use Rattle.state_set.specs.Slots.{started_table};
 ghost use Rattle.site_store.specs.declared.store_error.StoreError.TheVariants.{NoMemory as Memory};
-ghost use Rattle.site_store.specs.Formats.{AllShutOrMean, HasStartCause, IsFormatted, MeansStarted, started_means};
+ghost use Rattle.site_store.specs.Formats.{AllShutOrMean, HasStartCause, HasZeroedGates, IsFormatted, MeansStarted, started_means};
 ghost use Rattle.site_store.specs.Jobs.{are_home_from, has_job_failed};
 ghost use Rattle.site_store.specs.Sites.{first_mark, new_site};
 ghost use Rattle.site_store.specs.Standing.{FitsPlant, HasLengths, SiteStands, none_excepted};
@@ -65,7 +66,7 @@ fn made<V: Drop>(
     controls: u16,
     at: Stamp,
 ) -> Result<Site<V>, NoMemory>
-    requires { controls ≤ 16 }
+    requires { controls ≤ MOST_CONTROLS }
     ensures { IfOk result (λ site. site ≡ new_site controls volumes session level at) }
 {
     let room = journal_length(controls) - AROUND;
@@ -105,13 +106,14 @@ impl<V: Drop> Site<V> {
         at: Stamp,
     ) -> Result<Site<V>, StoreError>
         requires time { 1 ≤ at.0 }
-        requires controls { (1 ≤ controls) × (controls ≤ 16) }
+        requires controls { (1 ≤ controls) × (controls ≤ MOST_CONTROLS) }
         requires home { NoneLent (P.state plant.old) }
         requires lengths { HasLengths controls (P.state plant.old) }
         ensures ok { IfOk result (λ site. site ≡ new_site controls (P.state plant.old).volumes session level at) }
         ensures fits { IfOk result (λ site. FitsPlant site (P.state plant.new)) }
         ensures stands { P.tells → IfOk result (λ site. SiteStands none_excepted site (P.state plant.new)) }
         ensures means { P.tells → OnOk result (MeansStarted (P.state plant.new) (started_means session level at)) }
+        ensures zeroed { P.tells → OnOk result (HasZeroedGates (P.state plant.old) (P.state plant.new)) }
         // At every moment, also of a start that fails, the mark that counted before counts or none does, until whatever a crash leaves
         // means the new session. The state and journal 0 are as they were, until both slots of the control are closed.
         ensures moments { P.tells → AllShutOrMean (started_means session level at) (P.state plant.old) (P.state plant.new) }

@@ -1,55 +1,33 @@
 //! The entries of a group turned into the items of a body.
 
-ghost use Rattle.std.specs.Prelude.{◌≡◌, ◌↔◌, ◌<◌, ◌≤◌, ◌&&◌, ◌*◌, not, ℕ, false, true, find, length, map, slice_index_or, Some, IsSome, IsSomeAnd};
+ghost use Rattle.std.specs.Prelude.{◌≡◌, ◌↔◌, ◌<◌, ◌≤◌, ◌&&◌, ◌*◌, not, ℕ, false, true, length, map, slice_index_or, IsSomeAnd};
 ghost use Rattle.std.specs.List.{All, list_any};
+ghost use Rattle.xrc_edge.specs.declared.limits.TheConstants.{MOST_SITE_VOLUMES};
 ghost use Rattle.crash_plant.specs.Calls.{NoneLent};
 ghost use Rattle.xrc_journal.specs.Contents.{HasItem};
 ghost use Rattle.applier.specs.Returns.{OnlyReads, WorksOnLent};
-ghost use Rattle.image_former.specs.Entries.{HasEntry, entry_device, is_row_of, row_device};
+ghost use Rattle.image_former.specs.Entries.{HasEntry, entry_device};
 ghost use Rattle.image_former.specs.Jobs.{HasFailed};
 ghost use Rattle.pending_queue.specs.Entries.{IsOfWrite};
 ghost use Rattle.site_store.specs.Causes.{FailByCounts};
 ghost use Rattle.site_store.specs.Jobs.{are_home_from, has_job_failed};
 ghost use Rattle.site_store.specs.Logging.{DrawEntries, FailByEntries, HoldsImages, IsOfEntries, MayForm, is_entry_of_device, is_formed, is_wanted_live};
 
-use crate::hits::MOST_VOLUMES;
 use applier::{give_back_all, lend_all};
 use crash_plant::Plant;
-use image_former::form_body;
-use pair_table::{PairRow, PairTable};
-use pending_queue::{EntryHead, Formed};
+use image_former::{device_of, form_body};
+use pair_table::PairTable;
+use pending_queue::Formed;
+use xrc_edge::MOST_SITE_VOLUMES;
 use xrc_journal::{Body, VolumeJob};
 
-/// Whether a row is that of an entry.
-fn is_row_of(head: EntryHead, row: &PairRow) -> bool
-    ensures { result ≡ is_row_of head row.now }
-{
-    row.control == head.control && row.volume == head.volume
-}
-
-/// The device of the row of an entry.
-fn device_of(table: &PairTable, head: EntryHead) -> u16
-    requires { IsSome (find (is_row_of head) table.now.rows) }
-    ensures { row_device (find (is_row_of head) table.now.rows) ≡ Some result }
-{
-    for place in 0..table.len() {
-        let Some(row) = table.row(place) else {
-            unreachable!()
-        };
-        if is_row_of(head, row) {
-            return row.device;
-        }
-    }
-    unreachable!()
-}
-
 /// Whether a group has entries on each of the first 64 devices.
-fn wanted_volumes(table: &PairTable, formed: &Formed) -> [bool; MOST_VOLUMES]
-    requires { All (λ entry. IsSomeAnd (entry_device table.now.rows entry) (λ device. device < 64)) formed.now.entries }
-    ensures wanted { (d : ℕ) → d < 64 → slice_index_or result d false ≡ list_any (is_entry_of_device table.now.rows d) formed.now.entries }
+fn wanted_volumes(table: &PairTable, formed: &Formed) -> [bool; MOST_SITE_VOLUMES]
+    requires { All (λ entry. IsSomeAnd (entry_device table.now.rows entry) (λ device. device < MOST_SITE_VOLUMES)) formed.now.entries }
+    ensures wanted { (d : ℕ) → d < MOST_SITE_VOLUMES → slice_index_or result d false ≡ list_any (is_entry_of_device table.now.rows d) formed.now.entries }
     ensures written { All IsOfWrite formed.now.entries }
 {
-    let mut wanted = [false; MOST_VOLUMES];
+    let mut wanted = [false; MOST_SITE_VOLUMES];
     for place in 0..formed.count() {
         wanted[device_of(table, formed.head(place)) as usize] = true;
         // Each entry is of a write, so its form has bytes.
@@ -65,9 +43,9 @@ fn is_due(wanted: bool, failed: bool) -> bool
 }
 
 /// Of each volume, whether items of it were formed: it has entries, and its job hasn't failed.
-fn note_due<V>(jobs: &[VolumeJob<V>], wanted: &[bool; MOST_VOLUMES], due: &mut [bool])
+fn note_due<V>(jobs: &[VolumeJob<V>], wanted: &[bool; MOST_SITE_VOLUMES], due: &mut [bool])
     requires jobs { length due.old ≤ length jobs.now }
-    requires wanted { length due.old ≤ 64 }
+    requires wanted { length due.old ≤ MOST_SITE_VOLUMES }
     ensures { (d : ℕ) → d < length due.old → slice_index_or due.new d false ≡ is_wanted_live wanted.now (map has_job_failed jobs.now) d }
 {
     for place in 0..due.len() {

@@ -2,6 +2,9 @@
 
 ghost use Rattle.std.specs.Prelude.{◌≡◌, ◌<◌, ◌≤◌, ◌+◌, ◌*◌, length, IfSome, IsTrue};
 ghost use Rattle.std.specs.List.{list_all};
+ghost use Rattle.xrc_journal.specs.declared.layout.TheConstants.{ROW_ITEM};
+ghost use Rattle.pair_table.specs.declared.limits.TheConstants.{MOST_ROWS};
+ghost use Rattle.xrc_edge.specs.declared.limits.TheConstants.{MOST_SITE_VOLUMES};
 ghost use Rattle.pair_table.specs.Tables.{AreRowsSound, are_below, with_rows};
 ghost use Rattle.xrc_journal.specs.Items.{body_spelling};
 ghost use Rattle.site_store.specs.Hits.{stays_row, with_group_and_hits};
@@ -56,13 +59,13 @@ fn broken_state(since: Stamp, state: PairState) -> Option<PairState>
     ensures state { result ≡ broken_state since state }
     ensures valid { IfSome result (λ after. IsTrue (is_state after)) }
 {
-    match state {
-        PairState::Suspended { .. } => None,
-        _ => Some(PairState::Suspended {
-            cause: SuspendCause::Control,
-            since,
-        }),
+    if state.is_suspended() {
+        return None;
     }
+    Some(PairState::Suspended {
+        cause: SuspendCause::Control,
+        since,
+    })
 }
 
 /// The state to which a group changes a row, if it does.
@@ -78,7 +81,7 @@ fn next_state(formed: &Formed, row: &PairRow) -> Option<PairState>
 
 /// The state to which a record of a group changes a row, if it does: what the group makes of it, and hits behind that.
 fn record_state(formed: &Formed, hits: &Hits, row: &PairRow) -> Option<PairState>
-    requires { row.now.device < 64 }
+    requires { row.now.device < MOST_SITE_VOLUMES }
     ensures state { result ≡ with_group_and_hits formed.now hits.now row.now }
     ensures valid { IfSome result (λ after. IsTrue (is_state after)) }
 {
@@ -89,17 +92,14 @@ fn record_state(formed: &Formed, hits: &Hits, row: &PairRow) -> Option<PairState
 
 /// Puts the rows that a record changes, as they are after it.
 pub(crate) fn put_changed(body: &mut Body, table: &PairTable, formed: &Formed, hits: &Hits)
-    requires room { length (body_spelling body.old.items) + 64 * 31 ≤ body.old.room }
-    requires below { IsTrue (are_below 64 table.now.rows) }
+    requires room { length (body_spelling body.old.items) + MOST_ROWS * ROW_ITEM ≤ body.old.room }
+    requires below { IsTrue (are_below MOST_SITE_VOLUMES table.now.rows) }
     ensures put { body.new ≡ with_pairs (with_group_and_hits formed.now hits.now) table.now.rows body.old }
     ensures keep { IsTrue (list_all (stays_row (with_group_and_hits formed.now hits.now)) table.now.rows) }
     ensures rules { AreRowsSound table.now.rows }
-    ensures short { length (body_spelling body.new.items) ≤ length (body_spelling body.old.items) + 64 * 31 }
+    ensures short { length (body_spelling body.new.items) ≤ length (body_spelling body.old.items) + MOST_ROWS * ROW_ITEM }
 {
-    for place in 0..table.len() {
-        let Some(row) = table.row(place) else {
-            unreachable!()
-        };
+    for row in table.rows() {
         if let Some(state) = record_state(formed, hits, row) {
             let mut changed = *row;
             changed.state = state;
@@ -110,16 +110,14 @@ pub(crate) fn put_changed(body: &mut Body, table: &PairTable, formed: &Formed, h
 
 /// Gives the rows that a record changes their states after it.
 pub(crate) fn take_changed(table: &mut PairTable, formed: &Formed, hits: &Hits)
-    requires { IsTrue (are_below 64 table.old.rows) }
+    requires { IsTrue (are_below MOST_SITE_VOLUMES table.old.rows) }
     ensures { table.new ≡ with_rows table.old (rows_in_states (with_group_and_hits formed.now hits.now) table.old.rows) }
 {
     for place in 0..table.len() {
-        let Some(row) = table.row(place) else {
-            unreachable!()
-        };
-        let device = row.device;
-        if let Some(state) = record_state(formed, hits, row) {
-            table.set_state(device, state);
+        let rows = table.rows();
+        let row = rows[usize::from(place)];
+        if let Some(state) = record_state(formed, hits, &row) {
+            table.set_state(row.device, state);
         }
     }
 }

@@ -1,57 +1,48 @@
 //! The rows of volumes whose jobs have failed, and the rows that their failures reach.
 
-ghost use Rattle.std.specs.Prelude.{◌≡◌, ◌≤◌, ◌<◌, ◌+◌, ◌*◌, ◌++◌, ◌&&◌, ◌||◌, ℕ, false, length, map, slice_index_or, IfSome, IsTrue};
+ghost use Rattle.std.specs.Prelude.{◌≡◌, ◌≤◌, ◌<◌, ◌+◌, ◌*◌, ◌++◌, ◌&&◌, ◌||◌, not, ℕ, List, [], false, length, map, slice_index_or, IfSome, IsTrue};
+ghost use Rattle.xrc_journal.specs.declared.layout.TheConstants.{ROW_ITEM};
+ghost use Rattle.pair_table.specs.declared.limits.TheConstants.{MOST_ROWS};
+ghost use Rattle.xrc_edge.specs.declared.limits.TheConstants.{MOST_SITE_VOLUMES};
 ghost use Rattle.pair_table.specs.Devices.{is_among};
-ghost use Rattle.pair_table.specs.Rows.{is_state, is_suspended};
+ghost use Rattle.pair_table.specs.Rows.{is_state};
 ghost use Rattle.pair_table.specs.Tables.{AreRowsSound, are_below, with_rows};
 ghost use Rattle.record_rows.specs.ChangedRows.{rows_in_states};
-ghost use Rattle.record_rows.specs.Hits.{hit_now, is_device_suspended, is_hit_now};
-ghost use Rattle.row_changes.specs.Changes.{is_session_level};
+ghost use Rattle.record_rows.specs.Hits.{hit_now, is_hit_now};
+ghost use Rattle.row_changes.specs.Changes.{reaches_others};
 ghost use Rattle.xrc_journal.specs.Items.{body_spelling};
-ghost use Rattle.site_store.specs.Hits.{AreHits, are_some, next_by_hits, pairs_with_next, with_hits};
+ghost use Rattle.site_store.specs.Hits.{AreDevices, AreHits, AreReached, are_some, next_by_hits, pairs_with_next, with_hits};
 ghost use Rattle.site_store.specs.Jobs.{has_job_failed};
 
 use pair_table::{Level, PairRow, PairState, PairTable, SuspendCause};
 use tod_stamp::Stamp;
+use xrc_edge::MOST_SITE_VOLUMES;
 use xrc_journal::{Body, VolumeJob};
 
-/// The most volumes of a site, and so the most rows.
-pub(crate) const MOST_VOLUMES: usize = 64;
+/// The devices that are hit at a time: their jobs have failed, and their rows don't tell it yet.
+#[derive(Clone, Copy)]
+pub(crate) struct HitDevices {
+    /// Of each device, whether it is hit.
+    are: [bool; MOST_SITE_VOLUMES],
+    /// Whether one is.
+    any: bool,
+}
 
 /// What failed jobs do to rows at a time.
 #[derive(Clone, Copy)]
 pub(crate) struct Hits {
-    /// Of each device, whether it is hit: its job has failed, and its row doesn't tell it yet.
-    devices: [bool; MOST_VOLUMES],
-    /// Whether each row that isn't suspended is suspended by the session.
-    reaches: bool,
+    /// Of each device, whether it is hit.
+    devices: [bool; MOST_SITE_VOLUMES],
+    /// Of each device, whether hits reach its row.
+    reached: [bool; MOST_SITE_VOLUMES],
     time: Stamp,
 }
 
-/// How far hits reach: the session's level, and whether hits of an earlier mark are due.
+/// How far hits reach: the session's level, and the devices that were hit in the mark before, whose reach is due.
 #[derive(Clone, Copy)]
 pub(crate) struct HitReach {
     pub(crate) level: Level,
-    pub(crate) due: bool,
-}
-
-/// Whether a row in this state is suspended by its own device.
-fn is_device_suspended(state: PairState) -> bool
-    ensures { result ≡ is_device_suspended state }
-{
-    matches!(
-        state,
-        PairState::Suspended {
-            cause: SuspendCause::Device,
-            ..
-        }
-    )
-}
-
-fn is_suspended(state: PairState) -> bool
-    ensures { result ≡ is_suspended state }
-{
-    matches!(state, PairState::Suspended { .. })
+    pub(crate) marked: HitDevices,
 }
 
 /// Whether a row's volume has failed and the row doesn't tell it yet.
@@ -59,7 +50,7 @@ fn is_hit<V>(jobs: &[VolumeJob<V>], row: &PairRow) -> bool
     requires { row.now.device < length jobs.now }
     ensures { result ≡ is_hit_now (map has_job_failed jobs.now) row.now }
 {
-    jobs[usize::from(row.device)].failed && !is_device_suspended(row.state)
+    jobs[usize::from(row.device)].failed && !row.state.is_suspended_by_device()
 }
 
 /// Whether a volume of the rows has failed and isn't told yet.
@@ -67,10 +58,7 @@ pub(crate) fn is_any_hit<V>(jobs: &[VolumeJob<V>], table: &PairTable) -> bool
     requires { IsTrue (are_below (length jobs.now) table.now.rows) }
     ensures { result ≡ are_some (hit_now (map has_job_failed jobs.now) table.now.rows) }
 {
-    for place in 0..table.len() {
-        let Some(row) = table.row(place) else {
-            unreachable!()
-        };
+    for row in table.rows() {
         if is_hit(jobs, row) {
             return true;
         }
@@ -85,17 +73,14 @@ pub(crate) fn either(one: bool, other: bool) -> bool
 }
 
 /// Of each device, whether it is hit now.
-fn hit_devices<V>(jobs: &[VolumeJob<V>], table: &PairTable) -> [bool; MOST_VOLUMES]
+fn hit_flags<V>(jobs: &[VolumeJob<V>], table: &PairTable) -> [bool; MOST_SITE_VOLUMES]
     requires below { IsTrue (are_below (length jobs.now) table.now.rows) }
-    requires few { length jobs.now ≤ 64 }
-    ensures hit { (d : ℕ) → d < 64 → slice_index_or result d false ≡ is_among d (hit_now (map has_job_failed jobs.now) table.now.rows) }
+    requires few { length jobs.now ≤ MOST_SITE_VOLUMES }
+    ensures hit { (d : ℕ) → d < MOST_SITE_VOLUMES → slice_index_or result d false ≡ is_among d (hit_now (map has_job_failed jobs.now) table.now.rows) }
     ensures rules { AreRowsSound table.now.rows }
 {
-    let mut devices = [false; MOST_VOLUMES];
-    for place in 0..table.len() {
-        let Some(row) = table.row(place) else {
-            unreachable!()
-        };
+    let mut devices = [false; MOST_SITE_VOLUMES];
+    for row in table.rows() {
         let device = usize::from(row.device);
         let is_hit = is_hit(jobs, row);
         devices[device] = either(devices[device], is_hit);
@@ -103,47 +88,107 @@ fn hit_devices<V>(jobs: &[VolumeJob<V>], table: &PairTable) -> [bool; MOST_VOLUM
     devices
 }
 
-/// Whether hits reach other rows, where there are some or some are due.
-fn reaches_others(level: Level, some: bool) -> bool
-    ensures { result ≡ (is_session_level level && some) }
+/// The devices that are hit now.
+pub(crate) fn hit_devices<V>(jobs: &[VolumeJob<V>], table: &PairTable) -> HitDevices
+    requires below { IsTrue (are_below (length jobs.now) table.now.rows) }
+    requires few { length jobs.now ≤ MOST_SITE_VOLUMES }
+    ensures hit { AreDevices (hit_now (map has_job_failed jobs.now) table.now.rows) result }
+    ensures rules { AreRowsSound table.now.rows }
+{
+    let are = hit_flags(jobs, table);
+    let any = is_any_hit(jobs, table);
+    HitDevices { are, any }
+}
+
+/// No device.
+pub(crate) fn no_devices() -> HitDevices
+    ensures { AreDevices [] result }
+{
+    HitDevices {
+        are: [false; MOST_SITE_VOLUMES],
+        any: false,
+    }
+}
+
+/// Whether hits reach other rows.
+fn reaches_others(level: Level) -> bool
+    ensures { result ≡ reaches_others level }
 {
     match level {
-        Level::Session => some,
+        Level::Session => true,
         Level::Volume => false,
     }
 }
 
-/// The hits of a table's rows at a time. Where hits of an earlier mark are due, they reach the rows that aren't suspended too.
+/// Whether hits of these devices reach the row of a device.
+fn reaches(level: Level, hit: &HitDevices, device: usize) -> bool
+    requires { device < MOST_SITE_VOLUMES }
+    ensures { result ≡ ((reaches_others level && hit.now.any) && not (slice_index_or hit.now.are device false)) }
+{
+    reaches_others(level) && hit.any && !hit.are[device]
+}
+
+/// Of each device, whether the hits of a mark or those behind it reach its row.
+fn reached_devices(level: Level, marked: &HitDevices, hit: &HitDevices) -> [bool; MOST_SITE_VOLUMES]
+    ensures { (was now : List ℕ) → AreDevices was marked.now → AreDevices now hit.now → AreReached level was now result }
+{
+    let mut reached = [false; MOST_SITE_VOLUMES];
+    for device in 0..MOST_SITE_VOLUMES {
+        let by_mark = reaches(level, marked, device);
+        let by_hit = reaches(level, hit, device);
+        reached[device] = either(by_mark, by_hit);
+    }
+    reached
+}
+
+/// The hits of a table's rows at a time, behind a mark in which these devices were hit.
+pub(crate) fn hits_behind_mark<V>(
+    jobs: &[VolumeJob<V>],
+    table: &PairTable,
+    level: Level,
+    time: Stamp,
+    marked: &HitDevices,
+) -> Hits
+    requires below { IsTrue (are_below (length jobs.now) table.now.rows) }
+    requires few { length jobs.now ≤ MOST_SITE_VOLUMES }
+    ensures hits { (was : List ℕ) → AreDevices was marked.now → AreHits level time (map has_job_failed jobs.now) was table.now.rows result }
+    ensures rules { AreRowsSound table.now.rows }
+{
+    let hit = hit_devices(jobs, table);
+    let reached = reached_devices(level, marked, &hit);
+    Hits {
+        devices: hit.are,
+        reached,
+        time,
+    }
+}
+
+/// The hits of a table's rows at a time.
 pub(crate) fn hits_at<V>(
     jobs: &[VolumeJob<V>],
     table: &PairTable,
     level: Level,
     time: Stamp,
-    due: bool,
 ) -> Hits
     requires below { IsTrue (are_below (length jobs.now) table.now.rows) }
-    requires few { length jobs.now ≤ 64 }
-    ensures hits { AreHits level time (map has_job_failed jobs.now) due table.now.rows result }
+    requires few { length jobs.now ≤ MOST_SITE_VOLUMES }
+    ensures hits { AreHits level time (map has_job_failed jobs.now) [] table.now.rows result }
     ensures rules { AreRowsSound table.now.rows }
 {
-    let any = is_any_hit(jobs, table);
-    Hits {
-        devices: hit_devices(jobs, table),
-        reaches: reaches_others(level, due || any),
-        time,
-    }
+    let none = no_devices();
+    hits_behind_mark(jobs, table, level, time, &none)
 }
 
 impl Hits {
     /// The state to which hits change a row in this state, if they do.
     pub(crate) fn next_state(&self, device: u16, state: PairState) -> Option<PairState>
-        requires { device < 64 }
+        requires { device < MOST_SITE_VOLUMES }
         ensures state { result ≡ next_by_hits self.now device state }
         ensures valid { IfSome result (λ after. IsTrue (is_state after)) }
     {
         let cause = if self.devices[usize::from(device)] {
             SuspendCause::Device
-        } else if self.reaches && !is_suspended(state) {
+        } else if self.reached[usize::from(device)] && !state.is_suspended() {
             SuspendCause::Session
         } else {
             return None;
@@ -157,16 +202,13 @@ impl Hits {
 
 /// Puts the rows that hits change, as they are after them.
 pub(crate) fn put_hits(body: &mut Body, table: &PairTable, hits: &Hits)
-    requires room { length (body_spelling body.old.items) + 64 * 31 ≤ body.old.room }
-    requires below { IsTrue (are_below 64 table.now.rows) }
+    requires room { length (body_spelling body.old.items) + MOST_ROWS * ROW_ITEM ≤ body.old.room }
+    requires below { IsTrue (are_below MOST_SITE_VOLUMES table.now.rows) }
     ensures put { body.new ≡ record { items = body.old.items ++ pairs_with_next (with_hits hits.now) table.now.rows; room = body.old.room } }
     ensures rules { AreRowsSound table.now.rows }
-    ensures short { length (body_spelling body.new.items) ≤ length (body_spelling body.old.items) + 64 * 31 }
+    ensures short { length (body_spelling body.new.items) ≤ length (body_spelling body.old.items) + MOST_ROWS * ROW_ITEM }
 {
-    for place in 0..table.len() {
-        let Some(row) = table.row(place) else {
-            unreachable!()
-        };
+    for row in table.rows() {
         if let Some(state) = hits.next_state(row.device, row.state) {
             let mut changed = *row;
             changed.state = state;
@@ -177,16 +219,14 @@ pub(crate) fn put_hits(body: &mut Body, table: &PairTable, hits: &Hits)
 
 /// Gives the rows that hits change their states after them.
 pub(crate) fn take_hits(table: &mut PairTable, hits: &Hits)
-    requires { IsTrue (are_below 64 table.old.rows) }
+    requires { IsTrue (are_below MOST_SITE_VOLUMES table.old.rows) }
     ensures { table.new ≡ with_rows table.old (rows_in_states (with_hits hits.now) table.old.rows) }
 {
     for place in 0..table.len() {
-        let Some(row) = table.row(place) else {
-            unreachable!()
-        };
-        let device = row.device;
-        if let Some(state) = hits.next_state(device, row.state) {
-            table.set_state(device, state);
+        let rows = table.rows();
+        let row = rows[usize::from(place)];
+        if let Some(state) = hits.next_state(row.device, row.state) {
+            table.set_state(row.device, state);
         }
     }
 }

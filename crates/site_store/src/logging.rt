@@ -1,12 +1,14 @@
 //! A formed group, logged.
 
-ghost use Rattle.std.specs.Prelude.{◌≡◌, ◌≤◌, ◌<◌, ◌+◌, ◌-◌, ◌*◌, ◌^◌, true, length, map, IsErrOf, OnOk};
+ghost use Rattle.std.specs.Prelude.{◌≡◌, ◌≤◌, ◌<◌, ◌+◌, ◌-◌, ◌*◌, ◌^◌, ℕ, List, true, length, map, IsErrOf, OnOk};
+ghost use Rattle.xrc_journal.specs.declared.layout.TheConstants.{ROW_ITEM};
+ghost use Rattle.pair_table.specs.declared.limits.TheConstants.{MOST_ROWS};
 ghost use Rattle.applier.specs.Returns.{OnlyReads, WorksOnLent};
 ghost use Rattle.crash_plant.specs.Calls.{NoneLent, Silent};
 ghost use Rattle.site_store.specs.declared.store_error.StoreError.TheVariants.{Spent};
 ghost use Rattle.site_store.specs.declared.placement.Placement.TheVariants.{Marked};
 ghost use Rattle.site_store.specs.Causes.{FailByCounts, HasStoreCause};
-ghost use Rattle.site_store.specs.Hits.{AreHits};
+ghost use Rattle.site_store.specs.Hits.{AreDevices, AreHits};
 ghost use Rattle.site_store.specs.Jobs.{are_home_from, has_job_failed};
 ghost use Rattle.site_store.specs.Logging.{FailByEntries, FormsRecord, IsOfEntries, IsOfLog, LogsBy, LogsGroup, MayForm, MayLog, StaysUnwritten};
 ghost use Rattle.site_store.specs.Records.{VolumesStay};
@@ -14,12 +16,12 @@ ghost use Rattle.site_store.specs.Standing.{MayRecord, Leaves};
 
 use crate::forming::form_group;
 use crate::group_rows::{put_changed, take_changed};
-use crate::hits::{HitReach, Hits, hits_at};
+use crate::hits::{HitReach, Hits, hits_behind_mark, no_devices};
 use crate::placement::{Placement, placement_from, record_needs_more};
 use crate::recording::put_record;
 use crate::{Site, StoreError};
 use crash_plant::Plant;
-use pair_table::PairTable;
+use pair_table::{Level, PairTable};
 use pending_queue::Formed;
 use xrc_journal::{Body, VolumeJob};
 
@@ -36,9 +38,9 @@ fn form_record<P: Plant>(
     due: &mut [bool],
 ) -> Hits
     requires may { MayForm formed.now table.now.rows jobs.old due.old (P.state plant.old) }
-    requires room { 56670 * length formed.now.entries + 64 * 31 ≤ body.old.room }
+    requires room { 56670 * length formed.now.entries + MOST_ROWS * ROW_ITEM ≤ body.old.room }
     ensures forms { FormsRecord P.tells formed.now table.now.rows (P.state plant.old) body.old body.new due.new (map has_job_failed jobs.new) result }
-    ensures hits { AreHits reach.level formed.now.cut (map has_job_failed jobs.new) reach.due table.now.rows result }
+    ensures hits { (marked : List ℕ) → AreDevices marked reach.marked → AreHits reach.level formed.now.cut (map has_job_failed jobs.new) marked table.now.rows result }
     ensures idle { are_home_from 0 jobs.new ≡ true }
     ensures fails { FailByCounts (map has_job_failed jobs.old) (map has_job_failed jobs.new) (P.state plant.old).faults (P.state plant.new).faults }
     ensures by_entries { FailByEntries table.now.rows formed.now.entries (map has_job_failed jobs.old) (map has_job_failed jobs.new) }
@@ -47,7 +49,7 @@ fn form_record<P: Plant>(
     ensures only { WorksOnLent P.tells (IsOfEntries table.now.rows formed.now.entries) (P.state plant.old) (P.state plant.new) }
 {
     form_group(plant, jobs, table, formed, body, due);
-    let hits = hits_at(jobs, table, reach.level, formed.cut(), reach.due);
+    let hits = hits_behind_mark(jobs, table, reach.level, formed.cut(), &reach.marked);
     put_changed(body, table, formed, &hits);
     hits
 }
@@ -76,10 +78,10 @@ impl<V> Site<V> {
     {
         // The body has room for groups of so many controls.
         prove!(formed.controls() <= self.controls);
-        let reached = self.mark_hits(plant)?;
+        let hit = self.mark_first(plant, Level::Volume)?;
         let reach = HitReach {
             level: self.level,
-            due: reached,
+            marked: hit,
         };
         let (body, due) = (&mut self.body, self.due.as_mut_slice());
         let hits = form_record(plant, &mut self.jobs, &self.table, reach, formed, body, due);
@@ -129,9 +131,10 @@ impl<V> Site<V> {
         prove!(formed.controls() <= self.controls);
         // No item waits by what the call requires.
         self.waits = false;
+        let none = no_devices();
         let reach = HitReach {
             level: self.level,
-            due: false,
+            marked: none,
         };
         let (body, due) = (&mut self.body, self.due.as_mut_slice());
         let hits = form_record(plant, &mut self.jobs, &self.table, reach, formed, body, due);

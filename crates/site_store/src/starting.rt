@@ -1,6 +1,6 @@
 //! The devices of a session that starts: what stood on them counts no more.
 
-ghost use Rattle.std.specs.Prelude.{◌≡◌, ◌≢◌, ◌≤◌, ◌+◌, ◌==◌, slice_index, IfOk, IsErrOf, OnOk};
+ghost use Rattle.std.specs.Prelude.{◌≡◌, ◌≢◌, ◌≤◌, ◌+◌, ◌==◌, true, slice_index, IfOk, IsErrOf, OnOk};
 ghost use Rattle.crash_plant.specs.declared.device.Device.TheVariants.{Control, Journal as JournalDevice};
 ghost use Rattle.crash_plant.specs.Bytes.{Torn};
 ghost use Rattle.crash_plant.specs.Calls.{WorksOn};
@@ -8,7 +8,7 @@ ghost use Rattle.crash_plant.specs.Gates.{Shuts};
 ghost use Rattle.crash_plant.specs.Moments.{Follows, IsDurable, Same, on};
 ghost use Rattle.control_set.specs.Slots.{NoGateOpen, lengths_of};
 ghost use Rattle.site_store.specs.declared.store_error.StoreError.TheVariants.{NoMemory as Memory};
-ghost use Rattle.site_store.specs.Formats.{AllShutFirst, AreHalves, ControlFollows, HasStartCause, IsFormatted, IsFrontOfSlot, IsShut, ShutsControl, front_at};
+ghost use Rattle.site_store.specs.Formats.{AllShutFirst, AreHalves, AreZeroed, ControlFollows, HasStartCause, IsFormatted, IsFrontOfSlot, IsShut, ShutsControl, front_at};
 ghost use Rattle.xrc_edge.specs.Causes.{HasCause};
 
 use crate::StoreError;
@@ -61,6 +61,7 @@ fn shut_gate<P: Plant>(plant: &mut P, slot: SlotFront) -> Result<(), Failed>
     requires place { slot.place + 1 ≤ (P.state plant.old).lengths Control }
     requires gate { P.tells → slot.is_open ≡ (slice_index ((P.state plant.old).bytes Control) slot.place == 1) }
     ensures shut { P.tells → OnOk result (slice_index ((P.state plant.new).bytes Control) slot.place ≢ 1) }
+    ensures zero { P.tells → OnOk result (slot.is_open ≡ true → slice_index ((P.state plant.new).bytes Control) slot.place ≡ 0) }
     ensures torn { P.tells → OnOk result (Torn slot.place 1 ((P.state plant.old).bytes Control) ((P.state plant.new).bytes Control)) }
     ensures durable { P.tells → OnOk result (IsDurable (on (P.state plant.new) Control)) }
     ensures moments { P.tells → ControlFollows (Shuts slot.place) (P.state plant.old) (P.state plant.new) }
@@ -80,6 +81,8 @@ fn shut_both<P: Plant>(plant: &mut P, idle: SlotFront, counted: SlotFront) -> Re
     requires fronts { P.tells → let control = (P.state plant.old).bytes Control in IsFrontOfSlot idle control × IsFrontOfSlot counted control }
     requires order { idle.number ≤ counted.number }
     ensures shut { P.tells → OnOk result (NoGateOpen ((P.state plant.new).bytes Control)) }
+    ensures idle { P.tells → OnOk result (idle.is_open ≡ true → slice_index ((P.state plant.new).bytes Control) idle.place ≡ 0) }
+    ensures counted { P.tells → OnOk result (counted.is_open ≡ true → slice_index ((P.state plant.new).bytes Control) counted.place ≡ 0) }
     ensures durable { P.tells → OnOk result (IsDurable (on (P.state plant.new) Control)) }
     ensures moments { P.tells → ControlFollows (ShutsControl (lengths_of (P.state plant.old))) (P.state plant.old) (P.state plant.new) }
     ensures only { WorksOn P.tells (λ d. d ≡ Control) (P.state plant.old) (P.state plant.new) }
@@ -94,6 +97,7 @@ fn shut_both<P: Plant>(plant: &mut P, idle: SlotFront, counted: SlotFront) -> Re
 fn shut_gates<P: Plant>(plant: &mut P) -> Result<(), Failed>
     requires { CONTROL_LENGTH ≤ (P.state plant.old).lengths Control }
     ensures shut { P.tells → OnOk result (NoGateOpen ((P.state plant.new).bytes Control)) }
+    ensures zeroed { P.tells → OnOk result (AreZeroed ((P.state plant.old).bytes Control) ((P.state plant.new).bytes Control)) }
     ensures durable { P.tells → OnOk result (IsDurable (on (P.state plant.new) Control)) }
     ensures moments { P.tells → ControlFollows (ShutsControl (lengths_of (P.state plant.old))) (P.state plant.old) (P.state plant.new) }
     ensures only { WorksOn P.tells (λ d. d ≡ Control) (P.state plant.old) (P.state plant.new) }
@@ -114,6 +118,9 @@ pub(crate) fn shut_all<P: Plant>(plant: &mut P) -> Result<(), StoreError>
     requires journals { 1 ≤ (P.state plant.old).journals }
     requires journal { 1 ≤ (P.state plant.old).lengths (JournalDevice 0) }
     ensures shut { P.tells → OnOk result (IsShut (P.state plant.new)) }
+    // The gates that were open have the byte 0, and so has that of the first record.
+    ensures zeroed { P.tells → OnOk result (AreZeroed ((P.state plant.old).bytes Control) ((P.state plant.new).bytes Control)) }
+    ensures first { P.tells → OnOk result (slice_index ((P.state plant.new).bytes (JournalDevice 0)) 0 ≡ 0) }
     // At every moment the state and the journal are as they were, until both slots of the control are closed.
     ensures moments { P.tells → AllShutFirst (P.state plant.old) (P.state plant.new) }
     ensures only { WorksOn P.tells IsFormatted (P.state plant.old) (P.state plant.new) }

@@ -1,14 +1,16 @@
 //! The state and the mark, as they are written.
 
-ghost use Rattle.std.specs.Prelude.{◌≡◌, ◌≤◌, OnOk, IsErrOf, IsTrue, Ok, Some, None};
+ghost use Rattle.std.specs.Prelude.{◌≡◌, ◌≤◌, slice_index, OnOk, IsErrOf, IsTrue, Ok, Some, None};
+ghost use Rattle.crash_plant.specs.declared.layout.TheConstants.{CONTROL_LENGTH, STATE_LENGTH};
 ghost use Rattle.crash_plant.specs.declared.device.Device.{Device as AnyDevice};
 ghost use Rattle.crash_plant.specs.declared.device.Device.TheVariants.{Control, State};
 ghost use Rattle.crash_plant.specs.Moments.{on, IsDurable};
 ghost use Rattle.crash_plant.specs.Calls.{WorksOn};
 ghost use Rattle.control_set.specs.Marks.{IsMark};
-ghost use Rattle.control_set.specs.Slots.{IsNext, chosen_mark, lengths_of};
+ghost use Rattle.control_set.specs.Slots.{IsNext, NoGateOpen, chosen_mark, lengths_of};
 ghost use Rattle.pair_table.specs.Tables.{are_below};
 ghost use Rattle.site_store.specs.declared.store_error.StoreError.TheVariants.{Fault, Spent};
+ghost use Rattle.site_store.specs.Formats.{second_slot};
 ghost use Rattle.site_store.specs.Marking.{AllPutMark, IsMarked, MarkIsPut};
 ghost use Rattle.site_store.specs.Causes.{HasStoreCause};
 
@@ -24,8 +26,8 @@ pub(crate) fn put_mark<P: Plant>(
     table: &PairTable,
     value: &Mark,
 ) -> Result<(), StoreError>
-    requires control { 1024 ≤ (P.state plant.old).lengths Control }
-    requires state { 16384 ≤ (P.state plant.old).lengths State }
+    requires control { CONTROL_LENGTH ≤ (P.state plant.old).lengths Control }
+    requires state { STATE_LENGTH ≤ (P.state plant.old).lengths State }
     requires devices { IsTrue (are_below (P.state plant.old).volumes table.now.rows) }
     requires keeps { IsMark (lengths_of (P.state plant.old)) value.now }
     requires session { value.now.session ≡ table.now.session }
@@ -33,6 +35,8 @@ pub(crate) fn put_mark<P: Plant>(
     requires durable { P.tells → IsDurable (on (P.state plant.old) Control) }
     // At every moment the old mark counts, or the new one does and its slot holds the level and the rows.
     ensures moments { P.tells → AllPutMark value.now (record { level = level; rows = table.now.rows }) (P.state plant.old) (P.state plant.new) }
+    // With no gate open it goes to the first slot, and the gate of the second stays.
+    ensures second { P.tells → NoGateOpen ((P.state plant.old).bytes Control) → OnOk result (slice_index ((P.state plant.new).bytes Control) second_slot ≡ slice_index ((P.state plant.old).bytes Control) second_slot) }
     // After Ok the new one does, whatever a crash leaves.
     ensures put { P.tells → OnOk result (MarkIsPut value.now (record { level = level; rows = table.now.rows }) (P.state plant.new)) }
     ensures only { WorksOn P.tells IsMarked (P.state plant.old) (P.state plant.new) }

@@ -30,6 +30,8 @@ pub fn marked_hits()
     ensures with_the_record { may_all_come Session no_breaks true NoneDue 0x60 0x6D (two_rows Pending Duplex) (at_time 0x60 (MarkedHit (1 ∷ [])) ∷ at_time 0x6D (Mature 0 Duplex) ∷ at_time 0x6D (Reached (1 ∷ [])) ∷ []) ≡ true }
     ensures behind_the_record { may_all_come Session no_breaks true NoneDue 0x60 0x70 (two_rows Pending Duplex) (at_time 0x60 (MarkedHit (1 ∷ [])) ∷ at_time 0x6D (Mature 0 Duplex) ∷ at_time 0x70 (Reached (1 ∷ [])) ∷ []) ≡ false }
     ensures of_another_hit { may_all_come Session no_breaks false NoneDue 0x60 0x6D (two_rows Duplex Duplex) (at_time 0x60 (MarkedHit (1 ∷ [])) ∷ at_time 0x6D (Reached (0 ∷ [])) ∷ []) ≡ false }
+    ensures hit_in_the_record { may_all_come Session no_breaks false NoneDue 0x60 0x6D (two_rows Duplex Duplex) (at_time 0x60 (MarkedHit (1 ∷ [])) ∷ at_time 0x6D (Hit (0 ∷ [])) ∷ []) ≡ false }
+    ensures reached_before { may_all_come Session no_breaks false NoneDue 0x60 0x6D (two_rows Duplex Duplex) (at_time 0x60 (MarkedHit (1 ∷ [])) ∷ at_time 0x6D (Reached (1 ∷ [])) ∷ at_time 0x6D (Hit (0 ∷ [])) ∷ []) ≡ true }
     ensures others_alone { after_changes Session (at_time 0x80 (Reached (1 ∷ [])) ∷ []) (two_rows Duplex Duplex) ≡ two_rows (since BySession 0x80) Duplex }
     ensures not_due { may_all_come Session no_breaks false NoneDue 0x70 0x80 (two_rows Duplex Duplex) (at_time 0x70 (Reached (1 ∷ [])) ∷ []) ≡ false }
     ensures after_a_command { is_hit_at 0x80 (at_time 0x80 (MarkedHit (1 ∷ []))) ≡ false }

@@ -6,7 +6,7 @@ ghost use Rattle.pair_table.specs.declared.row.PairState.TheVariants.{Copy, Dupl
 ghost use Rattle.pair_table.specs.declared.row.SuspendCause.TheVariants.{Command as ByCommand, Control as ByControl, Device as ByDevice, Session as BySession};
 ghost use Rattle.row_changes.specs.Changes.RowChange.{Break, Hit, Mature, Reached};
 ghost use Rattle.row_changes.specs.Changes.Due.{NoneDue};
-ghost use Rattle.row_changes.specs.Changes.{may_all_come, since};
+ghost use Rattle.row_changes.specs.Changes.{may_all_come, reach_of, since};
 ghost use Rattle.record_rows.specs.ChangedRows.{changed_rows, state_with_record};
 ghost use Rattle.record_rows.specs.GroupRows.{rows_with_group};
 ghost use Rattle.record_rows.specs.Hits.{hit_now, rows_marked};
@@ -21,7 +21,7 @@ pub fn failing_volume()
     ensures all { rows_with_record Session (group_cut_at 0x80) second_failed duplex_rows ≡ rows_beside (since BySession 0x80) (since ByDevice 0x80) }
     ensures changes { record_changes (group_cut_at 0x80) second_failed duplex_rows ≡ at_time 0x80 (Hit (1 ∷ [])) ∷ [] }
     ensures may_come { may_all_come Session no_breaks false NoneDue 0x70 0x80 duplex_rows (record_changes (group_cut_at 0x80) second_failed duplex_rows) ≡ true }
-    ensures named { changed_rows (state_with_record Volume [] (1 ∷ []) (group_cut_at 0x80)) duplex_rows ≡ beside_row (since ByDevice 0x80) ∷ [] }
+    ensures named { changed_rows (state_with_record (reach_of Volume duplex_rows) [] (1 ∷ []) (group_cut_at 0x80)) duplex_rows ≡ beside_row (since ByDevice 0x80) ∷ [] }
     ensures no_more { hit_now second_failed (second_out 0x80) ≡ [] }
     ensures suspended { hit_now second_failed (rows_beside Duplex (since ByCommand 0x60)) ≡ 1 ∷ [] }
     ensures in_order { hit_now both_failed duplex_rows ≡ 0 ∷ 1 ∷ [] }
@@ -36,7 +36,7 @@ pub fn failing_in_mark()
     ensures none_reached { changes_behind_mark Volume (1 ∷ []) (group_cut_at 0x80) second_failed (second_out 0x70) ≡ [] }
     ensures reached { changes_behind_mark Session (1 ∷ []) (group_cut_at 0x80) second_failed (second_out 0x70) ≡ at_time 0x80 (Reached (1 ∷ [])) ∷ [] }
     ensures both { rows_behind_mark Session (1 ∷ []) (group_cut_at 0x80) both_failed (second_out 0x70) ≡ rows_beside (since ByDevice 0x80) (since ByDevice 0x70) }
-    ensures hit { changes_behind_mark Session (1 ∷ []) (group_cut_at 0x80) both_failed (second_out 0x70) ≡ at_time 0x80 (Hit (0 ∷ [])) ∷ [] }
+    ensures hit { changes_behind_mark Session (1 ∷ []) (group_cut_at 0x80) both_failed (second_out 0x70) ≡ at_time 0x80 (Reached (1 ∷ [])) ∷ at_time 0x80 (Hit (0 ∷ [])) ∷ [] }
     ensures no_record { rows_with_hits Session 0x70 second_failed duplex_rows ≡ rows_beside (since BySession 0x70) (since ByDevice 0x70) }
 {}
 

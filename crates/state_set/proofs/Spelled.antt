@@ -1,7 +1,8 @@
 -- Rows that are spelled one behind the other.
-use Rattle.std.proofs.Common.{◌≡◌, ℕ, zero, suc, ◌*◌, ◌<◌, true, List, [], ◌∷◌, ◌++◌, length, take, slice_get, Some, refl, ap, ◌∙◌, arith, append-nil, length-append}
+use Rattle.std.proofs.Common.{◌≡◌, ℕ, ◌+◌, ◌*◌, ◌<◌, true, List, [], ◌∷◌, ◌++◌, length, get_or, take, refl, sym, ap, ◌∙◌, arith, append-nil, length-append}
 use Rattle.std.specs.List.{list_all}
 use Rattle.std.proofs.lemmas.Bool.{and_parts}
+use Rattle.std.proofs.lemmas.List.{take_more}
 use Rattle.std.proofs.lemmas.Grind.{flat_map-append}
 use Rattle.tod_stamp.specs.Names.{serial_field}
 use Rattle.tod_stamp.proofs.NameLaws.{length-name_field}
@@ -10,17 +11,11 @@ use Rattle.pair_table.specs.Rows.{is_row, numbers_spelling, state_spelling as st
 use Rattle.pair_table.proofs.RowRules.{row_rules}
 use Rattle.state_set.specs.Slots.{rows_spelling}
 
--- the row at a place, and the rows up to it
-pub row_there : (rows : List PairRow) (i : ℕ) → i < length rows → (r : PairRow) × (slice_get rows i ≡ Some r) × (take (suc i) rows ≡ take i rows ++ r ∷ [])
-row_there [] i lt = absurd (omega (arith, lt))
-row_there (r ∷ rows) zero lt = (r, refl, refl)
-row_there (r ∷ rows) (suc i) lt =
-    let next = row_there rows i (omega (arith, lt)) in
-    (next.0, next.1, ap (λ (t : List PairRow). r ∷ t) next.2)
-
-pub spelled_more : (rows : List PairRow) (i : ℕ) (r : PairRow) → take (suc i) rows ≡ take i rows ++ r ∷ [] → rows_spelling (take (suc i) rows) ≡ rows_spelling (take i rows) ++ row_spelling r
-spelled_more rows i r is =
-    ap rows_spelling is ∙ flat_map-append row_spelling (take i rows) (r ∷ []) ∙ ap (λ (t : List ℕ). rows_spelling (take i rows) ++ t) (append-nil (row_spelling r))
+-- one row more
+pub spelled_more : (rows : List PairRow) (i : ℕ) (r : PairRow) → i < length rows → r ≡ get_or rows i r → rows_spelling (take (i + 1) rows) ≡ rows_spelling (take i rows) ++ row_spelling r
+spelled_more rows i r lt is =
+    ap rows_spelling (take_more rows i r lt) ∙ ap (λ (x : PairRow). rows_spelling (take i rows ++ x ∷ [])) (sym is)
+    ∙ flat_map-append row_spelling (take i rows) (r ∷ []) ∙ ap (λ (t : List ℕ). rows_spelling (take i rows) ++ t) (append-nil (row_spelling r))
 
 -- ---- lengths
 

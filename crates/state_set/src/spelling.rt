@@ -1,8 +1,7 @@
 //! The bytes of a state.
 
-ghost use Rattle.std.specs.Prelude.{◌≡◌, ◌≤◌, ◌<◌, ◌+◌, ◌*◌, length, take, drop, slice_get, Some, IsTrue};
+ghost use Rattle.std.specs.Prelude.{◌≡◌, ◌≤◌, ◌<◌, ◌+◌, ◌*◌, length, take, drop, IsTrue};
 ghost use Rattle.tod_stamp.specs.Names.{is_session};
-ghost use Rattle.pair_table.specs.Rows.{row_spelling};
 ghost use Rattle.pair_table.specs.Tables.{AreRowsSound};
 ghost use Rattle.state_set.specs.Slots.{title, level_number, head_spelling, rows_spelling, slot_spelling, state_length};
 
@@ -42,22 +41,14 @@ fn head(session: Session, level: Level, count: u16) -> [u8; HEAD]
     bytes
 }
 
-/// The bytes of the row at a place.
-fn row_bytes(table: &PairTable, place: u16) -> [u8; ROW_LENGTH]
-    requires { place < length table.now.rows }
-    ensures { (r : _) → slice_get table.now.rows place ≡ Some r → result ≡ row_spelling r }
-{
-    encode_row(table.row(place).unwrap())
-}
-
 /// Writes all rows.
 fn put_rows(table: &PairTable, out: &mut [u8])
     requires { length out.old ≡ ROW_LENGTH * length table.now.rows }
     ensures { out.new ≡ rows_spelling table.now.rows }
 {
-    for place in 0..table.len() {
-        let from = ROW_LENGTH * usize::from(place);
-        out[from..from + ROW_LENGTH].copy_from_slice(&row_bytes(table, place));
+    for (place, row) in table.rows().iter().enumerate() {
+        let from = ROW_LENGTH * place;
+        out[from..from + ROW_LENGTH].copy_from_slice(&encode_row(row));
     }
 }
 

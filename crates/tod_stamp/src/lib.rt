@@ -2,7 +2,6 @@
 #![tactic(auto)]
 
 mod laws;
-mod limits;
 mod name;
 mod name_error;
 mod serial;
@@ -10,7 +9,6 @@ mod session;
 mod stamp;
 
 pub use laws::{names_read_back, texts_read_back};
-pub use limits::{MOST_CONTROLS, MOST_CYLINDERS, MOST_VOLUMES, TRACKS_OF_CYLINDER};
 pub use name_error::NameError;
 pub use serial::Serial;
 pub use session::Session;

@@ -41,7 +41,7 @@ fn cylinders_field(cylinders: u32) -> [u8; 4]
 }
 
 /// The bytes of a label: `XVOL`, the serial's field of 6 bytes, and the cylinders in 4, most significant byte first.
-pub fn encode_label(label: &Label) -> [u8; 14]
+pub(crate) fn encode_label(label: &Label) -> [u8; 14]
     ensures spelled { result ≡ label_spelling label.now }
     ensures serial { IsTrue (is_serial label.now.serial) }
     ensures fits { label.now.cylinders < 2 ^ 32 }
@@ -71,7 +71,7 @@ fn cylinders(bytes: &[u8; LENGTH]) -> u32
 
 /// The label that the first 14 bytes of a device of this length are. None exactly where they begin otherwise than a label, their
 /// field of a serial isn't valid, there is no cylinder, or the device has no room for the cylinders.
-pub fn decode_label(bytes: &[u8; 14], device_length: u64) -> Option<Label>
+pub(crate) fn decode_label(bytes: &[u8; 14], device_length: u64) -> Option<Label>
     ensures { result ≡ label_of device_length bytes.now }
 {
     if !has_mark(bytes) {

@@ -6,5 +6,5 @@ mod label;
 mod laws;
 
 pub use device::{read_label, write_label};
-pub use label::{Label, decode_label, encode_label, need};
+pub use label::{Label, need};
 pub use laws::labels_read_back;

@@ -1,8 +1,8 @@
 -- The line that sums up what a run of a generated input left: how many pairs there are and how many are duplex, how many records the
 -- tracks of the duplex pairs' volumes hold, the sum of the bytes of their contents, and the time that the devices mean.
-use Rattle.std.specs.Prelude.{◌≡◌, ◌≤◌, ℕ, ◌*◌, List, [], ◌∷◌, ◌++◌, length, Bool, true, false, None, unwrap_or, codes, count_by, decimal, sum_by, if◌then◌else◌, IsTrue}
+use Rattle.std.specs.Prelude.{◌≡◌, ◌≤◌, ℕ, ◌*◌, List, [], ◌∷◌, ◌++◌, length, Bool, None, unwrap_or, codes, count_by, decimal, sum_by, if◌then◌else◌, IsTrue}
 use Rattle.std.specs.List.{All, flat_map, range_with_len}
-use Rattle.tod_stamp.specs.declared.limits.TheConstants.{TRACKS_OF_CYLINDER}
+use Rattle.xrc_edge.specs.declared.limits.TheConstants.{TRACKS_OF_CYLINDER}
 use Rattle.tod_stamp.specs.Stamps.{stamp_text}
 use Rattle.ckd_track.specs.declared.rec.Rec.{Rec}
 use Rattle.ckd_track.specs.SlotPlaces.{slot_track}
@@ -10,9 +10,8 @@ use Rattle.crash_plant.specs.declared.device.Device.TheVariants.{Volume}
 use Rattle.crash_plant.specs.Calls.{NoneLent}
 use Rattle.crash_plant.specs.NewPlants.{SameConsole, SameDevices}
 use Rattle.crash_plant.specs.Moments.{PlantState}
-use Rattle.pair_table.specs.declared.row.PairState.{PairState}
-use Rattle.pair_table.specs.declared.row.PairState.TheVariants.{Pending, Copy, Duplex, Suspended}
 use Rattle.pair_table.specs.declared.row.PairRow.{PairRow}
+use Rattle.pair_table.specs.States.{is_duplex}
 use Rattle.pair_table.specs.Tables.{are_below}
 use Rattle.site_means.specs.declared.means.Means.{Means}
 use Rattle.site_means.specs.Answers.{Mean, first_short}
@@ -25,14 +24,8 @@ use Rattle.workload.specs.Tallies.{content_sum}
 
 -- ---- what is counted
 
-abbrev pub follows_primary : PairState → Bool
-follows_primary Pending = false
-follows_primary Copy = false
-follows_primary Duplex = true
-follows_primary (Suspended cause since) = false
-
 abbrev pub is_duplex_pair : PairRow → Bool
-is_duplex_pair row = follows_primary row.state
+is_duplex_pair row = is_duplex row.state
 
 -- the records of a track, as its slot on the volume holds them; none where the slot holds no track
 abbrev pub slot_records : (volume : List ℕ) → (track : ℕ) → List Rec

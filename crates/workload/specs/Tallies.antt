@@ -1,6 +1,6 @@
 -- Records that are counted, and the sum of the bytes of their contents.
 use Rattle.std.specs.Prelude.{◌≤◌, ◌<◌, ◌^◌, ℕ, ◌+◌, ◌*◌, List, length, sum, sum_by}
-use Rattle.tod_stamp.specs.declared.limits.TheConstants.{MOST_CYLINDERS, TRACKS_OF_CYLINDER}
+use Rattle.xrc_edge.specs.declared.limits.TheConstants.{MOST_CYLINDERS, TRACKS_OF_CYLINDER}
 use Rattle.ckd_track.specs.declared.layout.TheConstants.{CAPACITY}
 use Rattle.ckd_track.specs.declared.rec.Rec.{Rec}
 use Rattle.workload.specs.declared.tally.Tally.{Tally}

@@ -3,7 +3,7 @@
 use Rattle.std.specs.Prelude.{ℕ, ◌+◌, ◌*◌, ◌/◌, ◌%◌, List, [], ◌∷◌, ◌++◌, map, replicate, codes}
 use Rattle.std.specs.List.{flat_map, range_with_len}
 use Rattle.xrc_edge.specs.MemorySources.{MemoryState, fresh}
-use Rattle.tod_stamp.specs.declared.limits.TheConstants.{TRACKS_OF_CYLINDER}
+use Rattle.xrc_edge.specs.declared.limits.TheConstants.{TRACKS_OF_CYLINDER}
 use Rattle.ckd_track.specs.declared.rec.Rec.{Rec}
 use Rattle.ckd_track.specs.declared.write.Kind.TheVariants.{Update}
 use Rattle.ckd_track.specs.declared.write.Write.{Write}

@@ -1,6 +1,6 @@
 //! The numbers of a generated input. Each is said here alone.
 
-use tod_stamp::TRACKS_OF_CYLINDER;
+use xrc_edge::TRACKS_OF_CYLINDER;
 
 /// The controls, each with a trace.
 pub const CONTROLS: u16 = 4;

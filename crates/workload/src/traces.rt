@@ -12,9 +12,9 @@ use crate::layout::{
 use crate::serials::primary;
 use ckd_track::{Kind, Rec, Track, Write};
 use std::alloc::Global;
-use tod_stamp::{Stamp, TRACKS_OF_CYLINDER};
+use tod_stamp::Stamp;
 use write_trace::{BaseList, BaseTrack, Header, TraceWriter, VolumeHead, VolumeList};
-use xrc_edge::{Bytes, MemorySource, NoMemory};
+use xrc_edge::{Bytes, MemorySource, NoMemory, TRACKS_OF_CYLINDER};
 
 /// The content of a record: this byte as often as a content has bytes.
 fn content(alloc: Global, byte: u8) -> Result<Bytes, NoMemory>

@@ -1,7 +1,7 @@
 //! The tracks of the duplex pairs, as the slots of their volumes hold them.
 
 ghost use Rattle.std.specs.Prelude.{◌≡◌, ◌≤◌, ◌*◌, [], Some, IfOk, count_by, slice_get, unwrap_or};
-ghost use Rattle.tod_stamp.specs.declared.limits.TheConstants.{MOST_CYLINDERS, TRACKS_OF_CYLINDER};
+ghost use Rattle.xrc_edge.specs.declared.limits.TheConstants.{MOST_CYLINDERS, TRACKS_OF_CYLINDER};
 ghost use Rattle.ckd_track.specs.Images.{image_at};
 ghost use Rattle.ckd_track.specs.SlotPlaces.{slot_end, track_read};
 ghost use Rattle.crash_plant.specs.declared.device.Device.TheVariants.{Volume};
@@ -14,15 +14,14 @@ ghost use Rattle.workload.specs.Summaries.{HasTracks, HaveTracks, LeavesAsItWas,
 use crate::tally::Tally;
 use ckd_track::{ImageError, SLOT_LENGTH, Track, slot_place};
 use crash_plant::{Device, PlainPlant, Plant};
-use pair_table::{PairRow, PairState, PairTable};
+use pair_table::{PairRow, PairTable};
 use std::alloc::Global;
-use tod_stamp::TRACKS_OF_CYLINDER;
-use xrc_edge::{Failed, NoMemory};
+use xrc_edge::{Failed, NoMemory, TRACKS_OF_CYLINDER};
 
 fn is_duplex(row: &PairRow) -> bool
     ensures { result ≡ is_duplex_pair row.now }
 {
-    row.state == PairState::Duplex
+    row.state.is_duplex()
 }
 
 /// Whether the pair at a place is duplex.

@@ -1,6 +1,6 @@
 -- The parts of a header as they are read one after another: its head, and then each base track.
 use Rattle.std.specs.Prelude.{ℕ, List, [], ◌∷◌, sum_by, Result, Ok, nat_le}
-use Rattle.tod_stamp.specs.declared.limits.TheConstants.{MOST_VOLUMES}
+use Rattle.xrc_edge.specs.declared.limits.TheConstants.{MOST_CONTROL_VOLUMES}
 use Rattle.std.specs.Int.{w16, w32}
 use Rattle.tod_stamp.specs.Fields.{◌>>=◌, Left, Bad, number_at, within}
 use Rattle.write_trace.specs.declared.header.VolumeHead.{VolumeHead}
@@ -15,7 +15,7 @@ seen_after seen (v ∷ volumes) = seen_after (v.serial ∷ seen) volumes
 unfoldable pub header_front_at : Left → Result ((List VolumeHead × ℕ) × Left) Bad
 header_front_at left = do
   version ← version_at 1 left
-  count ← number_at w16 (within 1 MOST_VOLUMES) version.1
+  count ← number_at w16 (within 1 MOST_CONTROL_VOLUMES) version.1
   volumes ← volumes_at 1 count.0 [] count.1
   many ← number_at w32 (λ n. nat_le n (sum_by tracks_of volumes.0)) volumes.1
   Ok ((volumes.0, many.0), many.1)

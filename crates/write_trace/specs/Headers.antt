@@ -1,7 +1,7 @@
 -- The header of a trace: its volumes and base tracks, their one spelling, and reading it with the first bad field. The version
 -- of the format is a parameter: in version 1 a cylinder and a number of cylinders have two bytes, in version 2 four.
 use Rattle.std.specs.Prelude.{ℕ, zero, suc, ◌+◌, ◌-◌, ◌*◌, ◌/◌, ◌%◌, ◌==◌, ◌&&◌, ◌||◌, not, List, [], ◌∷◌, ◌++◌, length, sum_by, Bool, true, Result, Ok, Err, nat_lt, nat_le, if◌then◌else◌, slice_index, codes, bytes_eq}
-use Rattle.tod_stamp.specs.declared.limits.TheConstants.{MOST_CYLINDERS, MOST_VOLUMES, TRACKS_OF_CYLINDER}
+use Rattle.xrc_edge.specs.declared.limits.TheConstants.{MOST_CYLINDERS, MOST_CONTROL_VOLUMES, TRACKS_OF_CYLINDER}
 use Rattle.std.specs.List.{flat_map, list_any}
 use Rattle.std.specs.Int.{Width, w16, w32, to_be_bytes}
 use Rattle.tod_stamp.specs.Fields.{◌>>=◌, Left, Bad, bytes_at, number_at, within}
@@ -64,6 +64,10 @@ header_spelling h = trace_mark h.version
     ++ to_be_bytes w16 (length h.volumes) ++ flat_map (volume_spelling h.version) h.volumes
     ++ to_be_bytes w32 (length h.base) ++ flat_map (base_spelling h.version) h.base
 
+-- Where the serial of the volume of that number stands in a header: behind the mark, the number of volumes, and the volumes before.
+abbrev pub serial_place : (volume : ℕ) → ℕ
+serial_place volume = 6 + volume * 8
+
 -- ---- the rules of a header
 
 -- Each volume has a serial that no other has, and 1 to the most cylinders.
@@ -83,7 +87,7 @@ are_bases volumes low (b ∷ base) = is_track_of volumes b.0 b.1 && is_from low 
 
 -- A header of this version has 1 to the most volumes and base tracks of theirs.
 abbrev pub is_header_of : (version : ℕ) → Header → Bool
-is_header_of version h = h.version == version && within 1 MOST_VOLUMES (length h.volumes) && are_volumes version [] h.volumes && are_bases h.volumes (0, 0) h.base
+is_header_of version h = h.version == version && within 1 MOST_CONTROL_VOLUMES (length h.volumes) && are_volumes version [] h.volumes && are_bases h.volumes (0, 0) h.base
 
 -- ---- reading it, with the first bad field
 
@@ -150,7 +154,7 @@ bases_at version volumes (suc count) low left = do
 unfoldable pub header_at : (newest : ℕ) → Left → Result (Header × Left) Bad
 header_at newest left = do
   version ← version_at newest left
-  count ← number_at w16 (within 1 MOST_VOLUMES) version.1
+  count ← number_at w16 (within 1 MOST_CONTROL_VOLUMES) version.1
   volumes ← volumes_at version.0 count.0 [] count.1
   many ← number_at w32 (λ n. nat_le n (sum_by tracks_of volumes.0)) volumes.1
   base ← bases_at version.0 volumes.0 many.0 (0, 0) many.1

@@ -1,13 +1,14 @@
 -- The laws of traces: what is spelled is read again, what is read was spelled so, and the entries of a trace are the longest.
-use Rattle.std.specs.Prelude.{◌≡◌, ℕ, ◌+◌, ◌≤◌, List, [], ◌++◌, length, Bool, Ok, IsTrue}
-use Rattle.tod_stamp.specs.declared.limits.TheConstants.{MOST_VOLUMES}
+use Rattle.std.specs.Prelude.{◌≡◌, ℕ, ◌+◌, ◌≤◌, List, [], ◌++◌, length, take, drop, Bool, Ok, Some, IsTrue, slice_get}
+use Rattle.xrc_edge.specs.declared.limits.TheConstants.{MOST_CONTROL_VOLUMES}
 use Rattle.std.specs.List.{flat_map}
 use Rattle.tod_stamp.specs.Fields.{IsBytes, Left}
+use Rattle.tod_stamp.specs.Names.{serial_field}
 use Rattle.write_trace.specs.declared.header.VolumeHead.{VolumeHead}
 use Rattle.write_trace.specs.declared.header.Header.{Header}
 use Rattle.write_trace.specs.declared.entry.Entry.{Entry}
 use Rattle.write_trace.specs.declared.trace.Trace.{Trace}
-use Rattle.write_trace.specs.Headers.{are_volumes, header_spelling, is_header_of, header_at}
+use Rattle.write_trace.specs.Headers.{are_volumes, header_spelling, is_header_of, header_at, serial_place}
 use Rattle.write_trace.specs.Entries.{entry_spelling, is_entry, are_entries, entry_at}
 use Rattle.write_trace.specs.WholeTraces.{most_bytes, trace_of}
 
@@ -22,10 +23,15 @@ HeadersAreSpelled = (place : ℕ) (bytes : List ℕ) (h : Header) (left : Left) 
     IsBytes bytes → header_at 1 (record { place = place; bytes = bytes }) ≡ Ok (h, left) →
     IsTrue (is_header_of 1 h) × (bytes ≡ header_spelling h ++ left.bytes) × (left.place ≡ place + length (header_spelling h))
 
+-- The serial of each volume stands at its place in what a header spells.
+abbrev pub SerialsStandThere : Type 0
+SerialsStandThere = (h : Header) (volume : ℕ) (head : VolumeHead) → IsTrue (is_header_of 1 h) → slice_get h.volumes volume ≡ Some head →
+    take 6 (drop (serial_place volume) (header_spelling h)) ≡ serial_field head.serial
+
 -- What an entry that keeps the rules spells is read again, whatever follows.
 abbrev pub EntriesReadBack : Type 0
 EntriesReadBack = (version place last : ℕ) (volumes : List VolumeHead) (e : Entry) (rest : List ℕ) →
-    length volumes ≤ MOST_VOLUMES → IsTrue (are_volumes version [] volumes) → IsTrue (is_entry volumes last e) →
+    length volumes ≤ MOST_CONTROL_VOLUMES → IsTrue (are_volumes version [] volumes) → IsTrue (is_entry volumes last e) →
     entry_at version volumes last (record { place = place; bytes = entry_spelling version e ++ rest }) ≡ Ok (e, record { place = place + length (entry_spelling version e); bytes = rest })
 
 -- What is read as an entry keeps the rules and was spelled so.

@@ -1,6 +1,7 @@
 -- What a trace is, by the bytes that its source gave and whether the source failed: its header, its good entries, and how it
 -- ends.
-use Rattle.std.specs.Prelude.{ℕ, zero, suc, ◌^◌, ◌==◌, ◌&&◌, List, [], ◌∷◌, length, take, Bool, false, not, Result, Ok, Err, nat_le, if◌then◌else◌}
+use Rattle.std.specs.Prelude.{ℕ, zero, suc, ◌==◌, ◌&&◌, List, [], ◌∷◌, length, take, Bool, false, not, Result, Ok, Err, nat_le, if◌then◌else◌}
+use Rattle.xrc_edge.specs.declared.limits.TheConstants.{LONGEST_TRACE}
 use Rattle.tod_stamp.specs.Fields.{Left, Bad, place_of}
 use Rattle.tod_stamp.specs.Fields.Bad.{Cut, Broken}
 use Rattle.write_trace.specs.declared.header.VolumeHead.{VolumeHead}
@@ -14,9 +15,9 @@ use Rattle.write_trace.specs.declared.trace.TraceEnd.TheVariants.{Ended, BadTrac
 use Rattle.write_trace.specs.Headers.{header_at}
 use Rattle.write_trace.specs.Entries.{entry_at, stamp_of}
 
--- No field of a trace ends past its first 2^40 bytes: one that would is cut there.
+-- No field of a trace ends past its first bytes, so many: one that would is cut there.
 abbrev pub most_bytes : ℕ
-most_bytes = 2 ^ 40
+most_bytes = LONGEST_TRACE
 
 abbrev pub whole_trace : List ℕ → Left
 whole_trace given = record { place = 0; bytes = take most_bytes given }

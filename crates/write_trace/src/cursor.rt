@@ -1,6 +1,7 @@
 //! Bytes that are read field by field.
 
-ghost use Rattle.std.specs.Prelude.{◌≡◌, ◌+◌, ◌-◌, ◌^◌, ◌≤◌, length, nat_lt, nat_le, ◌&&◌, ◌<◌, IfOk};
+ghost use Rattle.std.specs.Prelude.{◌≡◌, ◌+◌, ◌-◌, ◌≤◌, length, nat_lt, nat_le, ◌&&◌, ◌<◌, IfOk};
+ghost use Rattle.xrc_edge.specs.declared.limits.TheConstants.{LONGEST_TRACE};
 ghost use Rattle.std.specs.Int.{w8, w16, w32, w64};
 ghost use Rattle.tod_stamp.specs.Fields.{Left, bytes_at, number_at, within, any};
 
@@ -20,7 +21,7 @@ impl<'a> Model for Cursor<'a> {
 
     ghost view = { λ c. record { place = c.place; bytes = c.bytes.now } };
 
-    ghost invariant = { λ c. c.place + length c.bytes.now ≤ 2 ^ 40 };
+    ghost invariant = { λ c. c.place + length c.bytes.now ≤ LONGEST_TRACE };
 }
 
 impl<'a> Cursor<'a> {
@@ -28,7 +29,7 @@ impl<'a> Cursor<'a> {
 
     #[inline]
     pub fn new(place: u64, bytes: &'a [u8]) -> Cursor<'a>
-        requires { place + length bytes.now ≤ 2 ^ 40 }
+        requires { place + length bytes.now ≤ LONGEST_TRACE }
         ensures { result ≡ record { place = place; bytes = bytes.now } }
     {
         Cursor { place, bytes }
@@ -44,7 +45,7 @@ impl<'a> Cursor<'a> {
     #[inline]
     pub fn bytes(&self) -> &'a [u8]
         ensures value { result.now ≡ self.now.bytes }
-        ensures within { self.now.place + length result.now ≤ 2 ^ 40 }
+        ensures within { self.now.place + length result.now ≤ LONGEST_TRACE }
     {
         self.bytes
     }

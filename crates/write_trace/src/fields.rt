@@ -1,6 +1,7 @@
 //! Reading the fields of an entry one after another: each reader gives what the definition of its field gives.
 
-ghost use Rattle.std.specs.Prelude.{◌≡◌, ◌≢◌, ◌≤◌, ◌<◌, ◌+◌, ◌^◌, ℕ, List, Result, Err, length, nat_lt, IfOk, IfErr};
+ghost use Rattle.std.specs.Prelude.{◌≡◌, ◌≢◌, ◌≤◌, ◌<◌, ◌+◌, ℕ, List, Result, Err, length, nat_lt, IfOk, IfErr};
+ghost use Rattle.xrc_edge.specs.declared.limits.TheConstants.{LONGEST_TRACE};
 ghost use Rattle.std.specs.Int.{w16};
 ghost use Rattle.tod_stamp.specs.Fields.{Left, number_at};
 ghost use Rattle.ckd_track.specs.declared.rec.Rec as records;
@@ -17,8 +18,8 @@ use crate::header::VolumeHead;
 use crate::stop::NoRead;
 use ckd_track::{ImageError, Kind, LONGEST_UPDATE, RecList, Track, Write, decode_records};
 use std::alloc::Global;
-use tod_stamp::{Stamp, TRACKS_OF_CYLINDER};
-use xrc_edge::{Bytes, NoMemory};
+use tod_stamp::Stamp;
+use xrc_edge::{Bytes, NoMemory, TRACKS_OF_CYLINDER};
 
 const IDLE: u8 = 1;
 
@@ -200,7 +201,7 @@ pub fn entry_in(
     place: u64,
     bytes: &[u8],
 ) -> Result<(Entry, usize), NoRead>
-    requires { place + length bytes.now ≤ 2 ^ 40 }
+    requires { place + length bytes.now ≤ LONGEST_TRACE }
     ensures ok { IfOk result (λ x. ReadOf volumes.now last (record { place = place; bytes = bytes.now }) x.0 x.1) }
     ensures err { IfErr result (λ stop. Fails stop (entry_at 1 volumes.now last (record { place = place; bytes = bytes.now }))) }
 {

@@ -4,12 +4,13 @@ ghost use Rattle.std.specs.Prelude.{◌≡◌, ◌≤◌, ◌↔◌, ◌&&◌, [
 ghost use Rattle.tod_stamp.specs.Names.{is_serial};
 ghost use Rattle.tod_stamp.specs.Fields.{within};
 ghost use Rattle.ckd_track.specs.Tracks.{is_track};
-ghost use Rattle.write_trace.specs.Headers.{are_volumes, are_bases, cylinders_of, is_track_of, is_from};
+ghost use Rattle.xrc_edge.specs.declared.limits.TheConstants.{MOST_CONTROL_VOLUMES};
+ghost use Rattle.write_trace.specs.Headers.{are_volumes, are_bases, cylinders_of, is_track_of, is_from, serial_place};
 ghost use Rattle.write_trace.specs.SeenSerials.{serials_of, is_named_before};
 
 use ckd_track::Track;
-use tod_stamp::{MOST_CYLINDERS, MOST_VOLUMES, Serial, TRACKS_OF_CYLINDER};
-use xrc_edge::List;
+use tod_stamp::Serial;
+use xrc_edge::{List, MOST_CONTROL_VOLUMES, MOST_CYLINDERS, TRACKS_OF_CYLINDER};
 
 /// A volume of a trace: its serial and its number of cylinders, which have `TRACKS_OF_CYLINDER` tracks each.
 #[derive(Clone, Copy, Debug)]
@@ -38,17 +39,31 @@ pub struct Header {
 impl Header {
     ghost use Rattle.write_trace.specs.Headers.{is_header_of};
 
-    /// Whether this is a header of version 1: 1 to `MOST_VOLUMES` volumes, each with a serial that no other has and 1 to
+    /// Whether this is a header of version 1: 1 to `MOST_CONTROL_VOLUMES` volumes, each with a serial that no other has and 1 to
     /// `MOST_CYLINDERS` cylinders, and base tracks that rise by volume and track, each a track of one of these volumes.
     pub fn keeps_rules(&self) -> bool
         ensures { IsTrue result ↔ IsTrue (is_header_of 1 self.now) }
     {
         let volumes = self.volumes.as_slice();
         self.version == 1
-            && (1..=MOST_VOLUMES as usize).contains(&volumes.len())
+            && (1..=MOST_CONTROL_VOLUMES as usize).contains(&volumes.len())
             && are_volumes(volumes)
             && are_bases(volumes, self.base.as_slice())
     }
+}
+
+/// The bytes of a header before its volumes: the mark, and the number of volumes.
+const BEFORE_VOLUMES: u64 = 6;
+
+/// The bytes of a volume in a header: those of its serial, and of its cylinders.
+const VOLUME_LENGTH: u64 = 8;
+
+/// The place in a header of the serial of the volume of that number.
+pub fn serial_place(volume: usize) -> u64
+    requires { volume < MOST_CONTROL_VOLUMES }
+    ensures { result ≡ serial_place volume }
+{
+    BEFORE_VOLUMES + volume as u64 * VOLUME_LENGTH
 }
 
 /// Whether one of the volumes has the serial of these bytes.

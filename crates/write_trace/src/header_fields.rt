@@ -1,6 +1,7 @@
 //! The fields of a header, read from bytes.
 
-ghost use Rattle.std.specs.Prelude.{◌≡◌, ◌≤◌, ◌<◌, ◌+◌, ◌*◌, ◌^◌, length, sum_by, nat_le, bytes_eq, IfOk, IsTrue, []};
+ghost use Rattle.std.specs.Prelude.{◌≡◌, ◌≤◌, ◌<◌, ◌+◌, ◌*◌, length, sum_by, nat_le, bytes_eq, IfOk, IsTrue, []};
+ghost use Rattle.xrc_edge.specs.declared.limits.TheConstants.{LONGEST_TRACE};
 ghost use Rattle.std.specs.Int.{w32};
 ghost use Rattle.std.specs.List.{list_any, All};
 ghost use Rattle.ckd_track.specs.Tracks.{IsTrack};
@@ -14,7 +15,8 @@ use crate::fields::{image_field_of, place_of};
 use crate::header::{BaseTrack, VolumeHead, VolumeList};
 use crate::stop::NoRead;
 use std::alloc::Global;
-use tod_stamp::{MOST_CYLINDERS, MOST_VOLUMES, Serial, TRACKS_OF_CYLINDER};
+use tod_stamp::Serial;
+use xrc_edge::{MOST_CONTROL_VOLUMES, MOST_CYLINDERS, TRACKS_OF_CYLINDER};
 
 /// The mark of version 1.
 #[tactic(auto, unfolding(crate::specs::Headers::version_at, tod_stamp::specs::Fields::bytes_at))]
@@ -81,7 +83,7 @@ fn volumes_of(alloc: Global, count: u16, c: Cursor<'_>) -> Result<(VolumeList, C
 
 /// The number of the volumes' tracks.
 fn tracks_in(volumes: &[VolumeHead]) -> u32
-    requires many { length volumes.now ≤ MOST_VOLUMES }
+    requires many { length volumes.now ≤ MOST_CONTROL_VOLUMES }
     requires small { All (λ v. v.cylinders ≤ most_cylinders 1) volumes.now }
     ensures { result ≡ sum_by tracks_of volumes.now }
 {
@@ -94,7 +96,7 @@ fn tracks_in(volumes: &[VolumeHead]) -> u32
 
 /// The number of base tracks, of which there are no more than tracks.
 fn many_of<'a>(volumes: &[VolumeHead], c: Cursor<'a>) -> Result<(u32, Cursor<'a>), NoRead>
-    requires many { length volumes.now ≤ MOST_VOLUMES }
+    requires many { length volumes.now ≤ MOST_CONTROL_VOLUMES }
     requires rules { IsTrue (are_volumes 1 [] volumes.now) }
     ensures { GivesField (λ x. (x.0, x.1)) result (number_at w32 (λ n. nat_le n (sum_by tracks_of volumes.now)) c.entry) }
 {
@@ -106,10 +108,10 @@ fn many_of<'a>(volumes: &[VolumeHead], c: Cursor<'a>) -> Result<(u32, Cursor<'a>
 fn head_of(alloc: Global, c: Cursor<'_>) -> Result<((VolumeList, u32), Cursor<'_>), NoRead>
     ensures reads { GivesField (λ x. ((x.0.0, x.0.1), x.1)) result (header_front_at c.entry) }
     ensures rules { IfOk result (λ x. IsTrue (are_volumes 1 [] x.0.0)) }
-    ensures many { IfOk result (λ x. (1 ≤ length x.0.0) × (length x.0.0 ≤ MOST_VOLUMES)) }
+    ensures many { IfOk result (λ x. (1 ≤ length x.0.0) × (length x.0.0 ≤ MOST_CONTROL_VOLUMES)) }
 {
     let c = mark_of(c)?;
-    let (count, c) = c.number_within(1, MOST_VOLUMES)?;
+    let (count, c) = c.number_within(1, MOST_CONTROL_VOLUMES)?;
     let (volumes, c) = volumes_of(alloc, count, c)?;
     let (many, c) = many_of(volumes.as_slice(), c)?;
     Ok(((volumes, many), c))
@@ -121,11 +123,11 @@ pub fn head_in(
     place: u64,
     bytes: &[u8],
 ) -> Result<((VolumeList, u32), usize), NoRead>
-    requires { place + length bytes.now ≤ 2 ^ 40 }
+    requires { place + length bytes.now ≤ LONGEST_TRACE }
     ensures reads { GivesField (λ x. ((x.0.0, x.0.1), after x.1 (record { place = place; bytes = bytes.now }))) result (header_front_at (record { place = place; bytes = bytes.now })) }
     ensures used { IfOk result (λ x. x.1 ≤ length bytes.now) }
     ensures rules { IfOk result (λ x. IsTrue (are_volumes 1 [] x.0.0)) }
-    ensures many { IfOk result (λ x. (1 ≤ length x.0.0) × (length x.0.0 ≤ MOST_VOLUMES)) }
+    ensures many { IfOk result (λ x. (1 ≤ length x.0.0) × (length x.0.0 ≤ MOST_CONTROL_VOLUMES)) }
 {
     let (head, rest) = head_of(alloc, Cursor::new(place, bytes))?;
     let used = (rest.place() - place) as usize;
@@ -159,7 +161,7 @@ pub fn base_in(
     place: u64,
     bytes: &[u8],
 ) -> Result<(BaseTrack, usize), NoRead>
-    requires { place + length bytes.now ≤ 2 ^ 40 }
+    requires { place + length bytes.now ≤ LONGEST_TRACE }
     ensures reads { GivesField (λ x. (x.0, after x.1 (record { place = place; bytes = bytes.now }))) result (base_at 1 volumes.now low (record { place = place; bytes = bytes.now })) }
     ensures used { IfOk result (λ x. x.1 ≤ length bytes.now) }
     ensures there { IfOk result (λ x. IsTrue (is_track_of volumes.now x.0.0 x.0.1)) }

@@ -1,7 +1,7 @@
 //! The reader of a trace's entries.
 
 ghost use Rattle.std.specs.Prelude.{◌≡◌, ◌↔◌, ◌≤◌, [], length, false, None, Some, Err, MatchResult, IsTrue};
-ghost use Rattle.tod_stamp.specs.declared.limits.TheConstants.{MOST_VOLUMES};
+ghost use Rattle.xrc_edge.specs.declared.limits.TheConstants.{MOST_CONTROL_VOLUMES};
 ghost use Rattle.write_trace.specs.Headers.{are_volumes};
 ghost use Rattle.write_trace.specs.Entries.{stamp_of};
 
@@ -28,7 +28,7 @@ pub struct TraceReader {
 }
 
 impl Model for TraceReader {
-    ghost use Rattle.tod_stamp.specs.declared.limits.TheConstants.{MOST_VOLUMES};
+    ghost use Rattle.xrc_edge.specs.declared.limits.TheConstants.{MOST_CONTROL_VOLUMES};
     ghost use Rattle.std.specs.Prelude.{◌≤◌, [], length, IsTrue};
     ghost use Rattle.write_trace.specs.Headers.{are_volumes};
     ghost use Rattle.write_trace.specs.Answers.{ReaderState};
@@ -37,7 +37,7 @@ impl Model for TraceReader {
 
     ghost view = { λ r. record { volumes = r.volumes; last = r.last.0; left = r.window; stopped = r.stopped } };
 
-    ghost invariant = { λ r. (length r.volumes ≤ MOST_VOLUMES) × IsTrue (are_volumes 1 [] r.volumes) };
+    ghost invariant = { λ r. (length r.volumes ≤ MOST_CONTROL_VOLUMES) × IsTrue (are_volumes 1 [] r.volumes) };
 }
 
 impl Stopped {
@@ -71,7 +71,7 @@ impl TraceReader {
 
     /// A reader of the entries that follow a header of these volumes, which ends where the window begins.
     pub(crate) fn after_header(window: Window, volumes: VolumeList) -> TraceReader
-        requires number { length volumes ≤ MOST_VOLUMES }
+        requires number { length volumes ≤ MOST_CONTROL_VOLUMES }
         requires rules { IsTrue (are_volumes 1 [] volumes) }
         ensures { result ≡ record { volumes = volumes; last = 0; left = window; stopped = None } }
     {
@@ -104,7 +104,7 @@ impl TraceReader {
         ensures answer { self.old.stopped ≡ None → AnswersNext (S.left source.old) (S.left source.new) (S.faults source.old) (S.faults source.new) self.old self.new (answer_from result) }
         ensures again { (why : Stopped) → self.old.stopped ≡ Some why → (result ≡ Err why) × (self.new ≡ self.old) }
         ensures unasked { (why : Stopped) → self.old.stopped ≡ Some why → source.new ≡ source.old }
-        ensures number { length self.old.volumes ≤ MOST_VOLUMES }
+        ensures number { length self.old.volumes ≤ MOST_CONTROL_VOLUMES }
         ensures rules { IsTrue (are_volumes 1 [] self.old.volumes) }
     {
         match self.stopped {

@@ -1,7 +1,7 @@
 //! The start of a trace: its header.
 
-ghost use Rattle.std.specs.Prelude.{◌≡◌, ◌≤◌, ◌<◌, ◌+◌, ◌^◌, [], length, IfOk, IfErr, IsTrue};
-ghost use Rattle.tod_stamp.specs.declared.limits.TheConstants.{MOST_VOLUMES};
+ghost use Rattle.std.specs.Prelude.{◌≡◌, ◌≤◌, ◌<◌, ◌+◌, [], length, IfOk, IfErr, IsTrue};
+ghost use Rattle.xrc_edge.specs.declared.limits.TheConstants.{LONGEST_TRACE, MOST_CONTROL_VOLUMES};
 ghost use Rattle.write_trace.specs.Headers.{is_track_of, is_from, are_volumes, are_bases, base_at, bases_at};
 ghost use Rattle.ckd_track.specs.Tracks.{IsTrack};
 ghost use Rattle.write_trace.specs.Starts.{Starts};
@@ -20,7 +20,7 @@ use xrc_edge::Source;
 
 /// Takes one piece more, where the bytes held end within the field that begins at the place.
 fn gather<S: Source>(window: &mut Window, source: &mut S, place: u64) -> Result<(), HeaderError>
-    requires { window.old.place + length window.old.bytes ≤ 2 ^ 40 → length window.old.bytes < WINDOW_LENGTH }
+    requires { window.old.place + length window.old.bytes ≤ LONGEST_TRACE → length window.old.bytes < WINDOW_LENGTH }
     ensures { Gathers (S.left source.old) (S.left source.new) (S.faults source.old) (S.faults source.new) place window.old window.new result }
 {
     if window.is_full_trace() {
@@ -41,7 +41,7 @@ fn head<S: Source>(
 ) -> Result<(VolumeList, u32), HeaderError>
     ensures reads { ReadsPart header_front_at (S.left source.old) (S.left source.new) (S.faults source.old) (S.faults source.new) window.old window.new result }
     ensures rules { IfOk result (λ head. IsTrue (are_volumes 1 [] head.0)) }
-    ensures many { IfOk result (λ head. (1 ≤ length head.0) × (length head.0 ≤ MOST_VOLUMES)) }
+    ensures many { IfOk result (λ head. (1 ≤ length head.0) × (length head.0 ≤ MOST_CONTROL_VOLUMES)) }
 {
     loop {
         match head_in(alloc, window.place(), window.visible()) {

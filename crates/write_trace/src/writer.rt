@@ -13,8 +13,8 @@ use crate::header::{BaseTrack, Header, VolumeHead};
 use byteorder::{BigEndian, ByteOrder};
 use ckd_track::{BEFORE_IMAGE, Write};
 use std::alloc::Global;
-use tod_stamp::{Stamp, TRACKS_OF_CYLINDER};
-use xrc_edge::{Bytes, NoMemory};
+use tod_stamp::Stamp;
+use xrc_edge::{Bytes, NoMemory, TRACKS_OF_CYLINDER};
 
 /// The volume, cylinder and head of a track.
 fn place_bytes(volume: u16, track: u32) -> [u8; 6]
@@ -137,7 +137,7 @@ impl TraceWriter {
         out.extend_from_slice(alloc, &idle_bytes(stamp))
     }
 
-    /// The header of a trace. It keeps the rules: 1 to `MOST_VOLUMES` volumes with different serials and 1 to `MOST_CYLINDERS`
+    /// The header of a trace. It keeps the rules: 1 to `MOST_CONTROL_VOLUMES` volumes with different serials and 1 to `MOST_CYLINDERS`
     /// cylinders each, and base tracks of theirs in order.
     pub fn header(alloc: Global, out: &mut Bytes, header: &Header) -> Result<(), NoMemory>
         requires { IsTrue (is_header_of 1 header.now) }

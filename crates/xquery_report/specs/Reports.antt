@@ -7,10 +7,9 @@ use Rattle.ckd_track.specs.declared.write.Cause.{Cause}
 use Rattle.ckd_track.specs.declared.write.Cause.TheVariants.{ReadFault, BadTrace, Crowded}
 use Rattle.pair_table.specs.declared.level.Level.{Level}
 use Rattle.pair_table.specs.declared.level.Level.TheVariants.{Volume as ByVolume, Session as BySession}
-use Rattle.pair_table.specs.declared.row.SuspendCause.{SuspendCause}
-use Rattle.pair_table.specs.declared.row.SuspendCause.TheVariants.{Command, Device, Session, Control}
 use Rattle.pair_table.specs.declared.row.PairState.{PairState}
 use Rattle.pair_table.specs.declared.row.PairState.TheVariants.{Pending, Copy, Duplex, Suspended}
+use Rattle.pair_table.specs.States.{cause_word}
 use Rattle.pair_table.specs.declared.row.PairRow.{PairRow}
 use Rattle.pair_table.specs.Tables.{Table}
 
@@ -44,18 +43,12 @@ control_lines number (broken ∷ controls) = control_line number broken ++ contr
 
 -- ---- pairs
 
-abbrev pub cause_part : SuspendCause → List ℕ
-cause_part Command = codes " COMMAND"
-cause_part Device = codes " DEVICE"
-cause_part Session = codes " SESSION"
-cause_part Control = codes " CONTROL"
-
 -- how far a pair is
 abbrev pub state_part : PairState → List ℕ
 state_part Pending = codes " PENDING"
 state_part Copy = codes " COPY"
 state_part Duplex = codes " DUPLEX"
-state_part (Suspended cause since) = codes " SUSPENDED" ++ cause_part cause ++ codes " SINCE " ++ stamp_text since.0
+state_part (Suspended cause since) = codes " SUSPENDED " ++ cause_word cause ++ codes " SINCE " ++ stamp_text since.0
 
 abbrev pub row_line : PairRow → List ℕ
 row_line row = codes "PAIR " ++ row.primary ++ codes " " ++ row.secondary ++ state_part row.state ++ 10 ∷ []

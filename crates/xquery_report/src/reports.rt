@@ -2,11 +2,11 @@
 
 ghost use Rattle.std.specs.Prelude.{◌≡◌, ◌≤◌, ◌+◌, ◌++◌, length, take, OnOk, OnErr};
 ghost use Rattle.std.specs.List.{flat_map};
-ghost use Rattle.xquery_report.specs.Reports.{break_part, cause_part, control_line, control_lines, control_part, level_part, report_text, row_line, session_line, state_part};
+ghost use Rattle.xquery_report.specs.Reports.{break_part, control_line, control_lines, control_part, level_part, report_text, row_line, session_line, state_part};
 
 use crate::lines::add_number;
 use ckd_track::Cause;
-use pair_table::{Level, PairRow, PairState, PairTable, SuspendCause};
+use pair_table::{Level, PairRow, PairState, PairTable};
 use std::alloc::Global;
 use tod_stamp::Stamp;
 use xrc_edge::{Bytes, List, NoMemory, Text};
@@ -87,18 +87,6 @@ fn control_line(number: usize, broken: Option<Cause>) -> Text
     line
 }
 
-fn cause_part(cause: SuspendCause) -> &'static [u8]
-    ensures text { result.now ≡ cause_part cause }
-    ensures short { length result.now ≤ 8 }
-{
-    match cause {
-        SuspendCause::Command => b" COMMAND",
-        SuspendCause::Device => b" DEVICE",
-        SuspendCause::Session => b" SESSION",
-        SuspendCause::Control => b" CONTROL",
-    }
-}
-
 /// Puts how far a pair is.
 fn add_state(line: &mut Text, state: PairState)
     requires { length line.old ≤ 100 }
@@ -110,8 +98,8 @@ fn add_state(line: &mut Text, state: PairState)
         PairState::Copy => line.add(b" COPY"),
         PairState::Duplex => line.add(b" DUPLEX"),
         PairState::Suspended { cause, since } => {
-            line.add(b" SUSPENDED");
-            line.add(cause_part(cause));
+            line.add(b" SUSPENDED ");
+            line.add(cause.word());
             line.add(b" SINCE ");
             line.add(&since.text());
         }
@@ -152,10 +140,8 @@ fn append_rows(alloc: Global, out: &mut Bytes, table: &PairTable) -> Result<(), 
     ensures ok { OnOk result (out.new ≡ out.old ++ flat_map row_line table.now.rows) }
     ensures kept { take (length out.old) out.new ≡ out.old }
 {
-    for place in 0..table.len() {
-        if let Some(row) = table.row(place) {
-            out.extend_from_slice(alloc, row_line(row).as_bytes())?;
-        }
+    for row in table.rows() {
+        out.extend_from_slice(alloc, row_line(row).as_bytes())?;
     }
     Ok(())
 }

@@ -4,3 +4,4 @@ pub mod Saying
 pub mod Labelling
 pub mod Generating
 pub mod Laws
+pub mod Limits

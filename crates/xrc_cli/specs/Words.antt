@@ -1,6 +1,6 @@
 -- The words of a command line.
 use Rattle.std.specs.Prelude.{ℕ, ◌+◌, ◌*◌, ◌-◌, ◌≤◌, ◌==◌, ◌&&◌, List, [], ◌∷◌, Bool, false, Option, Some, None, bytes_eq, codes, fold, nat_le, if◌then◌else◌}
-use Rattle.tod_stamp.specs.declared.limits.TheConstants.{MOST_CONTROLS, MOST_CYLINDERS}
+use Rattle.xrc_edge.specs.declared.limits.TheConstants.{MOST_CONTROLS, MOST_CYLINDERS}
 use Rattle.tod_stamp.specs.Fields.{within}
 use Rattle.tod_stamp.specs.Names.{is_serial, is_session}
 use Rattle.xrc_cli.specs.declared.words.Asked.{Asked}
@@ -91,7 +91,7 @@ asked_by_words (command ∷ a ∷ b ∷ c ∷ other ∷ words) = None
 
 -- the ranges of a command's numbers: 1 to 16 traces, and at least one cylinder
 abbrev pub HasRange : Asked → Type 0
-HasRange (Run session storage) = (1 ≤ storage) × (storage ≤ 16)
+HasRange (Run session storage) = (1 ≤ storage) × (storage ≤ MOST_CONTROLS)
 HasRange (Init device serial cylinders) = 1 ≤ cylinders
 HasRange other = Unit {0}
 

@@ -6,9 +6,8 @@ ghost use Rattle.xrc_cli.specs.Labelling.{EndsLabelling, HasVolume, label_line};
 
 use crate::saying::say_done;
 use crash_plant::{Device, Plant};
-use tod_stamp::TRACKS_OF_CYLINDER;
 use volume_label::{Label, need, write_label};
-use xrc_edge::Failed;
+use xrc_edge::{Failed, TRACKS_OF_CYLINDER};
 use xrc_recovery::is_site;
 use xrc_status::{Stop, TextLine, say_stop};
 

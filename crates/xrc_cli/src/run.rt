@@ -1,6 +1,7 @@
 //! The command that runs a session.
 
 ghost use Rattle.std.specs.Prelude.{◌≤◌};
+ghost use Rattle.xrc_edge.specs.declared.limits.TheConstants.{MOST_CONTROLS};
 ghost use Rattle.crash_plant.specs.Calls.{NoneLent};
 ghost use Rattle.xrc_session.specs.Lanes.{HaveNoReader};
 ghost use Rattle.xrc_cli.specs.Statuses.{EndsScriptRun};
@@ -26,7 +27,7 @@ pub(crate) fn run_session<R: Threads + Wait + Sync, S: Source + Send, P: Plant>(
     traces: &mut Vec<Lane<S>>,
     plant: &mut P,
 ) -> u8
-    requires storage { (1 ≤ storage) × (storage ≤ 16) }
+    requires storage { (1 ≤ storage) × (storage ≤ MOST_CONTROLS) }
     requires home { NoneLent (P.state plant.old) }
     requires unread { HaveNoReader traces.old.items }
     ensures { EndsScriptRun P.tells P.state S.left S.faults session storage traces.old.items traces.new.items plant.old plant.new result }

@@ -1,14 +1,16 @@
 //! The words of a command line.
 
 ghost use Rattle.std.specs.Prelude.{◌≡◌, ◌≤◌, ◌-◌, map, string_bytes, Some, None, IfSome, if◌then◌else◌};
+ghost use Rattle.xrc_edge.specs.declared.limits.TheConstants.{MOST_CONTROLS};
 ghost use Rattle.tod_stamp.specs.Fields.{within};
 ghost use Rattle.tod_stamp.specs.Names.{is_serial, is_session};
 ghost use Rattle.xrc_cli.specs.Words.{HasRange, asked_by_words, asked_of_session, asked_of_two, digits_value, from_to, has_leading_zero, number_in, storage_of};
 
-use tod_stamp::{MOST_CONTROLS, MOST_CYLINDERS, Serial, Session};
+use tod_stamp::{Serial, Session};
+use xrc_edge::{MOST_CONTROLS, MOST_CYLINDERS, MOST_SITE_VOLUMES};
 
 /// The greatest number of a volume device.
-pub(crate) const LAST_DEVICE: u16 = 63;
+pub(crate) const LAST_DEVICE: u16 = MOST_SITE_VOLUMES as u16 - 1;
 
 /// The greatest number of a generated input.
 pub(crate) const MOST_NUMBER: u32 = u32::MAX;
@@ -102,7 +104,7 @@ fn short_number(least: u16, most: u16, word: &str) -> Option<u16>
 /// The number of traces that a word names: 1 to 16.
 fn storage_of(word: &str) -> Option<u16>
     ensures value { result ≡ storage_of word.now }
-    ensures range { IfSome result (λ n. (1 ≤ n) × (n ≤ 16)) }
+    ensures range { IfSome result (λ n. (1 ≤ n) × (n ≤ MOST_CONTROLS)) }
 {
     short_number(1, MOST_CONTROLS as u16, word)
 }

@@ -1,14 +1,14 @@
-ghost use Rattle.std.specs.Prelude.{◌≡◌, ◌≤◌, ◌+◌, ◌++◌, ◌∷◌, ◌↔◌, [], ℕ, List, IsTrue, length, take};
+ghost use Rattle.std.specs.Prelude.{◌≡◌, ◌<◌, ◌≤◌, ◌+◌, ◌++◌, ◌∷◌, ◌↔◌, [], ℕ, List, IsTrue, length, take};
+ghost use Rattle.xrc_edge.specs.declared.limits.TheConstants.{LONGEST_TEXT};
 
+use crate::limits::LONGEST_TEXT;
 use std::marker::Model;
 
-/// The most bytes of a text.
-const MOST: usize = 257;
-
-/// A text that is put together piece by piece. It takes no memory, and has at most 257 bytes. Contracts see the list of its bytes.
+/// A text that is put together piece by piece. It takes no memory, and has at most `LONGEST_TEXT` bytes. Contracts see the list of its
+/// bytes.
 #[derive(Drop)]
 pub struct Text {
-    bytes: [u8; MOST],
+    bytes: [u8; LONGEST_TEXT],
     used: usize,
 }
 
@@ -17,7 +17,7 @@ impl Model for Text {
 
     ghost view = { λ text. take text.used text.bytes };
 
-    ghost invariant = { λ text. text.used ≤ 257 };
+    ghost invariant = { λ text. text.used ≤ LONGEST_TEXT };
 }
 
 impl Text {
@@ -26,7 +26,7 @@ impl Text {
         ensures { result ≡ [] }
     {
         Text {
-            bytes: [0; MOST],
+            bytes: [0; LONGEST_TEXT],
             used: 0,
         }
     }
@@ -45,7 +45,7 @@ impl Text {
 
     /// Puts a byte at the end.
     pub fn push(&mut self, byte: u8)
-        requires { length self.old ≤ 256 }
+        requires { length self.old < LONGEST_TEXT }
         ensures { self.new ≡ self.old ++ byte ∷ [] }
     {
         self.bytes[self.used] = byte;
@@ -54,7 +54,7 @@ impl Text {
 
     /// Puts bytes at the end.
     pub fn add(&mut self, bytes: &[u8])
-        requires { length self.old + length bytes.now ≤ 257 }
+        requires { length self.old + length bytes.now ≤ LONGEST_TEXT }
         ensures { self.new ≡ self.old ++ bytes.now }
     {
         let end = self.used + bytes.len();

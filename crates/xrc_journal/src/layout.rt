@@ -3,8 +3,7 @@
 use ckd_track::BLOCKS_OF_QUEUE;
 use crash_plant::{FRONT, HEADER, SWITCH};
 use pair_table::ROW_LENGTH;
-use tod_stamp::MOST_CONTROLS;
-use xrc_edge::BLOCK;
+use xrc_edge::{BLOCK, MOST_CONTROLS};
 
 /// The bytes of a device and a track of it.
 pub(crate) const TRACK: usize = 6;

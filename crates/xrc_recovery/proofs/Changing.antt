@@ -15,7 +15,8 @@ use Rattle.pair_table.specs.declared.row.PairRow.{PairRow}
 use Rattle.xrc_journal.specs.Items.{Item}
 use Rattle.xrc_journal.specs.Jobs.{FailsByCount}
 use Rattle.site_means.proofs.ReadAll.{reads_none}
-use Rattle.xrecover.specs.Pairs.{AreFaulty, duplex_devices, is_duplex}
+use Rattle.xrecover.specs.Pairs.{AreFaulty, duplex_devices}
+use Rattle.pair_table.specs.States.{is_duplex}
 use Rattle.xrecover.specs.declared.labelling.Labelling.{Labelling}
 use Rattle.xrecover.specs.declared.labelling.Labelling.TheVariants.{AsPrimary, AsItIs}
 use Rattle.xrecover.specs.RedoneVolumes.{BearsLabel, Draws, IsRedone, Recovers, Redone}

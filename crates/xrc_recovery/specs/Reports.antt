@@ -8,7 +8,8 @@ use Rattle.pair_table.specs.declared.row.PairRow.{PairRow}
 use Rattle.site_means.specs.declared.means.Means.{Means}
 use Rattle.site_means.specs.Sight.{walked}
 use Rattle.xrecover.specs.declared.labelling.Labelling.{Labelling}
-use Rattle.xrecover.specs.Pairs.{AreFaulty, is_duplex}
+use Rattle.xrecover.specs.Pairs.{AreFaulty}
+use Rattle.pair_table.specs.States.{is_duplex}
 use Rattle.xrecover.specs.RedoneVolumes.{Redone}
 use Rattle.xrecover.specs.Answers.{IsRecoverable}
 use Rattle.xrc_status.specs.Saying.{SaidWhole}

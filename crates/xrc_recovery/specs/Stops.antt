@@ -1,5 +1,6 @@
 -- Why a recovery ends, and what it leaves by then.
 use Rattle.std.specs.Prelude.{◌≡◌, ◌≤◌, ◌⊎◌, ℕ, List, Some, None}
+use Rattle.xrc_edge.specs.declared.limits.TheConstants.{FEWEST_JOURNALS, MOST_JOURNALS, MOST_SITE_VOLUMES}
 use Rattle.xrc_edge.specs.Causes.{Rose}
 use Rattle.crash_plant.specs.declared.device.Device.{Device}
 use Rattle.crash_plant.specs.declared.device.Device.TheVariants.{Control, State, Journal, Volume}
@@ -16,11 +17,11 @@ use Rattle.xrecover.specs.Answers.{Behind, IsOf, IsOther, IsRecoverable, IsTooSm
 use Rattle.xrc_status.specs.declared.stop.Stop.{Stop}
 use Rattle.xrc_status.specs.declared.stop.Stop.TheVariants.{NoMemory, BadWords, ConsoleFault, BadLine, JournalFault, ControlFault, StateFault, BadHeader, HeaderFault, NoSession, OtherSession, Damaged, VolumeFault, TooSmall, BadSite, Spent}
 
--- A site has 2 to 16 journals, and at most 64 volumes.
+-- A site has its numbers of journals and of volumes.
 pub record IsSite (plant : PlantState) : Type 0 where
-  pub some_journals : 2 ≤ plant.journals
-  pub few_journals : plant.journals ≤ 16
-  pub few_volumes : plant.volumes ≤ 64
+  pub some_journals : FEWEST_JOURNALS ≤ plant.journals
+  pub few_journals : plant.journals ≤ MOST_JOURNALS
+  pub few_volumes : plant.volumes ≤ MOST_SITE_VOLUMES
 
 -- ---- the stop of an error
 

@@ -2,12 +2,11 @@
 -- the rows.
 use Rattle.std.specs.Prelude.{ℕ, List, [], ◌∷◌, ◌++◌, Bool, true, false, codes}
 use Rattle.tod_stamp.specs.Stamps.{stamp_text}
-use Rattle.pair_table.specs.declared.row.SuspendCause.{SuspendCause}
-use Rattle.pair_table.specs.declared.row.SuspendCause.TheVariants.{Command, Device, Session, Control}
 use Rattle.pair_table.specs.declared.row.PairState.{PairState}
 use Rattle.pair_table.specs.declared.row.PairState.TheVariants.{Pending, Copy, Duplex, Suspended}
 use Rattle.pair_table.specs.declared.row.PairRow.{PairRow}
 use Rattle.pair_table.specs.Devices.{is_among}
+use Rattle.pair_table.specs.States.{cause_word}
 use Rattle.xrecover.specs.declared.labelling.Labelling.{Labelling}
 use Rattle.xrecover.specs.declared.labelling.Labelling.TheVariants.{AsPrimary, AsItIs}
 
@@ -20,19 +19,13 @@ site_word AsItIs = codes "ADVANCED "
 abbrev pub site_line : Labelling → (session : List ℕ) → (time : ℕ) → List ℕ
 site_line labelling session time = site_word labelling ++ session ++ codes " T=" ++ stamp_text time ++ 10 ∷ []
 
-abbrev pub cause_text : SuspendCause → List ℕ
-cause_text Command = codes "COMMAND"
-cause_text Device = codes "DEVICE"
-cause_text Session = codes "SESSION"
-cause_text Control = codes "CONTROL"
-
 -- how far a pair is; a duplex pair whose volume failed has another word
 abbrev pub state_text : (has_failed : Bool) → PairState → List ℕ
 state_text has_failed Pending = codes "PENDING"
 state_text has_failed Copy = codes "COPY"
 state_text false Duplex = codes "DUPLEX"
 state_text true Duplex = codes "FAULT"
-state_text has_failed (Suspended cause since) = codes "SUSPENDED " ++ cause_text cause ++ codes " SINCE " ++ stamp_text since.0
+state_text has_failed (Suspended cause since) = codes "SUSPENDED " ++ cause_word cause ++ codes " SINCE " ++ stamp_text since.0
 
 abbrev pub pair_line : (failed : List ℕ) → PairRow → List ℕ
 pair_line failed row = codes "PAIR " ++ row.primary ++ codes " " ++ row.secondary ++ codes " " ++ state_text (is_among row.device failed) row.state ++ 10 ∷ []

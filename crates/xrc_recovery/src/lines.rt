@@ -1,10 +1,10 @@
 //! The lines that are said of a site that was recovered or advanced.
 
 ghost use Rattle.std.specs.Prelude.{◌≡◌, ◌≤◌, ◌+◌, ◌++◌, ◌∷◌, [], length};
-ghost use Rattle.xrc_recovery.specs.Texts.{cause_text, pair_line, site_line, site_word, state_text};
+ghost use Rattle.xrc_recovery.specs.Texts.{pair_line, site_line, site_word, state_text};
 ghost use Rattle.pair_table.specs.Devices.{is_among};
 
-use pair_table::{PairRow, PairState, SuspendCause};
+use pair_table::{PairRow, PairState};
 use tod_stamp::{Serial, Session, Stamp};
 use xrc_status::TextLine;
 use xrecover::{Labelling, Outcome};
@@ -33,19 +33,6 @@ pub(crate) fn site_line(labelling: Labelling, session: Session, time: Stamp) -> 
     line
 }
 
-/// The word of a cause.
-fn cause_word(cause: SuspendCause) -> &'static [u8]
-    ensures text { result.now ≡ cause_text cause }
-    ensures short { length result.now ≤ 7 }
-{
-    match cause {
-        SuspendCause::Command => b"COMMAND",
-        SuspendCause::Device => b"DEVICE",
-        SuspendCause::Session => b"SESSION",
-        SuspendCause::Control => b"CONTROL",
-    }
-}
-
 /// Puts how far a pair is.
 fn add_state(line: &mut TextLine, has_failed: bool, state: PairState)
     requires { length line.old ≤ 40 }
@@ -58,7 +45,7 @@ fn add_state(line: &mut TextLine, has_failed: bool, state: PairState)
         PairState::Duplex => line.add(if has_failed { b"FAULT" } else { b"DUPLEX" }),
         PairState::Suspended { cause, since } => {
             line.add(b"SUSPENDED ");
-            line.add(cause_word(cause));
+            line.add(cause.word());
             line.add(b" SINCE ");
             line.add(&since.text());
         }

@@ -5,6 +5,7 @@ ghost use Rattle.xrc_recovery.specs.Stops.{IsSite, fault_of, site_stop, stop_of}
 
 use crash_plant::{Device, Plant};
 use site_means::SiteError;
+use xrc_edge::{FEWEST_JOURNALS, MOST_JOURNALS, MOST_SITE_VOLUMES};
 use xrc_status::Stop;
 use xrecover::RecoverError;
 
@@ -12,7 +13,8 @@ use xrecover::RecoverError;
 pub fn is_site<P: Plant>(plant: &P) -> bool
     ensures { IsTrue result ↔ IsSite (P.state plant.now) }
 {
-    (2..=16).contains(&plant.journals()) && plant.volumes() <= 64
+    (FEWEST_JOURNALS..=MOST_JOURNALS).contains(&plant.journals())
+        && plant.volumes() <= MOST_SITE_VOLUMES as u16
 }
 
 fn fault_of(device: Device) -> Stop

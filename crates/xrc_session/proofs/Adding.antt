@@ -30,7 +30,8 @@ use Rattle.xrc_session.proofs.Calls.{begin_itself, begin_other, keeps_begin}
 use Rattle.xrc_session.proofs.CarriedRows.{added_others, added_own, added_there, among_either}
 use Rattle.xrc_session.proofs.Standing.{Changes, stands_there}
 use Rattle.xrc_session.proofs.KeptRows.{kept_added_row, standing_rows_are_kept}
-use Rattle.xrc_session.proofs.Knowing.{base, is_duplex, is_other, same}
+use Rattle.xrc_session.proofs.Knowing.{base, is_other, same}
+use Rattle.pair_table.specs.States.{is_duplex}
 
 module _ (start : PlantState) (b : Between) (r : PairRow) (st : StandsBetween start b) (may : MayAdd start b r) where
   abbrev k : ℕ

@@ -9,7 +9,8 @@ use Rattle.pair_table.specs.declared.command.Change.{Change}
 use Rattle.pair_table.specs.declared.row.PairRow.{PairRow}
 use Rattle.pair_table.specs.Naming.{Naming}
 use Rattle.pair_table.specs.Tables.{none_clash}
-use Rattle.record_rows.specs.Hits.{hit_now, is_device_suspended}
+use Rattle.record_rows.specs.Hits.{hit_now}
+use Rattle.pair_table.specs.States.{is_device_suspended}
 use Rattle.record_rows.specs.Records.{rows_with_hits}
 use Rattle.xrc_command.specs.declared.line.Line.{Line}
 use Rattle.site_store.specs.declared.store_error.StoreError.{StoreError}

@@ -15,7 +15,8 @@ use Rattle.pair_table.specs.Naming.{Naming}
 use Rattle.pair_table.specs.Refusals.{refusal, refuses_command}
 use Rattle.pair_table.specs.Tables.{Table, none_clash, with_rows}
 use Rattle.group_state.specs.Groups.{Group}
-use Rattle.record_rows.specs.Hits.{hit_changes, hit_now, is_device_suspended, marked_changes, rows_hit}
+use Rattle.record_rows.specs.Hits.{hit_changes, hit_now, marked_changes, rows_hit}
+use Rattle.pair_table.specs.States.{is_device_suspended}
 use Rattle.record_rows.specs.Records.{rows_with_hits}
 use Rattle.record_rows.proofs.Counting.{hits_count, marks_count, once}
 use Rattle.row_changes.specs.Spans.{hit_count}

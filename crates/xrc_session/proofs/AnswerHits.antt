@@ -10,7 +10,7 @@ use Rattle.pair_table.specs.declared.level.Level.{Level}
 use Rattle.pair_table.specs.declared.row.PairRow.{PairRow}
 use Rattle.pair_table.specs.Devices.{is_among}
 use Rattle.pair_table.specs.Tables.{is_of}
-use Rattle.row_changes.specs.Changes.{Due, Timed, are_hit, due_after_mark, is_of_mark, is_of_record}
+use Rattle.row_changes.specs.Changes.{Due, Timed, are_hit, due_after_mark, due_in_record, is_of_mark, is_of_record}
 use Rattle.row_changes.specs.Changes.Due.{NoneDue}
 use Rattle.row_changes.specs.Spans.{all_broke, hit_count, is_hit_at}
 use Rattle.record_rows.specs.Hits.{due_behind_mark, hit_changes, hit_now, marked_changes, rows_hit, rows_marked}
@@ -38,7 +38,7 @@ module _ (level : Level) (breaks : List (Option ℕ)) (p : Point) (due : p.due �
     are_hits = ap (λ (b : Bool). (b && true) && true) (eq-eqb p.time p.time refl);
     at = refl;
     leads = record {
-      may_come = (omega arith, omega arith, and_from (is_of_record p.due p.time) (are_hit (d ∷ hit) p.rows) (ap (λ (x : Due). is_of_record x p.time) due) (some_hit d hit p.rows have), (omega arith, sym due));
+      may_come = (omega arith, omega arith, and_from (is_of_record p.due p.time) (are_hit (d ∷ hit) p.rows) (ap (λ (x : Due). is_of_record x p.time) due) (some_hit d hit p.rows have), (omega arith, ap (λ (x : Due). due_in_record x p.time) due ∙ sym due));
       rows = refl;
       goes_on = refl;
     };

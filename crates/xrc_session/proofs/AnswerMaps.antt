@@ -21,7 +21,7 @@ use Rattle.group_state.specs.Groups.{Group}
 use Rattle.row_changes.specs.Changes.{RowChange, Timed, after_change, after_changes, hit_row, since}
 use Rattle.row_changes.specs.Changes.RowChange.{Break, Hit, MarkedHit, Mature, Reached}
 use Rattle.row_changes.specs.Spans.{hit_count, hits}
-use Rattle.record_rows.specs.Hits.{is_device_suspended}
+use Rattle.pair_table.specs.States.{is_device_suspended}
 use Rattle.record_rows.specs.Records.{rows_with_hits}
 use Rattle.record_rows.proofs.Counting.{once}
 use Rattle.passages.specs.Points.{AreLinked}

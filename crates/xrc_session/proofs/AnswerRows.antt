@@ -24,7 +24,8 @@ use Rattle.pair_table.specs.Rows.{is_suspended}
 use Rattle.pair_table.specs.Tables.{changed_row, in_state, is_of, none_clash, row_of}
 use Rattle.pair_table.proofs.StateLaws.{state_of_primary}
 use Rattle.pair_table.proofs.TableLaws.{not_true}
-use Rattle.record_rows.specs.Hits.{hit_now, is_device_suspended, is_down, is_hit_now}
+use Rattle.record_rows.specs.Hits.{hit_now, is_down, is_hit_now}
+use Rattle.pair_table.specs.States.{is_device_suspended}
 use Rattle.record_rows.proofs.Telling.{only_failed}
 use Rattle.site_store.specs.Changing.{changed_items, gone_of, pairs_of}
 use Rattle.site_store.specs.Commands.{is_added, without_flag}

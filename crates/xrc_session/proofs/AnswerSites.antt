@@ -1,5 +1,5 @@
 -- A site that a run shows, and what a mark leaves of a site.
-use Rattle.std.proofs.Common.{◌≡◌, inl, inr, ℕ, Bool, true, false, List, [], ◌∷◌, length, Option, Some, None, Ok, refl, sym, ap, subst, ◌∙◌}
+use Rattle.std.proofs.Common.{◌≡◌, inl, inr, ℕ, Bool, true, false, List, [], ◌∷◌, map, length, Option, Some, None, Ok, refl, sym, ap, subst, ◌∙◌}
 use Rattle.std.specs.Prelude.{is_none}
 use Rattle.crash_plant.specs.declared.device.Device.{Device}
 use Rattle.crash_plant.specs.declared.device.Device.TheVariants.{Control, State, Journal, Volume}
@@ -11,8 +11,9 @@ use Rattle.pair_table.specs.declared.level.Level.{Level}
 use Rattle.pair_table.specs.declared.row.PairRow.{PairRow}
 use Rattle.pair_table.specs.Refusals.{refusal}
 use Rattle.pair_table.specs.Tables.{Table, in_state, with_rows}
-use Rattle.row_changes.specs.Changes.{Timed, after_change, row_after_change}
+use Rattle.row_changes.specs.Changes.{FaultReach, Timed, reach_of, row_after_change}
 use Rattle.row_changes.specs.Changes.RowChange.{Hit}
+use Rattle.row_changes.proofs.Reaching.{changes_state}
 use Rattle.record_rows.specs.Hits.{hit_now, rows_hit}
 use Rattle.record_rows.specs.Records.{rows_with_hits}
 use Rattle.record_rows.specs.ToldRows.{InPlaces}
@@ -33,7 +34,6 @@ use Rattle.consistency.specs.Leads.{Point}
 use Rattle.consistency.specs.Steps.{names_at}
 use Rattle.mover.specs.Epochs.{IsSamePair}
 use Rattle.mover.specs.Moves.{IsOfMover}
-use Rattle.mover.proofs.Pairs.{IsPairOf, changed_pair}
 use Rattle.mover.proofs.SiteCalls.{worked_written}
 use Rattle.xrc_session.specs.Answering.{IsMarkedSite}
 use Rattle.xrc_session.proofs.RestingMarks.{marks_begin_walks}
@@ -72,12 +72,9 @@ ended_accepts_none run table (Some line) ended = by_command line.command
 
 -- ---- pairs stay behind hits
 
-same_of_pair : (r s : PairRow) → IsPairOf r s → IsSamePair r s
-same_of_pair r s same = ap (in_state s.state) same
-
-changed_in_places : (level : Level) (t : Timed) (rows : List PairRow) → InPlaces IsSamePair rows (after_change level t rows)
-changed_in_places level t [] = tt
-changed_in_places level t (r ∷ rows) = (same_of_pair r (row_after_change level t r) (changed_pair level t.time t.change r), changed_in_places level t rows)
+changed_in_places : (reach : FaultReach) (t : Timed) (rows : List PairRow) → InPlaces IsSamePair rows (map (row_after_change reach t) rows)
+changed_in_places reach t [] = tt
+changed_in_places reach t (r ∷ rows) = (changes_state reach t r, changed_in_places reach t rows)
 
 pairs_stay : (rows : List PairRow) → InPlaces IsSamePair rows rows
 pairs_stay [] = tt
@@ -88,7 +85,7 @@ hits_in_places level time failed rows = by_hits (hit_now failed rows)
   where
     by_hits : (hit : List ℕ) → InPlaces IsSamePair rows (rows_hit level time hit rows)
     by_hits [] = pairs_stay rows
-    by_hits (d ∷ hit) = changed_in_places level (record { time = time; change = Hit (d ∷ hit) }) rows
+    by_hits (d ∷ hit) = changed_in_places (reach_of level rows) (record { time = time; change = Hit (d ∷ hit) }) rows
 
 -- ---- devices
 

@@ -9,14 +9,16 @@ use Rattle.crash_plant.specs.declared.device.Device.TheVariants.{Control, State,
 use Rattle.crash_plant.specs.Moments.{PlantState}
 use Rattle.crash_plant.specs.declared.spot.Spot.{Spot}
 use Rattle.pair_table.specs.declared.level.Level.{Level}
-use Rattle.pair_table.specs.declared.level.Level.TheVariants.{Volume as VolumeLevel, Session as SessionLevel}
 use Rattle.pair_table.specs.declared.row.PairRow.{PairRow}
-use Rattle.pair_table.specs.declared.row.SuspendCause.TheVariants.{Device as OfDevice, Session as OfSession}
+use Rattle.pair_table.specs.declared.row.SuspendCause.TheVariants.{Device as OfDevice}
 use Rattle.pair_table.specs.Devices.{is_among}
 use Rattle.pair_table.specs.Rows.{is_suspended}
 use Rattle.pair_table.specs.Tables.{in_state}
-use Rattle.row_changes.specs.Changes.{hit_row, reached_row, since}
-use Rattle.record_rows.specs.Hits.{hit_now, is_device_suspended, is_down, rows_hit}
+use Rattle.row_changes.specs.Changes.{FaultReach, hit_row, reach_of, reached_row, since}
+use Rattle.row_changes.proofs.Reaching.{reached_state}
+use Rattle.row_changes.proofs.Reaching.{reach_is_other}
+use Rattle.record_rows.specs.Hits.{hit_now, is_down, rows_hit}
+use Rattle.pair_table.specs.States.{is_device_suspended}
 use Rattle.record_rows.specs.Records.{rows_with_hits}
 use Rattle.record_rows.proofs.Telling.{only_failed}
 use Rattle.site_store.specs.declared.store_error.StoreError.{StoreError}
@@ -34,6 +36,7 @@ use Rattle.mover.proofs.Pairs.{Among, among_of}
 use Rattle.mover.proofs.ToldHits.{flag_low, hit_by_others}
 use Rattle.xrc_session.specs.Frames.{CountRose, SuspendsByCounts}
 use Rattle.xrc_session.specs.Stops.{HasStopCause, IsSpentNow, StopsByCount, stop_of_device, stop_of_store}
+use Rattle.xrc_session.proofs.FailedRows.{reached_hit}
 use Rattle.xrc_session.proofs.RestingRows.{map_back}
 
 -- ---- numbers
@@ -143,37 +146,27 @@ suspended_back : (level : Level) (time : ℕ) (hits : List ℕ) (rows : List Pai
     → (x : PairRow) × Among x rows × (x.device ≡ r.device) × ((x.state ≡ r.state) ⊎ (is_among x.device hits ≡ true))
 suspended_back level time [] rows r there is = (r, there, refl, inl refl)
 suspended_back level time (d ∷ hits) rows r there is =
-    let back = map_back (λ s. reached_row level (d ∷ hits) time (hit_row (d ∷ hits) time s)) r rows there in
+    let back = map_back (λ s. reached_row reach (d ∷ hits) time (hit_row (d ∷ hits) time s)) r rows there in
     let found = by_hit back.0 (is_among back.0.device (d ∷ hits)) refl back.2 in
     (back.0, back.1, found.0, found.1)
   where
+    reach : FaultReach
+    reach = reach_of level rows
+
     all : List ℕ
     all = d ∷ hits
 
     Found : PairRow → Type 0
     Found x = (x.device ≡ r.device) × ((x.state ≡ r.state) ⊎ (is_among x.device all ≡ true))
 
-    device_by : (b c : Bool) (x : PairRow) → (let y : PairRow = cond b x (cond c x (in_state (since OfSession time) x)) in y.device) ≡ x.device
-    device_by true c x = refl
-    device_by false true x = refl
-    device_by false false x = refl
+    reached : (x : PairRow) → (reached_row reach all time x).device ≡ x.device
+    reached x = ap (λ (s : PairRow). s.device) (reached_state reach all time x)
 
-    reached : (level : Level) (x : PairRow) → (reached_row level all time x).device ≡ x.device
-    reached VolumeLevel x = refl
-    reached SessionLevel x = device_by (is_among x.device all) (is_suspended x.state) x
-
-    calm : (b c : Bool) (x : PairRow) → is_suspended x.state ≡ c → (let y : PairRow = cond b x (cond c x (in_state (since OfSession time) x)) in is_device_suspended y.state ≡ true) → (let y : PairRow = cond b x (cond c x (in_state (since OfSession time) x)) in x.state ≡ y.state)
-    calm true c x at on = refl
-    calm false true x at on = refl
-    calm false false x at on = absurd (true≢false (sym on))
-
-    still : (level : Level) (x : PairRow) → is_device_suspended (reached_row level all time x).state ≡ true → x.state ≡ (reached_row level all time x).state
-    still VolumeLevel x on = refl
-    still SessionLevel x on = calm (is_among x.device all) (is_suspended x.state) x refl on
-
-    by_hit : (x : PairRow) (b : Bool) → is_among x.device all ≡ b → reached_row level all time (cond b (in_state (since OfDevice time) x) x) ≡ r → Found x
-    by_hit x true hit same = (sym (reached level (in_state (since OfDevice time) x)) ∙ ap (λ (s : PairRow). s.device) same, inr hit)
-    by_hit x false hit same = (sym (reached level x) ∙ ap (λ (s : PairRow). s.device) same, inl (still level x (ap (λ (s : PairRow). is_device_suspended s.state) same ∙ is) ∙ ap (λ (s : PairRow). s.state) same))
+    by_hit : (x : PairRow) (b : Bool) → is_among x.device all ≡ b → reached_row reach all time (cond b (in_state (since OfDevice time) x) x) ≡ r → Found x
+    by_hit x true hit same = (sym (reached (in_state (since OfDevice time) x)) ∙ ap (λ (s : PairRow). s.device) same, inr hit)
+    by_hit x false hit same =
+        let on = ap (λ (s : PairRow). is_device_suspended s.state) same ∙ is in
+        (sym (reached x) ∙ ap (λ (s : PairRow). s.device) same, inl (reached_hit reach (reach_is_other level rows) all time x on ∙ ap (λ (s : PairRow). s.state) same))
 
 -- Where each row that its device suspends comes from one that it suspended since the same time, hits behind them suspend by counts.
 pub suspends_by_counts : (level : Level) (time : ℕ) (flags now : List Bool) (before rows : List PairRow) (old new : PlantState) → FailByCounts flags now old.faults new.faults → hit_now flags rows ≡ []

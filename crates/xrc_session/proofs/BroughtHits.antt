@@ -10,7 +10,8 @@ use Rattle.group_state.specs.Runs.{Answer}
 use Rattle.row_changes.specs.Changes.{Due}
 use Rattle.row_changes.specs.Spans.{hit_count}
 use Rattle.record_rows.specs.Deeds.{rows_behind, rows_by_deed, time_by_deed}
-use Rattle.record_rows.specs.Hits.{hit_changes, hit_now, is_device_suspended, rows_marked, told_changes}
+use Rattle.record_rows.specs.Hits.{hit_changes, hit_now, rows_marked, told_changes}
+use Rattle.pair_table.specs.States.{is_device_suspended}
 use Rattle.record_rows.specs.GroupRows.{group_changes}
 use Rattle.record_rows.specs.ToldRows.{due_after_changes}
 use Rattle.site_store.specs.DeedChanges.{AreByChanges, DeedOfChanges, changes_of, deeds_of}

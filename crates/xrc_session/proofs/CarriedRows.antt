@@ -11,7 +11,8 @@ use Rattle.pair_table.specs.Tables.{changed_row, in_state, is_of, none_clash, ro
 use Rattle.image_former.specs.Entries.{row_device}
 use Rattle.site_means.specs.Sight.{content_of}
 use Rattle.fed_logs.specs.Moves.{HasRowIn}
-use Rattle.mover.specs.OwedTracks.{IsAny, held_by_choice, held_of_row, is_row_of_volume}
+use Rattle.mover.specs.Moves.{is_row_of_volume}
+use Rattle.mover.specs.OwedTracks.{IsAny, held_by_choice, held_of_row}
 use Rattle.mover.proofs.Failing.{among_map}
 use Rattle.mover.proofs.Pairs.{Among, among_cases, among_of, contains_of, device_still, found_of_device, found_row, named_by, pair_of, pairs_of}
 use Rattle.mover.proofs.Pairs.Among.{Here, Later}

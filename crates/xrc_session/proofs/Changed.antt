@@ -19,7 +19,7 @@ use Rattle.group_state.specs.Groups.{Group, control_at}
 use Rattle.group_state.specs.Machine.{group_after}
 use Rattle.group_state.specs.Machine.Call.{Carry, Drop}
 use Rattle.group_state.specs.SoundStates.{MayCarry}
-use Rattle.record_rows.specs.Hits.{is_device_suspended}
+use Rattle.pair_table.specs.States.{is_device_suspended}
 use Rattle.fed_logs.specs.Logs.{IsPlanDone}
 use Rattle.fed_logs.specs.Moves.{Plans, plans_without}
 use Rattle.xrc_session.specs.EpochPauses.{Between, StandsBetween}

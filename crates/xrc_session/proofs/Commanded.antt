@@ -13,47 +13,48 @@ use Rattle.pair_table.specs.declared.command.Command.TheVariants.{Start, AddPair
 use Rattle.pair_table.specs.declared.command.Refusal.{Refusal}
 use Rattle.pair_table.specs.declared.command.Refusal.TheVariants.{AlreadyPaired, ControlBroken, OtherSecondary}
 use Rattle.pair_table.specs.declared.level.Level.{Level}
-use Rattle.pair_table.specs.declared.level.Level.TheVariants.{Volume as VolumeLevel, Session as SessionLevel}
 use Rattle.pair_table.specs.declared.names.NamedDevice.{NamedDevice}
 use Rattle.pair_table.specs.declared.names.NamedVolume.{NamedVolume}
 use Rattle.pair_table.specs.declared.row.PairRow.{PairRow}
 use Rattle.pair_table.specs.declared.row.PairState.{PairState}
 use Rattle.pair_table.specs.declared.row.PairState.TheVariants.{Pending, Copy, Duplex, Suspended}
-use Rattle.pair_table.specs.declared.row.SuspendCause.{SuspendCause}
-use Rattle.pair_table.specs.declared.row.SuspendCause.TheVariants.{Command as ByCommand, Device, Session, Control}
+use Rattle.pair_table.specs.declared.row.SuspendCause.TheVariants.{Command as ByCommand, Device}
 use Rattle.pair_table.specs.Commands.{accepted, add_to, added, answer_by, change_of, devices_of, is_chosen, is_to_suspend, new_row, new_row_for, rows_after, suspended_since}
 use Rattle.pair_table.specs.Devices.{is_among}
 use Rattle.pair_table.specs.Naming.{Naming, is_broken, labelled_device, primary_of}
 use Rattle.pair_table.specs.Refusals.{is_of_primary, is_start, refusal, refuses_command, refuses_found, refuses_label, refuses_primary, row_of_primary}
 use Rattle.pair_table.specs.Rows.{cause_number, is_suspended}
 use Rattle.pair_table.specs.Tables.{Table, changed_row, in_state, is_of, none_clash, row_of, with_state}
+use Rattle.pair_table.proofs.Causes.{same_causes}
 use Rattle.pair_table.proofs.StateLaws.{state_of_primary}
 use Rattle.pair_table.proofs.PutLaws.{number_sym}
 use Rattle.pair_table.proofs.TableLaws.{either_false, not_true}
 use Rattle.group_state.specs.Controls.{counts}
 use Rattle.group_state.specs.Groups.{Group, control_at}
-use Rattle.row_changes.specs.Changes.{hit_row, reached_row, since}
-use Rattle.record_rows.specs.Hits.{hit_now, is_by_device, is_device_suspended, is_down}
+use Rattle.row_changes.specs.Changes.{FaultReach, hit_row, reach_of, reached_row, since}
+use Rattle.row_changes.proofs.Reaching.{hit_state, reached_state}
+use Rattle.record_rows.specs.Hits.{hit_now, is_down}
+use Rattle.pair_table.specs.States.{is_by_device, is_device_suspended, is_duplex, owes, owes_suspended}
 use Rattle.record_rows.specs.Records.{rows_with_hits}
 use Rattle.record_rows.specs.ToldRows.{InPlaces}
 use Rattle.record_rows.proofs.Devices.{apart_first, apart_in_map, apart_of, devices_apart, found_in_map, none_at, row_at_place}
-use Rattle.record_rows.proofs.HitRows.{among_hit, held, hit_is_told, told_row, told_rows}
+use Rattle.record_rows.proofs.HitRows.{among_hit, held, told_row, told_rows}
 use Rattle.mover.proofs.Pairs.{Among, among_of, contains_of, found_of_device}
 use Rattle.xrc_session.specs.CarriedLaws.{BegunControlsCount, CommandsMayBeTaken}
-use Rattle.xrc_session.specs.Taking.{IsSuspendedSince, MayBeBegun, MayTake, as_pending, drop_between, drop_by, is_suspended_as, rows_by_command, stands_again}
+use Rattle.xrc_session.specs.Taking.{IsSuspendedSince, MayBeBegun, MayTake, as_pending, is_suspended_as, rows_by_command, stands_again}
 use Rattle.xrc_session.proofs.CarriedRows.{among_last, one_of_device, stated_among}
 use Rattle.xrc_session.proofs.Walking.{found_in}
 
 -- ---- hits
 
 -- The volume of a row that isn't suspended is dropped by each suspension, and that of a row that its device doesn't suspend by its device's.
-live_drops : (state : PairState) (failed : Bool) → is_suspended state ≡ false → drop_by state failed ≡ None → ⊥
+live_drops : (state : PairState) (failed : Bool) → is_suspended state ≡ false → owes_suspended state (is_duplex state) failed ≡ None → ⊥
 live_drops Pending failed live e = absurd cc
 live_drops Copy failed live e = absurd cc
 live_drops Duplex failed live e = absurd cc
 live_drops (Suspended cause since) failed live e = absurd (true≢false live)
 
-failed_drops : (state : PairState) → is_device_suspended state ≡ false → drop_by state true ≡ None → ⊥
+failed_drops : (state : PairState) → is_device_suspended state ≡ false → owes_suspended state (is_duplex state) true ≡ None → ⊥
 failed_drops Pending fresh e = absurd cc
 failed_drops Copy fresh e = absurd cc
 failed_drops Duplex fresh e = absurd cc
@@ -63,40 +64,23 @@ failed_drops (Suspended cause since) fresh e = again (is_by_device cause) fresh 
     again true fresh e = true≢false fresh
     again false fresh e = absurd cc
 
-reached_device : (level : Level) (devices : List ℕ) (time : ℕ) (r : PairRow) → (reached_row level devices time r).device ≡ r.device
-reached_device VolumeLevel devices time r = refl
-reached_device SessionLevel devices time r = choose (is_among r.device devices) (is_suspended r.state)
-  where
-    choose : (b c : Bool) → (let x : PairRow = cond b r (cond c r (in_state (since Session time) r)) in x.device) ≡ r.device
-    choose true c = refl
-    choose false true = refl
-    choose false false = refl
-
-told_device : (level : Level) (time : ℕ) (hit : List ℕ) (r : PairRow) → (told_row level time [] hit r).device ≡ r.device
-told_device level time [] r = refl
-told_device level time (d ∷ hit) r = reached_device level (d ∷ hit) time (hit_row (d ∷ hit) time r) ∙ choose (is_among r.device (d ∷ hit))
-  where
-    choose : (b : Bool) → (let x : PairRow = cond b (in_state (since Device time) r) r in x.device) ≡ r.device
-    choose true = refl
-    choose false = refl
+told_device : (reach : FaultReach) (time : ℕ) (hit : List ℕ) (r : PairRow) → (told_row reach time [] hit r).device ≡ r.device
+told_device reach time [] r = refl
+told_device reach time (d ∷ hit) r = ap (λ (x : PairRow). x.device) (reached_state reach (d ∷ hit) time (hit_row (d ∷ hit) time r) ∙ ap (in_state (told_row reach time [] (d ∷ hit) r).state) (hit_state (d ∷ hit) time r))
 
 -- A row of which hits are told is suspended by them, or stays.
-told_follows : (level : Level) (time : ℕ) (hit : List ℕ) (r : PairRow) → (is_among r.device hit ≡ true → is_device_suspended r.state ≡ false) → IsSuspendedSince r (told_row level time [] hit r)
-told_follows level time [] r fresh = record { same = refl; stays = λ e. refl }
-told_follows level time (d ∷ hit) r fresh = choose (is_among r.device (d ∷ hit)) refl
+told_follows : (reach : FaultReach) (time : ℕ) (hit : List ℕ) (r : PairRow) → (is_among r.device hit ≡ true → is_device_suspended r.state ≡ false) → IsSuspendedSince r (told_row reach time [] hit r)
+told_follows reach time [] r fresh = record { same = refl; stays = λ e. refl }
+told_follows reach time (d ∷ hit) r fresh = choose (is_among r.device (d ∷ hit)) refl
   where
-    reached : (level : Level) → is_among r.device (d ∷ hit) ≡ false → IsSuspendedSince r (reached_row level (d ∷ hit) time r)
-    reached VolumeLevel is = record { same = refl; stays = λ e. refl }
-    reached SessionLevel is = by (is_among r.device (d ∷ hit)) is (is_suspended r.state) refl
-      where
-        by : (b : Bool) → b ≡ false → (c : Bool) → is_suspended r.state ≡ c → IsSuspendedSince r (cond b r (cond c r (in_state (since Session time) r)))
-        by true none c is = absurd (true≢false none)
-        by false none true is = record { same = refl; stays = λ e. refl }
-        by false none false is = record { same = refl; stays = λ e. absurd (live_drops r.state false is e) }
+    reached : (b c : Bool) → is_suspended r.state ≡ c → IsSuspendedSince r (cond b (cond c r (in_state (since reach.cause time) r)) r)
+    reached true true is = record { same = refl; stays = λ e. refl }
+    reached true false is = record { same = refl; stays = λ e. absurd (live_drops r.state (is_by_device reach.cause) is e) }
+    reached false c is = record { same = refl; stays = λ e. refl }
 
-    choose : (b : Bool) → is_among r.device (d ∷ hit) ≡ b → IsSuspendedSince r (reached_row level (d ∷ hit) time (cond b (in_state (since Device time) r) r))
-    choose true is = subst (IsSuspendedSince r) (sym (held level (d ∷ hit) time (in_state (since Device time) r) refl)) (record { same = refl; stays = λ e. absurd (failed_drops r.state (fresh is) e) })
-    choose false is = reached level is
+    choose : (b : Bool) → is_among r.device (d ∷ hit) ≡ b → IsSuspendedSince r (reached_row reach (d ∷ hit) time (cond b (in_state (since Device time) r) r))
+    choose true is = subst (IsSuspendedSince r) (sym (held reach (d ∷ hit) time (in_state (since Device time) r) refl)) (record { same = refl; stays = λ e. absurd (failed_drops r.state (fresh is) e) })
+    choose false is = reached (reach.reaches (d ∷ hit) r) (is_suspended r.state) refl
 
 in_places_map : (is : PairRow → PairRow → Type 0) (f : PairRow → PairRow) (rows : List PairRow) → ((i : ℕ) (x : PairRow) → slice_get rows i ≡ Some x → is x (f x)) → InPlaces is rows (map f rows)
 in_places_map is f [] each = tt
@@ -114,24 +98,6 @@ in_places_through is g f (r ∷ rows) each = (each 0 r refl, in_places_through i
 
 -- ---- a row that is suspended as it was
 
-same_causes : (a b : SuspendCause) → nat_eq (cause_number a) (cause_number b) ≡ true → a ≡ b
-same_causes ByCommand ByCommand e = refl
-same_causes ByCommand Device e = absurd cc
-same_causes ByCommand Session e = absurd cc
-same_causes ByCommand Control e = absurd cc
-same_causes Device ByCommand e = absurd cc
-same_causes Device Device e = refl
-same_causes Device Session e = absurd cc
-same_causes Device Control e = absurd cc
-same_causes Session ByCommand e = absurd cc
-same_causes Session Device e = absurd cc
-same_causes Session Session e = refl
-same_causes Session Control e = absurd cc
-same_causes Control ByCommand e = absurd cc
-same_causes Control Device e = absurd cc
-same_causes Control Session e = absurd cc
-same_causes Control Control e = refl
-
 pub same_states : (was is : PairState) → is_suspended_as was is ≡ true → was ≡ is
 same_states was Pending e = absurd cc
 same_states was Copy e = absurd cc
@@ -147,16 +113,16 @@ same_states (Suspended first from) (Suspended cause since) e =
 
 module _ (level : Level) (cut : ℕ) (failed : List Bool) where
   abbrev told_of : List PairRow → PairRow → PairRow
-  told_of rows = told_row level cut [] (hit_now failed rows)
+  told_of rows = told_row (reach_of level rows) cut [] (hit_now failed rows)
 
   hits_told : (rows : List PairRow) → rows_with_hits level cut failed rows ≡ map (told_of rows) rows
-  hits_told rows = hit_is_told level cut (hit_now failed rows) rows ∙ told_rows level cut [] (hit_now failed rows) rows
+  hits_told rows = told_rows level cut [] (hit_now failed rows) rows
 
   fresh_at : (rows : List PairRow) (i : ℕ) (x : PairRow) → devices_apart rows ≡ true → slice_get rows i ≡ Some x → is_among x.device (hit_now failed rows) ≡ true → is_device_suspended x.state ≡ false
   fresh_at rows i x apart at among = not_true (is_device_suspended x.state) (and_parts (is_down failed x.device) (not (is_device_suspended x.state)) (sym (among_hit failed rows i x apart at) ∙ among)).1
 
   told_at : (rows : List PairRow) (i : ℕ) (x : PairRow) → devices_apart rows ≡ true → slice_get rows i ≡ Some x → IsSuspendedSince x (told_of rows x)
-  told_at rows i x apart at = told_follows level cut (hit_now failed rows) x (fresh_at rows i x apart at)
+  told_at rows i x apart at = told_follows (reach_of level rows) cut (hit_now failed rows) x (fresh_at rows i x apart at)
 
   hits_follow : (rows : List PairRow) → devices_apart rows ≡ true → InPlaces IsSuspendedSince rows (rows_with_hits level cut failed rows)
   hits_follow rows apart = subst (InPlaces IsSuspendedSince rows) (sym (hits_told rows)) (in_places_map IsSuspendedSince (told_of rows) rows (λ i x at. told_at rows i x apart at))
@@ -176,7 +142,7 @@ module _ (level : Level) (cut : ℕ) (failed : List Bool) where
       live : is_to_suspend choice x ≡ true → is_suspended x.state ≡ false
       live is = not_true (is_suspended x.state) (and_parts (is_chosen choice x) (not (is_suspended x.state)) is).1
 
-      stays : (state : PairState) → is_suspended x.state ≡ false → (drop_between (Suspended ByCommand (record { 0 = time })) state ≡ None → state ≡ Suspended ByCommand (record { 0 = time })) → drop_between x.state state ≡ None → state ≡ x.state
+      stays : (state : PairState) → is_suspended x.state ≡ false → (owes (Suspended ByCommand (record { 0 = time })) state ≡ None → state ≡ Suspended ByCommand (record { 0 = time })) → owes x.state state ≡ None → state ≡ x.state
       stays Pending is h e = absurd (true≢false (sym (ap is_suspended (h refl))))
       stays Copy is h e = absurd (true≢false (sym (ap is_suspended (h refl))))
       stays Duplex is h e = absurd (true≢false (sym (ap is_suspended (h refl))))
@@ -286,7 +252,7 @@ module _ (names : Naming) (rows : List PairRow) (at : ℕ) (level : Level) (cut 
 
     found : row_of l.device (hits next) ≡ Some (told_of level cut failed next new)
     found = ap (row_of l.device) (hits_told level cut failed next)
-        ∙ found_in_map (told_of level cut failed next) (told_device level cut (hit_now failed next)) l.device next new (row_at_place next (length rows) new (apart_of next clear) (last_place rows new))
+        ∙ found_in_map (told_of level cut failed next) (told_device (reach_of level next) cut (hit_now failed next)) l.device next new (row_at_place next (length rows) new (apart_of next clear) (last_place rows new))
 
     pending : in_state Pending (told_of level cut failed next new) ≡ new
     pending = ap (in_state Pending) (told_at level cut failed next (length rows) new (apart_of next clear) (last_place rows new)).same
@@ -336,7 +302,7 @@ module _ (names : Naming) (rows : List PairRow) (at : ℕ) (level : Level) (cut 
       -- the row behind the hits
       behind : none_clash next ≡ true → row_of r.device (hits next) ≡ Some (told_of level cut failed next (in_state Pending r))
       behind clear = ap (row_of r.device) (hits_told level cut failed next)
-          ∙ found_in_map (told_of level cut failed next) (told_device level cut (hit_now failed next)) r.device next (in_state Pending r) (found_of_device (in_state Pending r) next clear (among_of next (in_state Pending r) there))
+          ∙ found_in_map (told_of level cut failed next) (told_device (reach_of level next) cut (hit_now failed next)) r.device next (in_state Pending r) (found_of_device (in_state Pending r) next clear (among_of next (in_state Pending r) there))
 
       -- The resumed row is suspended again as it was, so it stays.
       stays : stands_again (row_of r.device rows) (row_of r.device (hits next)) ≡ true → none_clash next ≡ true → (x z : PairRow) → Among x rows → IsSuspendedSince (changed_row r.device Pending x) z

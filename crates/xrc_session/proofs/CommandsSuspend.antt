@@ -9,14 +9,13 @@ use Rattle.pair_table.specs.declared.command.Choice.{Choice}
 use Rattle.pair_table.specs.declared.command.Command.{Command}
 use Rattle.pair_table.specs.declared.command.Command.TheVariants.{Start, AddPair, DelPair, Suspend, Query, End}
 use Rattle.pair_table.specs.declared.level.Level.{Level}
-use Rattle.pair_table.specs.declared.level.Level.TheVariants.{Volume as VolumeLevel, Session as SessionLevel}
 use Rattle.pair_table.specs.declared.names.NamedDevice.{NamedDevice}
 use Rattle.pair_table.specs.declared.names.NamedVolume.{NamedVolume}
 use Rattle.pair_table.specs.declared.row.PairRow.{PairRow}
 use Rattle.pair_table.specs.declared.row.PairState.{PairState}
 use Rattle.pair_table.specs.declared.row.PairState.TheVariants.{Pending, Copy, Duplex, Suspended}
 use Rattle.pair_table.specs.declared.row.SuspendCause.{SuspendCause}
-use Rattle.pair_table.specs.declared.row.SuspendCause.TheVariants.{Command as ByCommand, Device as ByDevice, Session as BySession}
+use Rattle.pair_table.specs.declared.row.SuspendCause.TheVariants.{Command as ByCommand, Device as ByDevice}
 use Rattle.pair_table.specs.Commands.{add_to, added, change_of, is_chosen, is_to_suspend, new_row, new_row_for, rows_after, suspended_since}
 use Rattle.pair_table.specs.Devices.{is_among}
 use Rattle.pair_table.specs.Naming.{Naming, labelled_device, primary_of}
@@ -27,7 +26,7 @@ use Rattle.pair_table.proofs.FindLaws.{found_passes}
 use Rattle.pair_table.proofs.StateLaws.{state_of_primary}
 use Rattle.group_state.specs.Controls.{counts}
 use Rattle.group_state.specs.Groups.{Group, control_at}
-use Rattle.row_changes.specs.Changes.{hit_row, reached_row, since}
+use Rattle.row_changes.specs.Changes.{FaultReach, hit_row, reach_of, reached_row, since}
 use Rattle.record_rows.specs.Hits.{hit_now, rows_hit}
 use Rattle.record_rows.specs.Records.{rows_with_hits}
 use Rattle.mover.proofs.Pairs.{Among, among_cases, among_of, found_of_device}
@@ -61,20 +60,22 @@ not_pending state cause from is pending = true≢false (ap is_suspended (sym is 
 hit_or_there : (level : Level) (time : ℕ) (hit : List ℕ) (rows : List PairRow) (z : PairRow) → Among z (rows_hit level time hit rows) → Among z rows ⊎ SuspendedAt time z.state
 hit_or_there level time [] rows z there = inl there
 hit_or_there level time (d ∷ hit) rows z there =
-    let back = map_back (λ r. reached_row level (d ∷ hit) time (hit_row (d ∷ hit) time r)) z rows there in
-    elim (reached level (hit_row (d ∷ hit) time back.0)) [
-      | inr suspended ↦ inr (at_time BySession time z.state (ap (λ (x : PairRow). x.state) (sym back.2) ∙ suspended))
+    let back = map_back (λ r. reached_row reach (d ∷ hit) time (hit_row (d ∷ hit) time r)) z rows there in
+    elim (reached (hit_row (d ∷ hit) time back.0)) [
+      | inr suspended ↦ inr (at_time reach.cause time z.state (ap (λ (x : PairRow). x.state) (sym back.2) ∙ suspended))
       | inl stays ↦ by_hit back.0 back.1 (sym stays ∙ back.2) (is_among back.0.device (d ∷ hit)) refl
     ]
   where
-    by_flags : (y : PairRow) (b c : Bool) → (let x : PairRow = cond b y (cond c y (in_state (since BySession time) y)) in (x ≡ y) ⊎ (x.state ≡ since BySession time))
-    by_flags y true c = inl refl
-    by_flags y false true = inl refl
-    by_flags y false false = inr refl
+    reach : FaultReach
+    reach = reach_of level rows
 
-    reached : (by : Level) (y : PairRow) → (reached_row by (d ∷ hit) time y ≡ y) ⊎ ((reached_row by (d ∷ hit) time y).state ≡ since BySession time)
-    reached VolumeLevel y = inl refl
-    reached SessionLevel y = by_flags y (is_among y.device (d ∷ hit)) (is_suspended y.state)
+    by_flags : (y : PairRow) (b c : Bool) → (let x : PairRow = cond b (cond c y (in_state (since reach.cause time) y)) y in (x ≡ y) ⊎ (x.state ≡ since reach.cause time))
+    by_flags y true true = inl refl
+    by_flags y true false = inr refl
+    by_flags y false c = inl refl
+
+    reached : (y : PairRow) → (reached_row reach (d ∷ hit) time y ≡ y) ⊎ ((reached_row reach (d ∷ hit) time y).state ≡ since reach.cause time)
+    reached y = by_flags y (reach.reaches (d ∷ hit) y) (is_suspended y.state)
 
     by_hit : (x : PairRow) → Among x rows → hit_row (d ∷ hit) time x ≡ z → (b : Bool) → is_among x.device (d ∷ hit) ≡ b → Among z rows ⊎ SuspendedAt time z.state
     by_hit x among same true is = inr (at_time ByDevice time z.state (ap (λ (y : PairRow). y.state) (sym same) ∙ ap (λ (b : Bool). (cond b (in_state (since ByDevice time) x) x).state) is))

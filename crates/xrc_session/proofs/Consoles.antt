@@ -35,7 +35,8 @@ use Rattle.fed_logs.specs.Moves.{Plans}
 use Rattle.fed_logs.specs.ToldTracks.{HeldTracks}
 use Rattle.mover.specs.declared.lane.Lane.{Lane}
 use Rattle.mover.specs.Epochs.{MayBeginEpoch}
-use Rattle.mover.specs.OwedTracks.{held_by_choice, held_of_row, is_row_of_volume}
+use Rattle.mover.specs.Moves.{is_row_of_volume}
+use Rattle.mover.specs.OwedTracks.{held_by_choice, held_of_row}
 use Rattle.mover.specs.Working.{StandsForRows}
 use Rattle.xrc_session.specs.LinePauses.{GoesOnFrom, HasNotBegun, IsAtSite, IsBetween, IsReadyForEpoch, IsUnderWay, IsUnstarted, LeavesAll, MayCommandSite, RestsAtSite, StandsAtLeg, StandsBehindLines, StandsForSite, site_point}
 use Rattle.xrc_session.specs.EpochPauses.{Between, StandsBetween}

@@ -6,21 +6,22 @@ use Rattle.std.proofs.lemmas.List.Folds.{list_all-append}
 use Rattle.tod_stamp.specs.declared.stamp.Stamp.{Stamp}
 use Rattle.ckd_track.specs.declared.write.Cause.{Cause}
 use Rattle.pair_table.specs.declared.level.Level.{Level}
-use Rattle.pair_table.specs.declared.level.Level.TheVariants.{Volume as VolumeLevel, Session as SessionLevel}
 use Rattle.pair_table.specs.declared.row.PairRow.{PairRow}
 use Rattle.pair_table.specs.declared.row.PairState.{PairState}
 use Rattle.pair_table.specs.declared.row.PairState.TheVariants.{Pending, Copy, Duplex, Suspended}
-use Rattle.pair_table.specs.declared.row.SuspendCause.TheVariants.{Control as ByControl, Device as ByDevice, Session as BySession}
+use Rattle.pair_table.specs.declared.row.SuspendCause.TheVariants.{Control as ByControl, Device as ByDevice}
 use Rattle.pair_table.specs.Devices.{is_among}
 use Rattle.pair_table.specs.Rows.{is_suspended}
 use Rattle.pair_table.specs.Tables.{in_state, is_of}
 use Rattle.pending_queue.specs.Groups.{FormedGroup}
-use Rattle.row_changes.specs.Changes.{RowChange, Timed, after_change, after_changes, hit_row, reached_row, row_after_change, since}
+use Rattle.row_changes.specs.Changes.{FaultReach, RowChange, Timed, after_change, after_changes, hit_row, reach_of, reached_row, reaches_others, row_after_change, since}
 use Rattle.row_changes.specs.Changes.RowChange.{Break, Hit, MarkedHit, Mature, Reached}
 use Rattle.row_changes.specs.Spans.{hit_count, hits}
+use Rattle.row_changes.proofs.Reaching.{changes_state, reach_is_other}
 use Rattle.record_rows.proofs.Counting.{counts_append}
 use Rattle.record_rows.specs.GroupRows.{breaking, group_changes, is_shown_done, matured_by, matured_state, maturing, maturing_of, shown_break}
-use Rattle.record_rows.specs.Hits.{hit_changes, is_device_suspended, marked_changes, told_changes}
+use Rattle.record_rows.specs.Hits.{hit_changes, marked_changes, reached_changes, told_changes}
+use Rattle.pair_table.specs.States.{is_by_device, is_device_suspended}
 
 -- ---- changes that mature
 
@@ -38,12 +39,6 @@ plain_hits time (d ∷ hit) = refl
 pub plain_marked : (time : ℕ) (hit : List ℕ) → are_plain (marked_changes time hit) ≡ true
 plain_marked time [] = refl
 plain_marked time (d ∷ hit) = refl
-
-pub plain_told : (level : Level) (time : ℕ) (marked hit : List ℕ) → are_plain (told_changes level time marked hit) ≡ true
-plain_told level time [] [] = refl
-plain_told VolumeLevel time (d ∷ marked) [] = refl
-plain_told SessionLevel time (d ∷ marked) [] = refl
-plain_told level time marked (d ∷ hit) = refl
 
 plain_breaks : (time : ℕ) (breaks : List (ℕ × Stamp × Cause)) → are_plain (map (breaking time) breaks) ≡ true
 plain_breaks time [] = refl
@@ -76,79 +71,61 @@ plain_group group rows =
 pub plain_both : (a b : List Timed) → are_plain a ≡ true → are_plain b ≡ true → are_plain (a ++ b) ≡ true
 plain_both a b first then = list_all-append is_plain a b ∙ and_from (are_plain a) (are_plain b) first then
 
+plain_reached : (level : Level) (time : ℕ) (marked : List ℕ) → are_plain (reached_changes level time marked) ≡ true
+plain_reached level time [] = refl
+plain_reached level time (d ∷ marked) = choose (reaches_others level)
+  where
+    choose : (others : Bool) → are_plain (cond others (record { time = time; change = Reached (d ∷ marked) } ∷ []) []) ≡ true
+    choose true = refl
+    choose false = refl
+
+pub plain_told : (level : Level) (time : ℕ) (marked hit : List ℕ) → are_plain (told_changes level time marked hit) ≡ true
+plain_told level time marked hit = plain_both (reached_changes level time marked) (hit_changes time hit) (plain_reached level time marked) (plain_hits time hit)
+
 -- ---- one change
 
 -- A row's device suspends it, and is hit by a change, or the row was so before.
 abbrev HitOrWas : Timed → (r s : PairRow) → Type 0
 HitOrWas t r s = is_device_suspended s.state ≡ true → (hits r.device t ≡ true) ⊎ (r.state ≡ s.state)
 
-reached_hit : (level : Level) (devices : List ℕ) (time : ℕ) (r : PairRow) → is_device_suspended (row_after_change level (record { time = time; change = Reached devices }) r).state ≡ true → r.state ≡ (row_after_change level (record { time = time; change = Reached devices }) r).state
-reached_hit VolumeLevel devices time r is = refl
-reached_hit SessionLevel devices time r is = by (is_among r.device devices) (is_suspended r.state) is
-  where
-    by : (a b : Bool) → is_device_suspended (cond a r (cond b r (in_state (since BySession time) r))).state ≡ true → r.state ≡ (cond a r (cond b r (in_state (since BySession time) r))).state
-    by true b is = refl
-    by false true is = refl
-    by false false is = absurd (true≢false (sym is))
+module _ (reach : FaultReach) (other : is_by_device reach.cause ≡ false) where
+  pub reached_hit : (devices : List ℕ) (time : ℕ) (r : PairRow) → is_device_suspended (reached_row reach devices time r).state ≡ true → r.state ≡ (reached_row reach devices time r).state
+  reached_hit devices time r is = by (reach.reaches devices r) (is_suspended r.state) is
+    where
+      by : (a b : Bool) → is_device_suspended (cond a (cond b r (in_state (since reach.cause time) r)) r).state ≡ true → r.state ≡ (cond a (cond b r (in_state (since reach.cause time) r)) r).state
+      by true true is = refl
+      by true false is = absurd (true≢false (sym is ∙ other))
+      by false b is = refl
 
-marked_hit : (level : Level) (devices : List ℕ) (time : ℕ) (r : PairRow) → is_device_suspended (row_after_change level (record { time = time; change = MarkedHit devices }) r).state ≡ true → (is_among r.device devices ≡ true) ⊎ (r.state ≡ (row_after_change level (record { time = time; change = MarkedHit devices }) r).state)
-marked_hit level devices time r is = by (is_among r.device devices) refl is
+marked_hit : (devices : List ℕ) (time : ℕ) (r : PairRow) → is_device_suspended (hit_row devices time r).state ≡ true → (is_among r.device devices ≡ true) ⊎ (r.state ≡ (hit_row devices time r).state)
+marked_hit devices time r is = by (is_among r.device devices) refl is
   where
     by : (a : Bool) → is_among r.device devices ≡ a → is_device_suspended (cond a (in_state (since ByDevice time) r) r).state ≡ true → (is_among r.device devices ≡ true) ⊎ (r.state ≡ (cond a (in_state (since ByDevice time) r) r).state)
     by true among is = inl among
     by false among is = inr refl
 
-hit_by : (level : Level) (time : ℕ) (change : RowChange) (r : PairRow) → is_plain (record { time = time; change = change }) ≡ true → HitOrWas (record { time = time; change = change }) r (row_after_change level (record { time = time; change = change }) r)
-hit_by level time (Mature device state) r plain is = by (is_of device r) is
+hit_by : (reach : FaultReach) → is_by_device reach.cause ≡ false → (time : ℕ) (change : RowChange) (r : PairRow) → is_plain (record { time = time; change = change }) ≡ true → HitOrWas (record { time = time; change = change }) r (row_after_change reach (record { time = time; change = change }) r)
+hit_by reach other time (Mature device state) r plain is = by (is_of device r) is
   where
     by : (a : Bool) → is_device_suspended (cond a (in_state state r) r).state ≡ true → (false ≡ true) ⊎ (r.state ≡ (cond a (in_state state r) r).state)
     by true is = absurd (true≢false (sym plain ∙ ap not is))
     by false is = inr refl
-hit_by level time (Break k) r plain is = by (nat_eq r.control k) (is_suspended r.state) is
+hit_by reach other time (Break k) r plain is = by (nat_eq r.control k) (is_suspended r.state) is
   where
     by : (a b : Bool) → is_device_suspended (cond a (cond b r (in_state (since ByControl time) r)) r).state ≡ true → (false ≡ true) ⊎ (r.state ≡ (cond a (cond b r (in_state (since ByControl time) r)) r).state)
     by true true is = inr refl
     by true false is = absurd (true≢false (sym is))
     by false b is = inr refl
-hit_by level time (Hit devices) r plain is =
-    let then = reached_hit level devices time (row_after_change level (record { time = time; change = MarkedHit devices }) r) is in
-    elim (marked_hit level devices time r (ap is_device_suspended then ∙ is)) [ inl hit ↦ inl hit | inr was ↦ inr (was ∙ then) ]
-hit_by level time (MarkedHit devices) r plain is = marked_hit level devices time r is
-hit_by level time (Reached devices) r plain is = inr (reached_hit level devices time r is)
+hit_by reach other time (Hit devices) r plain is =
+    let then = reached_hit reach other devices time (hit_row devices time r) is in
+    elim (marked_hit devices time r (ap is_device_suspended then ∙ is)) [ inl hit ↦ inl hit | inr was ↦ inr (was ∙ then) ]
+hit_by reach other time (MarkedHit devices) r plain is = marked_hit devices time r is
+hit_by reach other time (Reached devices) r plain is = inr (reached_hit reach other devices time r is)
 
 -- ---- a change leaves a row's device
 
-reached_device : (level : Level) (devices : List ℕ) (time : ℕ) (r : PairRow) → (reached_row level devices time r).device ≡ r.device
-reached_device VolumeLevel devices time r = refl
-reached_device SessionLevel devices time r = by (is_among r.device devices) (is_suspended r.state)
-  where
-    by : (a b : Bool) → (cond a r (cond b r (in_state (since BySession time) r))).device ≡ r.device
-    by true b = refl
-    by false true = refl
-    by false false = refl
-
-hit_device : (devices : List ℕ) (time : ℕ) (r : PairRow) → (hit_row devices time r).device ≡ r.device
-hit_device devices time r = by (is_among r.device devices)
-  where
-    by : (a : Bool) → (cond a (in_state (since ByDevice time) r) r).device ≡ r.device
-    by true = refl
-    by false = refl
-
-same_device : (level : Level) (time : ℕ) (change : RowChange) (r : PairRow) → (row_after_change level (record { time = time; change = change }) r).device ≡ r.device
-same_device level time (Mature device state) r = by (is_of device r)
-  where
-    by : (a : Bool) → (cond a (in_state state r) r).device ≡ r.device
-    by true = refl
-    by false = refl
-same_device level time (Break k) r = by (nat_eq r.control k) (is_suspended r.state)
-  where
-    by : (a b : Bool) → (cond a (cond b r (in_state (since ByControl time) r)) r).device ≡ r.device
-    by true true = refl
-    by true false = refl
-    by false b = refl
-same_device level time (Hit devices) r = reached_device level devices time (hit_row devices time r) ∙ hit_device devices time r
-same_device level time (MarkedHit devices) r = hit_device devices time r
-same_device level time (Reached devices) r = reached_device level devices time r
+same_device : (reach : FaultReach) (t : Timed) (r : PairRow) → (row_after_change reach t r).device ≡ r.device
+same_device reach t r = ap (λ (x : PairRow). x.device) (changes_state reach t r)
 
 -- ---- changes in a row
 
@@ -183,16 +160,19 @@ failed_by level (t ∷ changes) rows r plain among is =
     let parts = and_parts (is_plain t) (are_plain changes) plain in
     behind parts.0 (failed_by level changes (after_change level t rows) r parts.1 among is)
   where
-    one : (s : PairRow) → s.device ≡ r.device → s.state ≡ r.state → (q : PairRow) → Contains rows q → row_after_change level t q ≡ s → (hits q.device t ≡ true) ⊎ (q.state ≡ (row_after_change level t q).state) → (1 ≤ hit_count r.device (t ∷ changes)) ⊎ WasFailed r rows
+    reach : FaultReach
+    reach = reach_of level rows
+
+    one : (s : PairRow) → s.device ≡ r.device → s.state ≡ r.state → (q : PairRow) → Contains rows q → row_after_change reach t q ≡ s → (hits q.device t ≡ true) ⊎ (q.state ≡ (row_after_change reach t q).state) → (1 ≤ hit_count r.device (t ∷ changes)) ⊎ WasFailed r rows
     one s same alike q there at (inl hit) =
-        let device : q.device ≡ r.device = sym (same_device level t.time t.change q) ∙ ap (λ (x : PairRow). x.device) at ∙ same in
+        let device : q.device ≡ r.device = sym (same_device reach t q) ∙ ap (λ (x : PairRow). x.device) at ∙ same in
         inl (some_hit r.device t changes (subst (λ (d : ℕ). hits d t ≡ true) device hit))
     one s same alike q there at (inr was) =
-        let device : q.device ≡ r.device = sym (same_device level t.time t.change q) ∙ ap (λ (x : PairRow). x.device) at ∙ same in
+        let device : q.device ≡ r.device = sym (same_device reach t q) ∙ ap (λ (x : PairRow). x.device) at ∙ same in
         inr (record { row = q; among = there; same = device; state = was ∙ ap (λ (x : PairRow). x.state) at ∙ alike })
 
     behind : is_plain t ≡ true → (1 ≤ hit_count r.device changes) ⊎ WasFailed r (after_change level t rows) → (1 ≤ hit_count r.device (t ∷ changes)) ⊎ WasFailed r rows
     behind plain (inl some) = inl (more_hits r.device (t ∷ []) changes some)
     behind plain (inr was) =
-        let found = contains_map (row_after_change level t) rows was.row was.among in
-        one was.row was.same was.state found.0 found.1 found.2 (hit_by level t.time t.change found.0 plain (ap (λ (x : PairRow). is_device_suspended x.state) found.2 ∙ ap is_device_suspended was.state ∙ is))
+        let found = contains_map (row_after_change reach t) rows was.row was.among in
+        one was.row was.same was.state found.0 found.1 found.2 (hit_by reach (reach_is_other level rows) t.time t.change found.0 plain (ap (λ (x : PairRow). is_device_suspended x.state) found.2 ∙ ap is_device_suspended was.state ∙ is))

@@ -20,7 +20,8 @@ use Rattle.pair_table.specs.declared.row.PairState.TheVariants.{Duplex}
 use Rattle.pair_table.specs.Tables.{are_below}
 use Rattle.xrc_journal.specs.Items.{Item}
 use Rattle.xrc_journal.specs.Contents.{content_through}
-use Rattle.record_rows.specs.Hits.{hit_now, is_device_suspended, is_down, is_hit_now}
+use Rattle.record_rows.specs.Hits.{hit_now, is_down, is_hit_now}
+use Rattle.pair_table.specs.States.{is_device_suspended}
 use Rattle.site_means.specs.Images.{shape_of}
 use Rattle.site_means.specs.Sight.{content_in, walked, walked_by}
 use Rattle.applier.specs.Slots.{BeginsWithTrack}

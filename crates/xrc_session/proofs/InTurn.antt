@@ -13,7 +13,7 @@ use Rattle.sidefile.specs.declared.hand.Halt.{Halt}
 use Rattle.pair_table.specs.declared.row.PairRow.{PairRow}
 use Rattle.applier.specs.Returns.{WorksOnLent}
 use Rattle.consistency.specs.Stages.{ScriptRun}
-use Rattle.record_rows.specs.Hits.{is_device_suspended}
+use Rattle.pair_table.specs.States.{is_device_suspended}
 use Rattle.group_state.specs.Runs.{Answer}
 use Rattle.fed_logs.specs.Reads.{ReadsOn}
 use Rattle.fed_logs.specs.Tellers.{HasFaultBy}

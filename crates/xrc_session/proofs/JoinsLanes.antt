@@ -5,7 +5,7 @@ use Rattle.std.specs.List.{flat_map, list_all}
 use Rattle.std.proofs.lemmas.Bool.{and_from, cases_lt, eq-eqb, lt-ltb}
 use Rattle.std.proofs.lemmas.List.{get_or_past, length-replicate}
 use Rattle.std.proofs.lemmas.List.Folds.{list_all-append}
-use Rattle.tod_stamp.specs.declared.limits.TheConstants.{TRACKS_OF_CYLINDER}
+use Rattle.xrc_edge.specs.declared.limits.TheConstants.{TRACKS_OF_CYLINDER}
 use Rattle.tod_stamp.specs.declared.stamp.Stamp.{Stamp}
 use Rattle.crash_plant.specs.Moments.{PlantState}
 use Rattle.change_map.specs.Sets.{every_track}
@@ -27,7 +27,8 @@ use Rattle.group_state.proofs.VolumeLaws.{all_with, all_without}
 use Rattle.pending_queue.specs.Entries.{entry_tracks}
 use Rattle.consistency.specs.Stages.{tracks_of_row}
 use Rattle.fed_logs.proofs.Standing.{at_with, same_count}
-use Rattle.xrc_session.specs.Taking.{IfAdds, after_calls, calls_of_change, carry_calls, command_calls, drop_between, drop_call, drop_calls, forget_calls, owes_again, resume_calls, stands_again, state_by_command, tracks_owed_to}
+use Rattle.pair_table.specs.States.{owes}
+use Rattle.xrc_session.specs.Taking.{IfAdds, after_calls, calls_of_change, carry_calls, command_calls, drop_call, drop_calls, forget_calls, owes_again, resume_calls, stands_again, state_by_command, tracks_owed_to}
 use Rattle.mover.specs.declared.lane.Lane.{Lane}
 use Rattle.mover.specs.Readers.{IsOfHeader, LaneReaderState, is_of_header}
 use Rattle.mover.specs.Lanes.{IsReaderOf, IsSameLane, heads_of}
@@ -92,7 +93,7 @@ module _ (Carried : (k v : ℕ) → PlanState → Type 0) where
   drops : (change : Change) (before rows : List PairRow) → Each (IsOfChange Carried) (flat_map (drop_calls change before) rows)
   drops change before [] = tt
   drops change before (r ∷ rows) =
-      each_of_both (IsOfChange Carried) (drop_calls change before r) (flat_map (drop_calls change before) rows) (one (drop_between (state_by_command change before r) r.state)) (drops change before rows)
+      each_of_both (IsOfChange Carried) (drop_calls change before r) (flat_map (drop_calls change before) rows) (one (owes (state_by_command change before r) r.state)) (drops change before rows)
     where
       one : (o : Option Bool) → Each (IsOfChange Carried) (drop_call r o)
       one None = tt

@@ -34,7 +34,7 @@ use Rattle.turn_group.proofs.Known.{HasSizesOf, sizes_at, sizes_in}
 use Rattle.mover.specs.OwedTracks.{IsAny, is_volume_kept}
 use Rattle.mover.proofs.Pairs.{among_of, contains_of, is_of_volume_at, named_by, pair_before, pair_of, pairs_of}
 use Rattle.xrc_session.specs.Taking.{IsSoundForRows}
-use Rattle.mover.specs.Dropping.{is_duplex_state}
+use Rattle.pair_table.specs.States.{is_duplex}
 use Rattle.mover.specs.Moves.{KeepsAll, KnowsDuplex, KnowsRows}
 use Rattle.mover.specs.Epochs.{IsSamePair}
 use Rattle.mover.proofs.CarriedAgain.{apart_again, carried_again}
@@ -127,12 +127,12 @@ rows_stand s end run time ended rows last done known deeds keeps runs seats stan
 
 -- whether a volume's row is duplex
 abbrev is_duplex_at : (k v : ℕ) → PairRow → Bool
-is_duplex_at k v r = is_of_volume_at k v r && is_duplex_state r.state
+is_duplex_at k v r = is_of_volume_at k v r && is_duplex r.state
 
 abbrev plans_of_rows : List PairRow → Plans
 plans_of_rows rows = λ k v. list_any (is_duplex_at k v) rows
 
-duplex_state : (state : PairState) → is_duplex_state state ≡ true → state ≡ Duplex
+duplex_state : (state : PairState) → is_duplex state ≡ true → state ≡ Duplex
 duplex_state Pending is = absurd cc
 duplex_state Copy is = absurd cc
 duplex_state Duplex is = refl
@@ -141,7 +141,7 @@ duplex_state (Suspended cause since) is = absurd cc
 knows_duplex : (rows : List PairRow) → KnowsDuplex rows (plans_of_rows rows)
 knows_duplex rows k v has =
     let at = at_of rows has.row has.among in
-    any_there (is_duplex_at k v) rows at.0 has.row at.1 (and_from (is_of_volume_at k v has.row) (is_duplex_state has.row.state) (named_by k v has.row has.control has.volume) (ap is_duplex_state has.state))
+    any_there (is_duplex_at k v) rows at.0 has.row at.1 (and_from (is_of_volume_at k v has.row) (is_duplex has.row.state) (named_by k v has.row has.control has.volume) (ap is_duplex has.state))
 
 stands_kept : (s : Group) (rows : List PairRow) → IsSoundForRows s rows → Stand s rows (plans_of_rows rows)
 stands_kept s rows kept = record {
@@ -152,7 +152,7 @@ stands_kept s rows kept = record {
   where
     of : (k v : ℕ) → HasSome (is_duplex_at k v) rows → (k < length s.controls) × IsPlanDone v (control_at s k)
     of k v some =
-        let parts = and_parts (is_of_volume_at k v some.item) (is_duplex_state some.item.state) some.is in
+        let parts = and_parts (is_of_volume_at k v some.item) (is_duplex some.item.state) some.is in
         let at = and_parts (nat_eq some.item.control k) (nat_eq some.item.volume v) parts.0 in
         let own = kept.each some.item some.among in (
           subst (λ j. j < length s.controls) (eqb-true some.item.control k at.0) own.low,

@@ -36,7 +36,8 @@ use Rattle.xrc_session.specs.EpochPauses.{Between, StandsBetween}
 use Rattle.xrc_session.specs.CarriedLaws.{StandingRowsAreKept}
 use Rattle.xrc_session.specs.Taking.{IsSoundForRow, IsSoundForRows}
 use Rattle.xrc_session.proofs.Calls.{KeepsOther, begin_itself, begin_other, drop_itself, drop_other, forget_itself, forget_other, kept_other, keeps_begin, keeps_drop, keeps_forget, keeps_resume, other_at, own_is, plan_other, resume_itself, resume_other}
-use Rattle.xrc_session.proofs.Knowing.{base, is_duplex, never_both, passes_map}
+use Rattle.xrc_session.proofs.Knowing.{base, never_both, passes_map}
+use Rattle.pair_table.specs.States.{is_duplex}
 use Rattle.xrc_session.proofs.CarriedRows.{IsOther, OthersSame, added_others, added_own, added_there, among_last, not_itself, stated_others, stated_own, stated_pairs, stated_there, without_others, without_own}
 use Rattle.xrc_session.proofs.Standing.{at_volume}
 

@@ -14,7 +14,7 @@ use Rattle.group_state.specs.declared.volume.Volume.{Volume}
 use Rattle.group_state.specs.Volumes.{passes, resumed_volume, volume_of, wants}
 use Rattle.group_state.specs.Groups.{control_at}
 use Rattle.group_state.specs.SoundStates.{passes_or_none}
-use Rattle.record_rows.specs.Hits.{is_device_suspended}
+use Rattle.pair_table.specs.States.{is_device_suspended}
 use Rattle.consistency.specs.Stages.{tracks_of_row}
 use Rattle.fed_logs.specs.Logs.{BeginsLog, is_of_size}
 use Rattle.fed_logs.specs.Moves.{HasRowIn, Plans}
@@ -29,12 +29,6 @@ use Rattle.xrc_session.proofs.CarriedRows.{IsOther, stated_own, stated_pairs}
 pub not_true : (b : Bool) → not b ≡ true → b ≡ false
 not_true true e = absurd (true≢false (sym e))
 not_true false e = refl
-
-abbrev pub is_duplex : PairState → Bool
-is_duplex Pending = false
-is_duplex Copy = false
-is_duplex Duplex = true
-is_duplex (Suspended cause since) = false
 
 -- where something is so of other volumes alone
 pub is_other : (k v : ℕ) (known : Plans) → (known k v ≡ true → ⊥) → (j w : ℕ) → known j w ≡ true → IsOther k v j w

@@ -23,7 +23,7 @@ use Rattle.group_state.specs.SoundStates.{has_told, is_dropped, is_entry_of_cont
 use Rattle.group_state.proofs.FormLaws.{all_at}
 use Rattle.record_rows.specs.Deeds.{Deed, rows_behind, rows_by_deed, time_by_deed}
 use Rattle.record_rows.specs.Deeds.Deed.{Logged}
-use Rattle.record_rows.specs.Hits.{is_by_device, is_device_suspended}
+use Rattle.pair_table.specs.States.{is_by_device, is_device_suspended, is_duplex}
 use Rattle.fed_logs.specs.Feeds.{IsFedBy, is_call_of_reader}
 use Rattle.fed_logs.specs.Logs.{BeginsLog, IsFedLog, Sizes, is_call_of_seat}
 use Rattle.fed_logs.specs.Moves.{AreQuiet, HasRowIn, IsDuplex, IsKeptWhole, IsLogged, KeepsCall, KeepsDropped, KeepsShown, Plans, ShowsNothing, is_plan_shown_done, plans_with_shown, plans_without}
@@ -33,7 +33,7 @@ use Rattle.fed_logs.proofs.Keeping.{at_map, told_to_last}
 use Rattle.fed_logs.proofs.Standing.{at_with}
 use Rattle.fed_logs.proofs.ReadCalls.{ReadOn, answer_of, drop_begins, drop_log, fed_own, form_begins, form_log, nothing_begins, quiet_begins, read_begins, read_on}
 use Rattle.fed_logs.proofs.Went.{form_shown}
-use Rattle.mover.specs.Dropping.{is_duplex_state, owed_by_call, owed_by_calls, owed_in_turn, stood_duplex}
+use Rattle.mover.specs.Dropping.{owed_by_call, owed_by_calls, owed_in_turn, stood_duplex}
 use Rattle.mover.specs.Moves.{LogsEntriesOf, MayHaveEntries}
 use Rattle.xrc_session.specs.Maps.{AreMapsSound, MapsBegin, RowsGo, maps_track, has_write_between}
 use Rattle.xrc_session.proofs.MapsCalls.{Grown}
@@ -335,9 +335,9 @@ module _ (size : Sizes) (traces : List Trace) (k v place : ℕ) (t : Trace) (own
           lives : is_suspended h.stage.stands.row.state ≡ false → stood_duplex place rows deeds ≡ true → ⊥
           lives live stood = never_over traces k v place t own run next end time rows (plans_without j w done) deeds ended last known then
               (dropped_at (λ (d : ControlState). is_dropped v d.volumes ≡ true) (dropped_is v false (entry_tracks v c.queue.waiting) c.volumes (kept_of is_live (volume_of v c.volumes) h.live))) keeps.goes_on h.go
-              (record { stands = h.stage.stands; not_now = by (is_duplex_state h.stage.stands.row.state) refl; later = stood })
+              (record { stands = h.stage.stands; not_now = by (is_duplex h.stage.stands.row.state) refl; later = stood })
             where
-              by : (d : Bool) → is_duplex_state h.stage.stands.row.state ≡ d → d ≡ false
+              by : (d : Bool) → is_duplex h.stage.stands.row.state ≡ d → d ≡ false
               by false is = refl
               by true is = absurd (keeps.gone (subst (λ (i : ℕ). HasRowIn IsDuplex i w rows) (sym (eqb-true j k names.0)) (subst (λ (u : ℕ). HasRowIn IsDuplex k u rows) (sym (eqb-true w v names.1))
                   (has_row IsDuplex k v rows place h.stage.stands.row h.stage.stands.at h.stage.stands.control h.stage.stands.volume (duplex_of h.stage.stands.row.state is)))))

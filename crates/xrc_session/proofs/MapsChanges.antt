@@ -26,7 +26,7 @@ use Rattle.group_state.specs.Machine.Call.{Drop, Resume}
 use Rattle.group_state.specs.SoundStates.{IsGroupSound}
 use Rattle.group_state.specs.Volumes.{owed, owed_in, passes, resumed_volume, volume_of}
 use Rattle.group_state.proofs.Kept.{kept_next}
-use Rattle.record_rows.specs.Hits.{is_by_device, is_device_suspended}
+use Rattle.pair_table.specs.States.{is_by_device, is_device_suspended, owes as owes_between}
 use Rattle.record_rows.proofs.Devices.{apart_of}
 use Rattle.passages.specs.Points.{last_point}
 use Rattle.consistency.specs.Stages.{ScriptRun, tracks_of_row}
@@ -39,7 +39,7 @@ use Rattle.mover.proofs.Pairs.{Among, among_of, apart_still, contains_of, found_
 use Rattle.xrc_session.specs.Maps.{RestsAtCut, maps_track}
 use Rattle.xrc_session.specs.MapsOwed.{MapsOwed, MapsRest, SuspendedUpTo}
 use Rattle.xrc_session.specs.MapsTaken.{MapsOwedBehindChanges, PassesBy, SuspendsAt}
-use Rattle.xrc_session.specs.Taking.{AllMay, IsSoundForRow, IsSoundForRows, MayTake, after_calls, as_pending, calls_of_change, command_calls, drop_between, drop_call, drop_calls, is_begun, is_suspended_as, owes_again}
+use Rattle.xrc_session.specs.Taking.{AllMay, IsSoundForRow, IsSoundForRows, MayTake, after_calls, as_pending, calls_of_change, command_calls, drop_call, drop_calls, is_begun, is_suspended_as, owes_again}
 use Rattle.xrc_session.specs.Taking.{resume_calls, rows_by_command, stands_again, state_by_command, state_or_pending, tracks_owed_to}
 use Rattle.xrc_session.proofs.CallRuns.{after_both, first_may, second_may}
 use Rattle.xrc_session.proofs.Calls.{own_is, resume_itself}
@@ -207,7 +207,7 @@ module _ (run : ScriptRun) (first : Point) (points more : List PassedPoint) (p q
     abbrev first_calls : List Call
     first_calls = own_calls ++ split.pre
 
-    calls_are : (all : Bool) → drop_between (state_by_command change before z) z.state ≡ Some all → calls_of_change change s before after ≡ first_calls ++ (Drop z.control z.volume all ∷ split.post)
+    calls_are : (all : Bool) → owes_between (state_by_command change before z) z.state ≡ Some all → calls_of_change change s before after ≡ first_calls ++ (Drop z.control z.volume all ∷ split.post)
     calls_are all is =
         ap (λ (calls : List Call). own_calls ++ calls) (split.are ∙ ap (λ (o : Option Bool). split.pre ++ (drop_call z o ++ split.post)) is)
         ∙ sym (append_assoc own_calls split.pre (Drop z.control z.volume all ∷ split.post))
@@ -215,18 +215,18 @@ module _ (run : ScriptRun) (first : Point) (points more : List PassedPoint) (p q
     abbrev mid : Group
     mid = after_calls first_calls s
 
-    dropped_mid : (all : Bool) → drop_between (state_by_command change before z) z.state ≡ Some all → AllMay first_calls s × AllMay (Drop z.control z.volume all ∷ split.post) mid
+    dropped_mid : (all : Bool) → owes_between (state_by_command change before z) z.state ≡ Some all → AllMay first_calls s × AllMay (Drop z.control z.volume all ∷ split.post) mid
     dropped_mid all is =
         let may = subst (λ (calls : List Call). AllMay calls s) (calls_are all is) walk.may in
         (first_may first_calls (Drop z.control z.volume all ∷ split.post) s may, second_may first_calls (Drop z.control z.volume all ∷ split.post) s may)
 
-    end_is : (all : Bool) → drop_between (state_by_command change before z) z.state ≡ Some all → end ≡ after_calls split.post (group_after mid (Drop z.control z.volume all))
+    end_is : (all : Bool) → owes_between (state_by_command change before z) z.state ≡ Some all → end ≡ after_calls split.post (group_after mid (Drop z.control z.volume all))
     end_is all is = ap (λ (calls : List Call). after_calls calls s) (calls_are all is) ∙ after_both first_calls (Drop z.control z.volume all ∷ split.post) s
 
     mid_within : z.control < length mid.controls
     mid_within = let same = after_count first_calls s in omega (arith, within, same)
 
-    filled : drop_between (state_by_command change before z) z.state ≡ Some true → maps_track z.volume x (control_at end z.control) ≡ true
+    filled : owes_between (state_by_command change before z) z.state ≡ Some true → maps_track z.volume x (control_at end z.control) ≡ true
     filled all =
         let mays = dropped_mid true all in
         ap (λ (g : Group). maps_track z.volume x (control_at g z.control)) (end_is true all)
@@ -254,13 +254,13 @@ module _ (run : ScriptRun) (first : Point) (points more : List PassedPoint) (p q
       before_is : (state : PairState) → has_pair_in z state before ≡ is_same_state state r.state
       before_is state = let has = contains_of r before was.among in pair_at before has.0 r z state (apart_of before kept.apart) (slice_get-get_or before has.0 r has.1 ∙ ap Some has.2) from.goes.same
 
-      drop_is : (state_was : PairState) → r.state ≡ state_was → drop_between (state_by_command change before z) z.state ≡ drop_between state_was (Suspended cause at)
-      drop_is state_was same = λ i. drop_between ((state ∙ same) i) (is i)
+      drop_is : (state_was : PairState) → r.state ≡ state_was → owes_between (state_by_command change before z) z.state ≡ owes_between state_was (Suspended cause at)
+      drop_is state_was same = λ i. owes_between ((state ∙ same) i) (is i)
 
       -- It was suspended, and is so still.
-      stays : drop_between (state_by_command change before z) z.state ≡ None → Goal
+      stays : owes_between (state_by_command change before z) z.state ≡ None → Goal
       stays none =
-          let same : z.state ≡ r.state = from.goes.stays (ap (λ (was : PairState). drop_between was z.state) (sym state) ∙ none) in
+          let same : z.state ≡ r.state = from.goes.stays (ap (λ (was : PairState). owes_between was z.state) (sym state) ∙ none) in
           let its : z ≡ r = from.goes.same ∙ ap (λ (state : PairState). in_state state r) same in
           let all = each_of_both (IsOff z.control z.volume) own_calls drops off (all_off change before z drops split (ap (drop_call z) none)) in
           let left = calls_left z.control z.volume (calls_of_change change s before after) s all walk.may kept.keeps within in
@@ -277,7 +277,7 @@ module _ (run : ScriptRun) (first : Point) (points more : List PassedPoint) (p q
           by false unfailed = λ i. is_by_device cause || not (sym (was_behind unfailed) i) || is_changed run z.control z.volume at.0 (sym on i) x
 
       -- It was pending or copying.
-      begins : drop_between (state_by_command change before z) z.state ≡ Some true → is_same_state Duplex r.state ≡ false → is_suspended r.state ≡ false → Goal
+      begins : owes_between (state_by_command change before z) z.state ≡ Some true → is_same_state Duplex r.state ≡ false → is_suspended r.state ≡ false → Goal
       begins all never live = by (is_by_device cause) refl
         where
           by : (b : Bool) → is_by_device cause ≡ b → Goal
@@ -290,7 +290,7 @@ module _ (run : ScriptRun) (first : Point) (points more : List PassedPoint) (p q
       leaves : r.state ≡ Duplex → Goal
       leaves duplex = by (is_by_device cause) refl
         where
-          drop : drop_between (state_by_command change before z) z.state ≡ Some (is_by_device cause)
+          drop : owes_between (state_by_command change before z) z.state ≡ Some (is_by_device cause)
           drop = drop_is Duplex duplex
 
           newly : at.0 ≡ p.time
@@ -337,7 +337,7 @@ module _ (run : ScriptRun) (first : Point) (points more : List PassedPoint) (p q
       pub not_begun : Goal
       not_begun = by r.state refl
         where
-          again : (early : SuspendCause) (b : Bool) → (is_by_device cause && not (is_by_device early)) ≡ b → drop_between (state_by_command change before z) z.state ≡ cond b (Some true) None → Goal
+          again : (early : SuspendCause) (b : Bool) → (is_by_device cause && not (is_by_device early)) ≡ b → owes_between (state_by_command change before z) z.state ≡ cond b (Some true) None → Goal
           again early true both drop = mapped_all (filled drop) (left_of (is_by_device cause) (not (is_by_device early)) both)
             where
               left_of : (a b : Bool) → (a && b) ≡ true → a ≡ true
@@ -363,11 +363,11 @@ module _ (run : ScriptRun) (first : Point) (points more : List PassedPoint) (p q
 
       -- It is pending behind the command.
       module _ (fresh : stands_again (row_of z.device before) (Some z) ≡ false) where
-        drop : drop_between (state_by_command change before z) z.state ≡ Some true
+        drop : owes_between (state_by_command change before z) z.state ≡ Some true
         drop =
-            ap (λ (b : Bool). drop_between (cond (b && not (stands_again (row_of z.device before) (Some z))) Pending (state_or_pending (row_of z.device before))) z.state) begun
-            ∙ ap (λ (b : Bool). drop_between (cond (not b) Pending (state_or_pending (row_of z.device before))) z.state) fresh
-            ∙ ap (drop_between Pending) is
+            ap (λ (b : Bool). owes_between (cond (b && not (stands_again (row_of z.device before) (Some z))) Pending (state_or_pending (row_of z.device before))) z.state) begun
+            ∙ ap (λ (b : Bool). owes_between (cond (not b) Pending (state_or_pending (row_of z.device before))) z.state) fresh
+            ∙ ap (owes_between Pending) is
 
         other_state : (r : PairRow) → Among r before → nat_eq z.device r.device ≡ true → is_same_state z.state r.state ≡ false
         other_state r among same =
@@ -435,8 +435,8 @@ module _ (run : ScriptRun) (first : Point) (points more : List PassedPoint) (p q
             ∙ ap (λ (b : Bool). Resume r.control r.volume ∷ cond b (Drop r.control r.volume (owes_again (tracks_owed_to s (Some r)) r.state) ∷ []) []) as_was
             ∙ ap both (sym z_is)
 
-        none : drop_between (state_by_command change before z) z.state ≡ None
-        none = (λ i. drop_between ((state ∙ ap (λ (y : PairRow). y.state) from_is ∙ same ∙ is) i) (is i)) ∙ ap (λ (b : Bool). cond b (Some true) None) (never (is_by_device cause))
+        none : owes_between (state_by_command change before z) z.state ≡ None
+        none = (λ i. owes_between ((state ∙ ap (λ (y : PairRow). y.state) from_is ∙ same ∙ is) i) (is i)) ∙ ap (λ (b : Bool). cond b (Some true) None) (never (is_by_device cause))
           where
             never : (b : Bool) → (b && not b) ≡ false
             never true = refl

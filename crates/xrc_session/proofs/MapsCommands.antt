@@ -21,7 +21,8 @@ use Rattle.record_rows.specs.ToldRows.{InPlaces}
 use Rattle.mover.proofs.Failing.{among_map}
 use Rattle.mover.proofs.Pairs.{Among, among_cases, apart_among}
 use Rattle.mover.proofs.Pairs.Among.{Here, Later}
-use Rattle.xrc_session.specs.Taking.{IsSuspendedSince, MayBeBegun, as_pending, carry_calls, command_calls, drop_between, drop_call, drop_calls, forget_calls, is_begun, owes_again, resume_calls, rows_by_command, stands_again, state_by_command, tracks_owed_to}
+use Rattle.pair_table.specs.States.{owes}
+use Rattle.xrc_session.specs.Taking.{IsSuspendedSince, MayBeBegun, as_pending, carry_calls, command_calls, drop_call, drop_calls, forget_calls, is_begun, owes_again, resume_calls, rows_by_command, stands_again, state_by_command, tracks_owed_to}
 use Rattle.xrc_session.proofs.CarriedRows.{IsOther, among_either, among_kept, one_of_volume}
 use Rattle.xrc_session.proofs.JoinsLanes.{Each, each_of_both}
 use Rattle.xrc_session.proofs.MapsOff.{IsOff}
@@ -170,7 +171,7 @@ module _ (change : Change) (before : List PairRow) (z : PairRow) where
   drops_off [] others = tt
   drops_off (x ∷ rows) others =
       each_of_both (IsOff z.control z.volume) (drop_calls change before x) (flat_map (drop_calls change before) rows)
-      (drop_off x (others x (Here rows)) (drop_between (state_by_command change before x) x.state)) (drops_off rows (λ y among. others y (Later x rows among)))
+      (drop_off x (others x (Here rows)) (owes (state_by_command change before x) x.state)) (drops_off rows (λ y among. others y (Later x rows among)))
 
   pub split_at : (rows : List PairRow) → none_clash rows ≡ true → Among z rows → SplitAt change before z (flat_map (drop_calls change before) rows)
   split_at _ apart (Here rows) = record {
@@ -188,7 +189,7 @@ module _ (change : Change) (before : List PairRow) (z : PairRow) where
         post = more.post;
         are = ap (λ (calls : List Call). drop_calls change before x ++ calls) more.are ∙ sym (append_assoc (drop_calls change before x) more.pre (drop_calls change before z ++ more.post));
         first = each_of_both (IsOff z.control z.volume) (drop_calls change before x) more.pre
-            (drop_off x (apart_among x z rows f.first there).volume (drop_between (state_by_command change before x) x.state)) more.first;
+            (drop_off x (apart_among x z rows f.first there).volume (owes (state_by_command change before x) x.state)) more.first;
         then = more.then;
       }
 

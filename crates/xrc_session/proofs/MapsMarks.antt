@@ -8,7 +8,7 @@ use Rattle.pair_table.specs.declared.row.PairState.TheVariants.{Duplex}
 use Rattle.pair_table.specs.Refusals.{is_pair}
 use Rattle.pair_table.specs.Rows.{state_numbers}
 use Rattle.pair_table.proofs.PutLaws.{number_sym}
-use Rattle.record_rows.specs.Hits.{is_device_suspended}
+use Rattle.pair_table.specs.States.{is_device_suspended}
 use Rattle.passages.specs.Points.{last_point, was_so}
 use Rattle.consistency.specs.Leads.{Point}
 use Rattle.consistency.specs.Owing.{has_pair_in, is_same_state, was_duplex}

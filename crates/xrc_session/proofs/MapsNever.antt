@@ -29,7 +29,8 @@ use Rattle.fed_logs.proofs.Standing.{at_with}
 use Rattle.fed_logs.proofs.ReadCalls.{answer_of, drop_log, fed_own, form_log, read_on}
 use Rattle.fed_logs.proofs.Shown.{shown_done}
 use Rattle.fed_logs.proofs.Went.{form_shown}
-use Rattle.mover.specs.Dropping.{is_duplex_row, is_duplex_state, stood_duplex}
+use Rattle.mover.specs.Dropping.{is_duplex_row, stood_duplex}
+use Rattle.pair_table.specs.States.{is_duplex}
 use Rattle.mover.specs.Moves.{LogsEntriesOf}
 use Rattle.xrc_session.specs.Maps.{BecomesAt, RowsGo}
 use Rattle.xrc_session.proofs.MapsCalls.{form_grows, read_grows}
@@ -85,7 +86,7 @@ module _ (traces : List Trace) (k v place : ℕ) (t : Trace) (own : slice_get tr
   -- A row isn't duplex, and stands so later.
   pub record StandsLater (rows : List PairRow) (deeds : List Deed) : Type 0 where
     pub stands : Stands rows
-    pub not_now : is_duplex_state stands.row.state ≡ false
+    pub not_now : is_duplex stands.row.state ≡ false
     pub later : stood_duplex place rows deeds ≡ true
 
   later_by : (rows : List PairRow) (deed : Deed) (deeds : List Deed) (time : ℕ) → RowsGo time rows (deed ∷ deeds) → (HasRowIn IsDuplex k v (rows_by_deed deed) → HasRowIn IsDuplex k v rows) → StandsLater rows (deed ∷ deeds) → StandsLater (rows_by_deed deed) deeds
@@ -93,18 +94,18 @@ module _ (traces : List Trace) (k v place : ℕ) (t : Trace) (own : slice_get tr
       let b = stands_by (time_by_deed time deed) rows (rows_by_deed deed) go.0 h.stands in
       record {
         stands = b.stands;
-        not_now = choose b.stands (is_duplex_state b.stands.row.state) refl;
+        not_now = choose b.stands (is_duplex b.stands.row.state) refl;
         later = elim (or_cases (is_duplex_row (slice_get rows place)) (stood_duplex place (rows_by_deed deed) deeds) h.later) [
           | inl now ↦ absurd (true≢false (sym now ∙ ap is_duplex_row h.stands.at ∙ h.not_now))
           | inr later ↦ later
         ];
       }
     where
-      choose : (n : Stands (rows_by_deed deed)) (d : Bool) → is_duplex_state n.row.state ≡ d → d ≡ false
+      choose : (n : Stands (rows_by_deed deed)) (d : Bool) → is_duplex n.row.state ≡ d → d ≡ false
       choose n false is = refl
       choose n true is =
           let was = back (has_row IsDuplex k v (rows_by_deed deed) place n.row n.at n.control n.volume (duplex_of n.row.state is)) in
-          absurd (true≢false (sym (ap is_duplex_state (row_is IsDuplex k v rows place h.stands.row h.stands.apart h.stands.at h.stands.control h.stands.volume was)) ∙ h.not_now))
+          absurd (true≢false (sym (ap is_duplex (row_is IsDuplex k v rows place h.stands.row h.stands.apart h.stands.at h.stands.control h.stands.volume was)) ∙ h.not_now))
 
   abbrev pub Kept : (run : List Answer) → (time : ℕ) → List PairRow → Plans → List Deed → (ended : ℕ) → List PairRow → Plans → Type 0
   Kept run time rows done deeds ended last known = MakesAllDeeds time rows done (part_of_mover run) deeds ended last known

@@ -21,7 +21,7 @@ use Rattle.group_state.specs.SoundStates.{IsGroupSound}
 use Rattle.group_state.specs.Volumes.{volume_of}
 use Rattle.group_state.proofs.Kept.{kept_next}
 use Rattle.record_rows.specs.Deeds.{Deed, rows_behind, rows_by_deed, time_by_deed, time_meant_behind}
-use Rattle.record_rows.specs.Hits.{is_by_device, is_device_suspended}
+use Rattle.pair_table.specs.States.{is_by_device, is_device_suspended, owes_through}
 use Rattle.passages.specs.Points.{last_point}
 use Rattle.consistency.specs.Stages.{ScriptRun, tracks_of_row}
 use Rattle.consistency.specs.Leads.{Point}
@@ -33,7 +33,8 @@ use Rattle.fed_logs.specs.Moves.{Plans}
 use Rattle.fed_logs.specs.ToldTracks.{HeldTracks, floor_of}
 use Rattle.fed_logs.proofs.Bearing.{reached_holds}
 use Rattle.fed_logs.proofs.ReadCalls.{some_trace}
-use Rattle.mover.specs.Dropping.{owed_by_call, owed_by_calls, owed_in_turn, owes_hit, owes_suspended, owes_through, stood_duplex}
+use Rattle.mover.specs.Dropping.{owed_by_call, owed_by_calls, owed_in_turn, stood_duplex}
+use Rattle.mover.proofs.OwedExactly.{owes_hit, owes_other, owes_split}
 use Rattle.mover.specs.OwedTracks.{IsCarriedAsLive}
 use Rattle.mover.proofs.Copying.{kept_within}
 use Rattle.xrc_session.specs.Maps.{BecomesAt, AreMapsSound, RestsAtCut, RowsGo, maps_track, has_write_between}
@@ -170,12 +171,12 @@ module _ (run : ScriptRun) (size : Sizes) (held : HeldTracks) (s end : Group) (l
     stood = stood_duplex place p.rows deeds
 
     -- what is owed of it
-    calls : owed_by_calls r.control r.volume log ≡ cond (is_by_device cause) (owes_hit r.state) (owes_suspended r.state (stood_duplex place p.rows deeds))
+    calls : owed_by_calls r.control r.volume log ≡ cond (is_by_device cause) (owes_hit r.state) (owes_other r.state (stood_duplex place p.rows deeds))
     calls =
         sym (owed_of_mover r.control r.volume log)
         ∙ sym (ap (λ (y : PairRow). owed_by_calls y.control y.volume (part_of_mover log)) pair)
         ∙ h.owed place r z at now
-        ∙ ap (λ (state : PairState). owes_through r.state state (stood_duplex place p.rows deeds)) is
+        ∙ ap (λ (state : PairState). owes_through r.state state (stood_duplex place p.rows deeds)) is ∙ owes_split r.state (stood_duplex place p.rows deeds) (is_by_device cause)
 
     owes_is : (to : ℕ) (all : List PassedPoint) → owes_track run first all z to x ≡ (is_by_device cause || not (was_duplex z first all) || is_changed run r.control r.volume since.0 to x)
     owes_is to all =
@@ -207,7 +208,7 @@ module _ (run : ScriptRun) (size : Sizes) (held : HeldTracks) (s end : Group) (l
     failed device = filled (is_device_suspended r.state) refl ∙ sym (ap (λ (b : Bool). b || not (was_duplex z first (points ++ more)) || is_changed run r.control r.volume since.0 q.time x) device)
       where
         hit : owed_by_calls r.control r.volume log ≡ owes_hit r.state
-        hit = calls ∙ ap (λ (b : Bool). cond b (owes_hit r.state) (owes_suspended r.state (stood_duplex place p.rows deeds))) device
+        hit = calls ∙ ap (λ (b : Bool). cond b (owes_hit r.state) (owes_other r.state (stood_duplex place p.rows deeds))) device
 
         owes_all : (to : ℕ) → is_device_suspended r.state ≡ true → owes_track run first points r to x ≡ true
         owes_all to is =
@@ -232,8 +233,8 @@ module _ (run : ScriptRun) (size : Sizes) (held : HeldTracks) (s end : Group) (l
         (duplex_still place z suspends (ap is_device_suspended is ∙ unfailed) first points more p.time p.rows deeds r h.apart h.go at last here have was)
         (ap (λ (b : Bool). b || has_write_between trace.0 r.volume x p.time q.time) (changed p.time) ∙ written_both trace.0 r.volume x since.0 p.time q.time (rest.since r cause since (among_place p.rows place r at) (same ∙ is)) later ∙ sym (changed q.time))
       where
-        owes : owed_by_calls r.control r.volume log ≡ owes_suspended r.state (stood_duplex place p.rows deeds)
-        owes = calls ∙ ap (λ (b : Bool). cond b (owes_hit r.state) (owes_suspended r.state (stood_duplex place p.rows deeds))) unfailed
+        owes : owed_by_calls r.control r.volume log ≡ owes_other r.state (stood_duplex place p.rows deeds)
+        owes = calls ∙ ap (λ (b : Bool). cond b (owes_hit r.state) (owes_other r.state (stood_duplex place p.rows deeds))) unfailed
 
         same : r.state ≡ z.state
         same = ends_as p.time p.rows deeds place r z h.go at last was (ap is_device_suspended is ∙ unfailed)
@@ -251,7 +252,7 @@ module _ (run : ScriptRun) (size : Sizes) (held : HeldTracks) (s end : Group) (l
     begun unfailed live = by (stood_duplex place p.rows deeds) refl
       where
         owes : owed_by_calls r.control r.volume log ≡ Some (not (stood_duplex place p.rows deeds))
-        owes = calls ∙ ap (λ (b : Bool). cond b (owes_hit r.state) (owes_suspended r.state (stood_duplex place p.rows deeds))) unfailed ∙ ap (λ (b : Bool). cond b None (Some (not (stood_duplex place p.rows deeds)))) live
+        owes = calls ∙ ap (λ (b : Bool). cond b (owes_hit r.state) (owes_other r.state (stood_duplex place p.rows deeds))) unfailed ∙ ap (λ (b : Bool). cond b None (Some (not (stood_duplex place p.rows deeds)))) live
 
         was : was_duplex z first (points ++ more) ≡ stood_duplex place p.rows deeds
         was = duplex_stood place z suspends (ap is_device_suspended is ∙ unfailed) first points more p.time p.rows deeds r h.apart h.go at last here have live

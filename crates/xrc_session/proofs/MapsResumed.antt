@@ -25,7 +25,8 @@ use Rattle.consistency.specs.Ways.{PassedPoint}
 use Rattle.fed_logs.proofs.Standing.{same_count}
 use Rattle.mover.proofs.Pairs.{Among, among_of, apart_still, found_of_device}
 use Rattle.xrc_session.specs.MapsOwed.{MapsOwed}
-use Rattle.xrc_session.specs.Taking.{AllMay, IsSoundForRows, MayTake, after_calls, calls_of_change, command_calls, drop_between, drop_call, drop_calls, owes_again, resume_calls, rows_by_command, stands_again, state_by_command, tracks_owed_to}
+use Rattle.pair_table.specs.States.{owes}
+use Rattle.xrc_session.specs.Taking.{AllMay, IsSoundForRows, MayTake, after_calls, calls_of_change, command_calls, drop_call, drop_calls, owes_again, resume_calls, rows_by_command, stands_again, state_by_command, tracks_owed_to}
 use Rattle.xrc_session.proofs.Calls.{own_is, resume_itself}
 use Rattle.xrc_session.proofs.CarriedRows.{one_of_device, stated_among}
 use Rattle.xrc_session.proofs.Changed.{Kept, no_plans, taken}
@@ -35,7 +36,7 @@ use Rattle.xrc_session.proofs.MapsOff.{IsLeft, IsOff, calls_left}
 use Rattle.xrc_session.proofs.Walking.{Walked, same_behind}
 
 -- No drop leads to a state that isn't suspended.
-no_drop : (was is : PairState) → is_suspended is ≡ false → drop_between was is ≡ None
+no_drop : (was is : PairState) → is_suspended is ≡ false → owes was is ≡ None
 no_drop was Pending live = refl
 no_drop was Copy live = refl
 no_drop was Duplex live = refl

@@ -10,10 +10,10 @@ use Rattle.pair_table.specs.declared.row.PairState.TheVariants.{Pending, Copy, D
 use Rattle.pair_table.specs.Rows.{is_suspended}
 use Rattle.pair_table.specs.Tables.{in_state, none_clash}
 use Rattle.record_rows.specs.Deeds.{Deed, rows_behind, rows_by_deed, time_by_deed}
-use Rattle.record_rows.specs.Hits.{is_device_suspended}
+use Rattle.pair_table.specs.States.{is_device_suspended, is_duplex}
 use Rattle.record_rows.specs.ToldRows.{InPlaces}
 use Rattle.fed_logs.specs.Moves.{HasRowIn}
-use Rattle.mover.specs.Dropping.{is_duplex_row, is_duplex_state, stood_duplex}
+use Rattle.mover.specs.Dropping.{is_duplex_row, stood_duplex}
 use Rattle.mover.proofs.Pairs.{among_of, apart_still, found_row, is_of_volume_at, pair_of, pairs_of}
 use Rattle.xrc_session.specs.Maps.{BecomesAt, RowsGo}
 
@@ -63,13 +63,13 @@ apart_by time rows next each apart = apart_still rows next (same_pairs_by time r
 
 -- ---- states
 
-pub not_duplex : (state : PairState) → is_suspended state ≡ true → is_duplex_state state ≡ false
+pub not_duplex : (state : PairState) → is_suspended state ≡ true → is_duplex state ≡ false
 not_duplex Pending e = absurd cc
 not_duplex Copy e = absurd cc
 not_duplex Duplex e = absurd cc
 not_duplex (Suspended cause since) e = refl
 
-pub duplex_of : (state : PairState) → is_duplex_state state ≡ true → state ≡ Duplex
+pub duplex_of : (state : PairState) → is_duplex state ≡ true → state ≡ Duplex
 duplex_of Pending e = absurd cc
 duplex_of Copy e = absurd cc
 duplex_of Duplex e = refl
@@ -129,8 +129,8 @@ stood_first time rows (deed ∷ deeds) place z go last =
 -- ---- standing duplex
 
 pub stood_now : (place : ℕ) (rows : List PairRow) (deeds : List Deed) (r : PairRow) → slice_get rows place ≡ Some r → r.state ≡ Duplex → stood_duplex place rows deeds ≡ true
-stood_now place rows [] r at is = ap is_duplex_row at ∙ ap is_duplex_state is
-stood_now place rows (deed ∷ deeds) r at is = or_left (is_duplex_row (slice_get rows place)) (stood_duplex place (rows_by_deed deed) deeds) (ap is_duplex_row at ∙ ap is_duplex_state is)
+stood_now place rows [] r at is = ap is_duplex_row at ∙ ap is_duplex is
+stood_now place rows (deed ∷ deeds) r at is = or_left (is_duplex_row (slice_get rows place)) (stood_duplex place (rows_by_deed deed) deeds) (ap is_duplex_row at ∙ ap is_duplex is)
 
 -- A row that is suspended stands duplex no more.
 pub never_stands : (time : ℕ) (rows : List PairRow) (deeds : List Deed) (place : ℕ) (r : PairRow) → RowsGo time rows deeds → slice_get rows place ≡ Some r → is_suspended r.state ≡ true → stood_duplex place rows deeds ≡ false

@@ -15,13 +15,13 @@ use Rattle.pair_table.proofs.PutLaws.{number_sym}
 use Rattle.pair_table.proofs.StateLaws.{same_name}
 use Rattle.pair_table.proofs.TableLaws.{either_false}
 use Rattle.record_rows.specs.Deeds.{Deed, rows_behind, rows_by_deed, time_by_deed}
-use Rattle.record_rows.specs.Hits.{is_device_suspended}
+use Rattle.pair_table.specs.States.{is_device_suspended, is_duplex}
 use Rattle.record_rows.proofs.Devices.{apart_first, apart_of, devices_apart, none_at}
 use Rattle.passages.specs.Points.{last_point, was_so}
 use Rattle.consistency.specs.Leads.{Point}
 use Rattle.consistency.specs.Owing.{has_pair_in, is_same_state, was_duplex}
 use Rattle.consistency.specs.Ways.{PassedPoint}
-use Rattle.mover.specs.Dropping.{is_duplex_row, is_duplex_state, stood_duplex}
+use Rattle.mover.specs.Dropping.{is_duplex_row, stood_duplex}
 use Rattle.xrc_session.specs.Maps.{BecomesAt, RowsGo}
 use Rattle.xrc_session.specs.MapsOwed.{HaveRowsOf}
 use Rattle.xrc_session.proofs.MapsRows.{StandsNext, apart_by, duplex_of, ends_as, ends_pair, never_stands, next_at, not_duplex, stays_suspended, stood_now}
@@ -34,7 +34,7 @@ same_itself Copy = refl
 same_itself Duplex = refl
 same_itself (Suspended cause since) = and_from (nat_eq (cause_number cause) (cause_number cause)) (nat_eq since.0 since.0) (eq-eqb (cause_number cause) (cause_number cause) refl) (eq-eqb since.0 since.0 refl)
 
-duplex_is : (state : PairState) → is_same_state Duplex state ≡ is_duplex_state state
+duplex_is : (state : PairState) → is_same_state Duplex state ≡ is_duplex state
 duplex_is Pending = refl
 duplex_is Copy = refl
 duplex_is Duplex = refl
@@ -111,7 +111,7 @@ module _ (place : ℕ) (z : PairRow) (suspends : is_suspended z.state ≡ true) 
   abbrev now : List PairRow → Bool
   now rows = has_pair_in z z.state rows
 
-  so_at : (rows : List PairRow) (r : PairRow) → none_clash rows ≡ true → slice_get rows place ≡ Some r → z ≡ in_state z.state r → so rows ≡ is_duplex_state r.state
+  so_at : (rows : List PairRow) (r : PairRow) → none_clash rows ≡ true → slice_get rows place ≡ Some r → z ≡ in_state z.state r → so rows ≡ is_duplex r.state
   so_at rows r apart at pair = pair_at rows place r z Duplex (apart_of rows apart) at pair ∙ duplex_is r.state
 
   now_at : (rows : List PairRow) (r : PairRow) → none_clash rows ≡ true → slice_get rows place ≡ Some r → z ≡ in_state z.state r → now rows ≡ is_same_state z.state r.state
@@ -134,7 +134,7 @@ module _ (place : ℕ) (z : PairRow) (suspends : is_suspended z.state ≡ true) 
 
   -- A live row's pair was duplex behind deeds that suspend it exactly if it stood so.
   pub was_stood : (time : ℕ) (rows : List PairRow) (deeds : List Deed) (r : PairRow) → none_clash rows ≡ true → RowsGo time rows deeds → slice_get rows place ≡ Some r → slice_get (rows_behind deeds rows) place ≡ Some z → is_suspended r.state ≡ false
-      → was_in so now (is_duplex_state r.state) (map rows_by_deed deeds) ≡ stood_duplex place rows deeds
+      → was_in so now (is_duplex r.state) (map rows_by_deed deeds) ≡ stood_duplex place rows deeds
   was_stood time rows [] r apart go at last live = absurd (true≢false (sym suspends ∙ ap (λ (x : PairRow). is_suspended x.state) (same_Some z r (sym last ∙ at)) ∙ live))
   was_stood time rows (deed ∷ deeds) r apart go at last live =
       choose (is_suspended n.row.state) refl (λ x clear there still. was_stood (time_by_deed time deed) (rows_by_deed deed) deeds x clear go.1 there last still)
@@ -148,7 +148,7 @@ module _ (place : ℕ) (z : PairRow) (suspends : is_suspended z.state ≡ true) 
       pair : z ≡ in_state z.state n.row
       pair = ends_pair (time_by_deed time deed) (rows_by_deed deed) deeds place n.row z go.1 n.at last
 
-      first : is_duplex_row (slice_get rows place) ≡ is_duplex_state r.state
+      first : is_duplex_row (slice_get rows place) ≡ is_duplex r.state
       first = ap is_duplex_row at
 
       no_more : (a b : Bool) → b ≡ false → (a || b) ≡ a
@@ -165,21 +165,21 @@ module _ (place : ℕ) (z : PairRow) (suspends : is_suspended z.state ≡ true) 
       taken false b e = refl
 
       choose : (s : Bool) → is_suspended n.row.state ≡ s
-          → ((x : PairRow) → none_clash (rows_by_deed deed) ≡ true → slice_get (rows_by_deed deed) place ≡ Some x → is_suspended x.state ≡ false → was_in so now (is_duplex_state x.state) (map rows_by_deed deeds) ≡ stood_duplex place (rows_by_deed deed) deeds)
-          → was_in so now (so (rows_by_deed deed) || (now (rows_by_deed deed) && is_duplex_state r.state)) (map rows_by_deed deeds) ≡ (is_duplex_row (slice_get rows place) || stood_duplex place (rows_by_deed deed) deeds)
+          → ((x : PairRow) → none_clash (rows_by_deed deed) ≡ true → slice_get (rows_by_deed deed) place ≡ Some x → is_suspended x.state ≡ false → was_in so now (is_duplex x.state) (map rows_by_deed deeds) ≡ stood_duplex place (rows_by_deed deed) deeds)
+          → was_in so now (so (rows_by_deed deed) || (now (rows_by_deed deed) && is_duplex r.state)) (map rows_by_deed deeds) ≡ (is_duplex_row (slice_get rows place) || stood_duplex place (rows_by_deed deed) deeds)
       choose false is rest =
           ap (λ (b : Bool). was_in so now b (map rows_by_deed deeds))
-          (flag (so (rows_by_deed deed)) (now (rows_by_deed deed)) (is_duplex_state r.state) (now_at (rows_by_deed deed) n.row then n.at pair ∙ live_other z.state n.row.state suspends is) ∙ so_at (rows_by_deed deed) n.row then n.at pair)
+          (flag (so (rows_by_deed deed)) (now (rows_by_deed deed)) (is_duplex r.state) (now_at (rows_by_deed deed) n.row then n.at pair ∙ live_other z.state n.row.state suspends is) ∙ so_at (rows_by_deed deed) n.row then n.at pair)
           ∙ rest n.row then n.at is
-          ∙ taken (is_duplex_state r.state) (stood_duplex place (rows_by_deed deed) deeds) (λ e. stood_now place (rows_by_deed deed) deeds n.row n.at (n.goes.keeps.duplex (duplex_of r.state e) is))
+          ∙ taken (is_duplex r.state) (stood_duplex place (rows_by_deed deed) deeds) (λ e. stood_now place (rows_by_deed deed) deeds n.row n.at (n.goes.keeps.duplex (duplex_of r.state e) is))
           ∙ ap (λ (b : Bool). b || stood_duplex place (rows_by_deed deed) deeds) (sym first)
       choose true is rest =
           let duplex : so (rows_by_deed deed) ≡ false = so_at (rows_by_deed deed) n.row then n.at pair ∙ not_duplex n.row.state is in
           let same = ends_as (time_by_deed time deed) (rows_by_deed deed) deeds place n.row z go.1 n.at last is unfailed in
           let is_now : now (rows_by_deed deed) ≡ true = now_at (rows_by_deed deed) n.row then n.at pair ∙ ap (is_same_state z.state) same ∙ same_itself z.state in
-          ap (λ (b : Bool). was_in so now b (map rows_by_deed deeds)) (λ i. duplex i || (is_now i && is_duplex_state r.state))
-          ∙ was_still (time_by_deed time deed) (rows_by_deed deed) deeds n.row (is_duplex_state r.state) then go.1 n.at last is
-          ∙ sym (ap (λ (b : Bool). b || stood_duplex place (rows_by_deed deed) deeds) first ∙ no_more (is_duplex_state r.state) (stood_duplex place (rows_by_deed deed) deeds) (never_stands (time_by_deed time deed) (rows_by_deed deed) deeds place n.row go.1 n.at is))
+          ap (λ (b : Bool). was_in so now b (map rows_by_deed deeds)) (λ i. duplex i || (is_now i && is_duplex r.state))
+          ∙ was_still (time_by_deed time deed) (rows_by_deed deed) deeds n.row (is_duplex r.state) then go.1 n.at last is
+          ∙ sym (ap (λ (b : Bool). b || stood_duplex place (rows_by_deed deed) deeds) first ∙ no_more (is_duplex r.state) (stood_duplex place (rows_by_deed deed) deeds) (never_stands (time_by_deed time deed) (rows_by_deed deed) deeds place n.row go.1 n.at is))
 
   -- ---- in a run
 

@@ -3,16 +3,15 @@ use Rattle.std.proofs.Common.{◌≡◌, ℕ, Bool, true, false, cond, nat_eq, L
 use Rattle.std.proofs.lemmas.Bool.{and_parts, eqb-true}
 use Rattle.tod_stamp.specs.declared.stamp.Stamp.{Stamp}
 use Rattle.pair_table.specs.declared.level.Level.{Level}
-use Rattle.pair_table.specs.declared.level.Level.TheVariants.{Volume as VolumeLevel, Session as SessionLevel}
 use Rattle.pair_table.specs.declared.row.PairRow.{PairRow}
 use Rattle.pair_table.specs.declared.row.PairState.{PairState}
 use Rattle.pair_table.specs.declared.row.PairState.TheVariants.{Pending, Copy, Duplex, Suspended}
 use Rattle.pair_table.specs.declared.row.SuspendCause.{SuspendCause}
-use Rattle.pair_table.specs.declared.row.SuspendCause.TheVariants.{Control, Device, Session}
+use Rattle.pair_table.specs.declared.row.SuspendCause.TheVariants.{Control, Device}
 use Rattle.pair_table.specs.Devices.{is_among}
 use Rattle.pair_table.specs.Rows.{is_suspended}
 use Rattle.pair_table.specs.Tables.{in_state, is_of, row_of}
-use Rattle.row_changes.specs.Changes.{Due, RowChange, Timed, after_change, after_changes, due_after, hit_row, is_of_record, may_come, may_mature, reached_row, row_after_change, row_may_mature, since, suspended_by}
+use Rattle.row_changes.specs.Changes.{Due, FaultReach, RowChange, Timed, after_change, after_changes, due_after, hit_row, is_of_record, may_come, may_mature, reach_of, reached_row, row_after_change, row_may_mature, since, suspended_by}
 use Rattle.row_changes.specs.Changes.RowChange.{Break, Hit, MarkedHit, Mature, Reached}
 use Rattle.record_rows.specs.ToldRows.{InPlaces}
 use Rattle.site_store.specs.DeedChanges.{DeedOfChanges, deeds_of}
@@ -64,13 +63,12 @@ hit_by time devices r = choose (is_among r.device devices)
     choose true = stated_by time Device r
     choose false = stays_by time r
 
-reached_by : (time : ℕ) (level : Level) (devices : List ℕ) (r : PairRow) → SinceBy time r (reached_row level devices time r)
-reached_by time VolumeLevel devices r = stays_by time r
-reached_by time SessionLevel devices r = choose (is_among r.device devices)
+reached_by : (time : ℕ) (reach : FaultReach) (devices : List ℕ) (r : PairRow) → SinceBy time r (reached_row reach devices time r)
+reached_by time reach devices r = choose (reach.reaches devices r)
   where
-    choose : (b : Bool) → SinceBy time r (cond b r (suspended_by Session time r))
-    choose true = stays_by time r
-    choose false = suspends_by time Session r
+    choose : (b : Bool) → SinceBy time r (cond b (suspended_by reach.cause time r) r)
+    choose true = suspends_by time reach.cause r
+    choose false = stays_by time r
 
 -- A row matures into no suspension.
 matured_by : (time device : ℕ) (state : PairState) (rows : List PairRow) (r : PairRow) → row_may_mature state (row_of device rows) ≡ true → SinceBy time r (cond (is_of device r) (in_state state r) r)
@@ -90,17 +88,17 @@ matured_by time device state rows r may = choose (is_of device r)
     choose true = λ cause at is. absurd (by_row (row_of device rows) cause at (ap (λ (s : PairState). row_may_mature s (row_of device rows)) (sym is) ∙ may))
     choose false = stays_by time r
 
-change_by : (level : Level) (breaks : List (Option ℕ)) (due : Due) (rows : List PairRow) (time : ℕ) (change : RowChange) (r : PairRow) → may_come breaks due rows (record { time = time; change = change }) ≡ true → SinceBy time r (row_after_change level (record { time = time; change = change }) r)
-change_by level breaks due rows time (Mature device state) r may = matured_by time device state rows r (and_parts (is_of_record due time) (row_may_mature state (row_of device rows)) may).1
-change_by level breaks due rows time (Break control) r may = choose (nat_eq r.control control)
+change_by : (reach : FaultReach) (breaks : List (Option ℕ)) (due : Due) (rows : List PairRow) (time : ℕ) (change : RowChange) (r : PairRow) → may_come breaks due rows (record { time = time; change = change }) ≡ true → SinceBy time r (row_after_change reach (record { time = time; change = change }) r)
+change_by reach breaks due rows time (Mature device state) r may = matured_by time device state rows r (and_parts (is_of_record due time) (row_may_mature state (row_of device rows)) may).1
+change_by reach breaks due rows time (Break control) r may = choose (nat_eq r.control control)
   where
     choose : (b : Bool) → SinceBy time r (cond b (suspended_by Control time r) r)
     choose true = suspends_by time Control r
     choose false = stays_by time r
-change_by level breaks due rows time (Hit devices) r may =
-    then_by time r (hit_row devices time r) (reached_row level devices time (hit_row devices time r)) (hit_by time devices r) (reached_by time level devices (hit_row devices time r))
-change_by level breaks due rows time (MarkedHit devices) r may = hit_by time devices r
-change_by level breaks due rows time (Reached devices) r may = reached_by time level devices r
+change_by reach breaks due rows time (Hit devices) r may =
+    then_by time r (hit_row devices time r) (reached_row reach devices time (hit_row devices time r)) (hit_by time devices r) (reached_by time reach devices (hit_row devices time r))
+change_by reach breaks due rows time (MarkedHit devices) r may = hit_by time devices r
+change_by reach breaks due rows time (Reached devices) r may = reached_by time reach devices r
 
 places_map : (time : ℕ) (f : PairRow → PairRow) (rows : List PairRow) → ((r : PairRow) → SinceBy time r (f r)) → InPlaces (SinceBy time) rows (map f rows)
 places_map time f [] each = tt
@@ -125,8 +123,9 @@ changes_by level breaks due last from to time rows [] comes at = places_same tim
 changes_by level breaks due last from to time rows (t ∷ changes) comes at =
     let parts = and_parts (nat_eq t.time time) (are_at_time time changes) at in
     let here : t.time ≡ time = eqb-true t.time time parts.0 in
+    let reach = reach_of level rows in
     places_then time rows (after_change level t rows) (after_changes level changes (after_change level t rows))
-    (places_map time (row_after_change level t) rows (λ r. subst (λ (n : ℕ). SinceBy n r (row_after_change level t r)) here (change_by level breaks due rows t.time t.change r comes.2)))
+    (places_map time (row_after_change reach t) rows (λ r. subst (λ (n : ℕ). SinceBy n r (row_after_change reach t r)) here (change_by reach breaks due rows t.time t.change r comes.2)))
     (changes_by level breaks (due_after level due t) last t.time to time (after_change level t rows) changes comes.3 parts.1)
 
 go_by : (time : ℕ) (rows next : List PairRow) → InPlaces KeepsPair rows next → InPlaces (SinceBy time) rows next → InPlaces (BecomesAt time) rows next

@@ -5,7 +5,7 @@ use Rattle.std.specs.List.{list_all, list_any}
 use Rattle.std.proofs.lemmas.Bool.{and_from, and_parts, le-leb, leb-true, lt-ltb, ltb-true, ne_eqb}
 use Rattle.std.proofs.lemmas.List.{at_drop_more, get_or-take, length-take-le, take_all, take_more}
 use Rattle.std.proofs.lemmas.List.Folds.{list_all-append, list_any-append}
-use Rattle.tod_stamp.specs.declared.limits.TheConstants.{MOST_CONTROLS, MOST_CYLINDERS, MOST_VOLUMES}
+use Rattle.xrc_edge.specs.declared.limits.TheConstants.{MOST_CONTROLS, MOST_CYLINDERS, MOST_CONTROL_VOLUMES}
 use Rattle.tod_stamp.specs.Fields.{within}
 use Rattle.tod_stamp.specs.Names.{is_serial}
 use Rattle.write_trace.specs.declared.header.Header.{Header}
@@ -151,8 +151,8 @@ may_name control heads named before names v head small are few apart inside is b
 
     ranges : IsTrue (are_in_ranges control v here.cylinders)
     ranges =
-        and_from (nat_le control (MOST_CONTROLS - 1) && nat_le v (MOST_VOLUMES - 1)) (within 1 MOST_CYLINDERS here.cylinders)
-        (and_from (nat_le control (MOST_CONTROLS - 1)) (nat_le v (MOST_VOLUMES - 1)) (le-leb control 15 (omega arith)) (le-leb v 31 (omega (arith, inside, few)))) its.few
+        and_from (nat_le control (MOST_CONTROLS - 1) && nat_le v (MOST_CONTROL_VOLUMES - 1)) (within 1 MOST_CYLINDERS here.cylinders)
+        (and_from (nat_le control (MOST_CONTROLS - 1)) (nat_le v (MOST_CONTROL_VOLUMES - 1)) (le-leb control 15 (omega arith)) (le-leb v 31 (omega (arith, inside, few)))) its.few
 
     front : (i : ℕ) → i < length (take v heads) → bytes_eq here.serial (get_or (take v heads) i head).serial ≡ false
     front i less =
@@ -242,11 +242,11 @@ pub record HasGoodVolumes (heads : List VolumeHead) : Type 0 where
 
 pub volumes_of_header : (h : Header) → is_header_of 1 h ≡ true → HasGoodVolumes h.volumes
 volumes_of_header h kept =
-    let three = and_parts (h.version == 1 && within 1 MOST_VOLUMES (length h.volumes) && are_volumes 1 [] h.volumes) (are_bases h.volumes (0, 0) h.base) kept in
-    let two = and_parts (h.version == 1 && within 1 MOST_VOLUMES (length h.volumes)) (are_volumes 1 [] h.volumes) three.0 in
-    let count = and_parts (h.version == 1) (within 1 MOST_VOLUMES (length h.volumes)) two.0 in
-    let ends = and_parts (nat_le 1 (length h.volumes)) (nat_le (length h.volumes) MOST_VOLUMES) count.1 in
-    record { some = leb-true 1 (length h.volumes) ends.0; few = leb-true (length h.volumes) MOST_VOLUMES ends.1; are = two.1 }
+    let three = and_parts (h.version == 1 && within 1 MOST_CONTROL_VOLUMES (length h.volumes) && are_volumes 1 [] h.volumes) (are_bases h.volumes (0, 0) h.base) kept in
+    let two = and_parts (h.version == 1 && within 1 MOST_CONTROL_VOLUMES (length h.volumes)) (are_volumes 1 [] h.volumes) three.0 in
+    let count = and_parts (h.version == 1) (within 1 MOST_CONTROL_VOLUMES (length h.volumes)) two.0 in
+    let ends = and_parts (nat_le 1 (length h.volumes)) (nat_le (length h.volumes) MOST_CONTROL_VOLUMES) count.1 in
+    record { some = leb-true 1 (length h.volumes) ends.0; few = leb-true (length h.volumes) MOST_CONTROL_VOLUMES ends.1; are = two.1 }
 
 -- The serials that were named are those of the names again, now of one control more.
 pub serials_are_named : (control : ℕ) (heads : List VolumeHead) (old named : List (List ℕ)) (before names : Naming) → control < 16 → HasGoodVolumes heads → NamesApart control heads old before

@@ -12,14 +12,14 @@ use Rattle.write_trace.specs.declared.trace.HeaderError.TheVariants as header
 use Rattle.write_trace.specs.declared.trace.Trace.{Trace}
 use Rattle.write_trace.specs.Answers.{ReaderState}
 use Rattle.write_trace.specs.WholeTraces.{after_header, bad_start, entries_from, most_bytes, trace_of, whole_trace}
-use Rattle.write_trace.specs.Headers.{header_at}
+use Rattle.write_trace.specs.Headers.{header_at, serial_place}
 use Rattle.write_trace.specs.Starts.{ReadsHeader, Starts}
 use Rattle.write_trace.specs.UnreadBytes.{seen}
 use Rattle.mover.specs.declared.lane.Lane.{Lane}
 use Rattle.xrc_status.specs.declared.stop.Stop.{Stop}
 use Rattle.xrc_status.specs.declared.stop.Stop.TheVariants.{BadHeader, HeaderFault, NoMemory}
 use Rattle.xrc_session.specs.Lanes.{AllTold, SourceBytes, SourceTold, trace_given}
-use Rattle.xrc_session.specs.Openings.{StopsByHeaders, first_named_again, serial_place, serials_in_header, stop_of_header, stop_of_headers}
+use Rattle.xrc_session.specs.Openings.{StopsByHeaders, first_named_again, serials_in_header, stop_of_header, stop_of_headers}
 
 -- ---- whether a source failed
 

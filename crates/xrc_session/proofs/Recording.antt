@@ -11,7 +11,7 @@ use Rattle.pending_queue.specs.Entries.{WaitingEntry}
 use Rattle.image_former.specs.Changes.{changed_through}
 use Rattle.group_state.specs.Volumes.{volume_of}
 use Rattle.group_state.specs.Groups.{control_at}
-use Rattle.record_rows.specs.Hits.{is_device_suspended}
+use Rattle.pair_table.specs.States.{is_device_suspended}
 use Rattle.record_rows.specs.Deeds.{Deed, entries_by_deed, rows_by_deed}
 use Rattle.record_rows.specs.Deeds.Deed.{Logged, Changed, Marked}
 use Rattle.site_means.specs.Sight.{content_of}

@@ -17,7 +17,7 @@ use Rattle.passages.proofs.Telling.{told_otherwise}
 use Rattle.primary_ctl.specs.Primaries.{primary}
 use Rattle.record_rows.specs.Deeds.{Deed, entries_by_deed, rows_behind, rows_by_deed, time_meant_behind}
 use Rattle.record_rows.specs.Deeds.Deed.{Logged, Changed, Marked}
-use Rattle.record_rows.specs.Hits.{is_device_suspended}
+use Rattle.pair_table.specs.States.{is_device_suspended}
 use Rattle.site_means.specs.declared.means.Means.{Means}
 use Rattle.site_means.specs.Images.{Shape, shape_of}
 use Rattle.site_means.specs.Sight.{content_of, means_of}

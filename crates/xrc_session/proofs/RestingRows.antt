@@ -7,19 +7,19 @@ use Rattle.crash_plant.specs.Moments.{PlantState}
 use Rattle.pair_table.specs.declared.command.Change.{Change}
 use Rattle.pair_table.specs.declared.command.Change.TheVariants.{Nothing, Started, Added, Resumed, Gone, Suspended as SuspendedRows, Ended}
 use Rattle.pair_table.specs.declared.level.Level.{Level}
-use Rattle.pair_table.specs.declared.level.Level.TheVariants.{Volume as VolumeLevel, Session as SessionLevel}
 use Rattle.pair_table.specs.declared.row.PairRow.{PairRow}
 use Rattle.pair_table.specs.declared.row.PairState.{PairState}
 use Rattle.pair_table.specs.declared.row.PairState.TheVariants.{Pending, Duplex}
-use Rattle.pair_table.specs.declared.row.SuspendCause.TheVariants.{Device, Session}
+use Rattle.pair_table.specs.declared.row.SuspendCause.TheVariants.{Device}
 use Rattle.pair_table.specs.Devices.{is_among}
 use Rattle.pair_table.specs.Rows.{is_suspended}
 use Rattle.pair_table.specs.Tables.{changed_row, in_state, is_of, row_of, with_state}
 use Rattle.pending_queue.specs.Entries.{WaitingEntry}
-use Rattle.row_changes.specs.Changes.{hit_row, reached_row, since}
+use Rattle.row_changes.specs.Changes.{FaultReach, hit_row, reach_of, reached_row, since}
 use Rattle.record_rows.specs.Deeds.{Deed, entries_by_deed, rows_by_deed}
 use Rattle.record_rows.specs.Deeds.Deed.{Changed, Marked}
-use Rattle.record_rows.specs.Hits.{hit_now, is_device_suspended, is_down, is_hit_now, rows_hit, rows_marked}
+use Rattle.record_rows.specs.Hits.{hit_now, is_down, is_hit_now, rows_hit, rows_marked}
+use Rattle.pair_table.specs.States.{is_device_suspended, owes}
 use Rattle.record_rows.specs.ToldRows.{InPlaces}
 use Rattle.record_rows.proofs.Telling.{only_failed}
 use Rattle.site_store.specs.Exceptions.{Exceptions, excepted_behind, excepted_by_deed, is_kept, is_whole_on}
@@ -31,7 +31,7 @@ use Rattle.mover.proofs.Pairs.{Among, among_cases, among_of, contains_of}
 use Rattle.mover.proofs.Pairs.Among.{Here, Later}
 use Rattle.xrc_session.specs.EpochPauses.{Between, StandsBetween}
 use Rattle.xrc_session.specs.CarriedLaws.{IsWithoutEntries, between_taken}
-use Rattle.xrc_session.specs.Taking.{IsSuspendedSince, as_pending, drop_between, rows_by_command, stands_again}
+use Rattle.xrc_session.specs.Taking.{IsSuspendedSince, as_pending, rows_by_command, stands_again}
 use Rattle.xrc_session.proofs.Changed.{taken_rows_stand}
 use Rattle.xrc_session.proofs.KeptRows.{standing_rows_are_kept}
 use Rattle.xrc_session.proofs.Recording.{rows_stand_behind_deeds}
@@ -306,7 +306,7 @@ duplex_before : (change : Change) (before after : List PairRow) → InPlaces IsS
 duplex_before change before after follow r there duplex =
     let found = places_back IsSuspendedSince r (rows_by_command change before after) after follow there in
     let x = found.0 in
-    let stays : r.state ≡ x.state = found.2.stays (ap (drop_between x.state) duplex) in
+    let stays : r.state ≡ x.state = found.2.stays (ap (owes x.state) duplex) in
     let same : r ≡ x = found.2.same ∙ ap (λ (s : PairState). in_state s x) stays in
     command_back change before after r duplex (subst (λ (s : PairRow). Among s (rows_by_command change before after)) (sym same) found.1)
 
@@ -317,21 +317,21 @@ hit_back hits time x y is duplex = by_hit (is_among x.device hits) is
     by_hit true is = absurd (suspended_not y.state (ap (λ (s : PairRow). is_suspended s.state) (sym is)) duplex)
     by_hit false is = is
 
-reach_back : (level : Level) (hits : List ℕ) (time : ℕ) (x y : PairRow) → reached_row level hits time x ≡ y → y.state ≡ Duplex → x ≡ y
-reach_back VolumeLevel hits time x y is duplex = is
-reach_back SessionLevel hits time x y is duplex = by_row (is_among x.device hits) (is_suspended x.state) is
+reach_back : (reach : FaultReach) (hits : List ℕ) (time : ℕ) (x y : PairRow) → reached_row reach hits time x ≡ y → y.state ≡ Duplex → x ≡ y
+reach_back reach hits time x y is duplex = by_row (reach.reaches hits x) (is_suspended x.state) is
   where
-    by_row : (a b : Bool) → cond a x (cond b x (in_state (since Session time) x)) ≡ y → x ≡ y
-    by_row true b is = is
-    by_row false true is = is
-    by_row false false is = absurd (suspended_not y.state (ap (λ (s : PairRow). is_suspended s.state) (sym is)) duplex)
+    by_row : (a b : Bool) → cond a (cond b x (in_state (since reach.cause time) x)) x ≡ y → x ≡ y
+    by_row true true is = is
+    by_row true false is = absurd (suspended_not y.state (ap (λ (s : PairRow). is_suspended s.state) (sym is)) duplex)
+    by_row false b is = is
 
 -- Hits make no row duplex.
 hits_back : (level : Level) (time : ℕ) (hits : List ℕ) (rows : List PairRow) (r : PairRow) → Among r (rows_hit level time hits rows) → r.state ≡ Duplex → Among r rows
 hits_back level time [] rows r there duplex = there
 hits_back level time (d ∷ hits) rows r there duplex =
-    let found = map_back (λ s. reached_row level (d ∷ hits) time (hit_row (d ∷ hits) time s)) r rows there in
-    let reached = reach_back level (d ∷ hits) time (hit_row (d ∷ hits) time found.0) r found.2 duplex in
+    let reach = reach_of level rows in
+    let found = map_back (λ s. reached_row reach (d ∷ hits) time (hit_row (d ∷ hits) time s)) r rows there in
+    let reached = reach_back reach (d ∷ hits) time (hit_row (d ∷ hits) time found.0) r found.2 duplex in
     subst (λ (s : PairRow). Among s rows) (hit_back (d ∷ hits) time found.0 r reached duplex) found.1
 
 marked_back : (time : ℕ) (hits : List ℕ) (rows : List PairRow) (r : PairRow) → Among r (rows_marked time hits rows) → r.state ≡ Duplex → Among r rows

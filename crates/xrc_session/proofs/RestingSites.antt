@@ -6,18 +6,22 @@ use Rattle.std.proofs.lemmas.Bool.{and_parts, or_left, or_right, eq-eqb}
 use Rattle.crash_plant.specs.Moments.{PlantState}
 use Rattle.pair_table.specs.declared.command.Change.{Change}
 use Rattle.pair_table.specs.declared.level.Level.{Level}
-use Rattle.pair_table.specs.declared.level.Level.TheVariants.{Volume as VolumeLevel, Session as SessionLevel}
 use Rattle.pair_table.specs.declared.row.PairRow.{PairRow}
 use Rattle.pair_table.specs.declared.row.PairState.{PairState}
 use Rattle.pair_table.specs.declared.row.PairState.TheVariants.{Pending, Copy, Duplex, Suspended}
-use Rattle.pair_table.specs.declared.row.SuspendCause.TheVariants.{Device, Session}
+use Rattle.pair_table.specs.declared.row.SuspendCause.TheVariants.{Device}
 use Rattle.pair_table.specs.Commands.{has_named_primary}
 use Rattle.pair_table.specs.Devices.{is_among}
 use Rattle.pair_table.specs.Naming.{Naming}
 use Rattle.pair_table.specs.Rows.{is_suspended}
 use Rattle.pair_table.specs.Tables.{Table, are_below, in_state, most_rows, with_rows}
-use Rattle.row_changes.specs.Changes.{hit_row, reached_row, since}
-use Rattle.record_rows.specs.Hits.{hit_now, is_device_suspended, is_down, is_hit_now, rows_hit}
+use Rattle.row_changes.specs.Changes.{FaultReach, Timed, hit_row, reach_of, reached_row, row_after_change, since}
+use Rattle.row_changes.specs.Changes.RowChange.{Hit}
+use Rattle.row_changes.proofs.Reaching.{changes_state}
+use Rattle.row_changes.proofs.Reaching.{reach_is_other}
+use Rattle.record_rows.proofs.HitRows.{held}
+use Rattle.record_rows.specs.Hits.{hit_now, is_down, is_hit_now, rows_hit}
+use Rattle.pair_table.specs.States.{is_by_device, is_device_suspended}
 use Rattle.record_rows.specs.Records.{rows_with_hits}
 use Rattle.site_store.specs.Changing.{LogsChange, changed_items}
 use Rattle.site_store.specs.Commands.{MayDo, behind_command, excepted_by_change, is_added, without_flag}
@@ -46,41 +50,34 @@ is_down_now failed r none free = by_flag (is_down failed r.device) (is_device_su
     by_flag true false none free = absurd (true≢false none)
 
 -- A row that isn't hit now, unless it is among those that are hit, isn't hit behind the hits.
-row_told : (failed : List Bool) (level : Level) (hits : List ℕ) (time : ℕ) (r : PairRow) → (is_hit_now failed r ≡ true → is_among r.device hits ≡ true)
-    → is_hit_now failed (reached_row level hits time (hit_row hits time r)) ≡ false
-row_told failed level hits time r hit = by_hit (is_among r.device hits) refl
+row_told : (failed : List Bool) (reach : FaultReach) → is_by_device reach.cause ≡ false → (hits : List ℕ) (time : ℕ) (r : PairRow) → (is_hit_now failed r ≡ true → is_among r.device hits ≡ true)
+    → is_hit_now failed (reached_row reach hits time (hit_row hits time r)) ≡ false
+row_told failed reach other hits time r hit = by_hit (is_among r.device hits) refl
   where
     off : (a : Bool) → (a && not true) ≡ false
     off true = refl
     off false = refl
 
     calm : is_among r.device hits ≡ false → (b : Bool) → is_hit_now failed r ≡ b → is_hit_now failed r ≡ false
-    calm other true is = absurd (true≢false (sym (hit is) ∙ other))
-    calm other false is = is
+    calm out true is = absurd (true≢false (sym (hit is) ∙ out))
+    calm out false is = is
 
-    by_state : (s : Bool) → is_suspended r.state ≡ s → is_hit_now failed r ≡ false → is_hit_now failed (cond s r (in_state (since Session time) r)) ≡ false
-    by_state true is none = none
-    by_state false is none = ap (λ (a : Bool). a && true) (is_down_now failed r none (suspends r.state is))
+    reached : (a s : Bool) → is_suspended r.state ≡ s → is_hit_now failed r ≡ false → is_hit_now failed (cond a (cond s r (in_state (since reach.cause time) r)) r) ≡ false
+    reached true true is none = none
+    reached true false is none = ap (λ (b : Bool). is_down failed r.device && not b) other ∙ ap (λ (a : Bool). a && true) (is_down_now failed r none (suspends r.state is))
+    reached false s is none = none
 
-    reached : (level : Level) → is_among r.device hits ≡ false → is_hit_now failed (reached_row level hits time r) ≡ false
-    reached VolumeLevel other = calm other (is_hit_now failed r) refl
-    reached SessionLevel other = rw other (by_state (is_suspended r.state) refl (calm other (is_hit_now failed r) refl))
+    by_hit : (b : Bool) → is_among r.device hits ≡ b → is_hit_now failed (reached_row reach hits time (cond b (in_state (since Device time) r) r)) ≡ false
+    by_hit true is = ap (is_hit_now failed) (held reach hits time (in_state (since Device time) r) refl) ∙ off (is_down failed r.device)
+    by_hit false is = reached (reach.reaches hits r) (is_suspended r.state) refl (calm is (is_hit_now failed r) refl)
 
-    held : (level : Level) → is_among r.device hits ≡ true → is_hit_now failed (reached_row level hits time (in_state (since Device time) r)) ≡ false
-    held VolumeLevel among = off (is_down failed r.device)
-    held SessionLevel among = rw among (off (is_down failed r.device))
-
-    by_hit : (b : Bool) → is_among r.device hits ≡ b → is_hit_now failed (reached_row level hits time (cond b (in_state (since Device time) r) r)) ≡ false
-    by_hit true is = held level is
-    by_hit false is = reached level is
-
-rows_told : (failed : List Bool) (level : Level) (hits : List ℕ) (time : ℕ) (rows : List PairRow) → ((d : ℕ) → is_among d (hit_now failed rows) ≡ true → is_among d hits ≡ true)
-    → hit_now failed (map (λ r. reached_row level hits time (hit_row hits time r)) rows) ≡ []
-rows_told failed level hits time [] among = refl
-rows_told failed level hits time (r ∷ rows) among = rest (is_hit_now failed (told r)) (row_told failed level hits time r here) (rows_told failed level hits time rows (λ d is. among d (behind d (is_hit_now failed r) is)))
+rows_told : (failed : List Bool) (reach : FaultReach) → is_by_device reach.cause ≡ false → (hits : List ℕ) (time : ℕ) (rows : List PairRow) → ((d : ℕ) → is_among d (hit_now failed rows) ≡ true → is_among d hits ≡ true)
+    → hit_now failed (map (λ r. reached_row reach hits time (hit_row hits time r)) rows) ≡ []
+rows_told failed reach other hits time [] among = refl
+rows_told failed reach other hits time (r ∷ rows) among = rest (is_hit_now failed (told r)) (row_told failed reach other hits time r here) (rows_told failed reach other hits time rows (λ d is. among d (behind d (is_hit_now failed r) is)))
   where
     told : PairRow → PairRow
-    told s = reached_row level hits time (hit_row hits time s)
+    told s = reached_row reach hits time (hit_row hits time s)
 
     first : (b : Bool) → b ≡ true → is_among r.device (map (λ s. s.device) (cond b (r ∷ filter (is_hit_now failed) rows) (filter (is_hit_now failed) rows))) ≡ true
     first true is = or_left (nat_eq r.device r.device) (is_among r.device (hit_now failed rows)) (eq-eqb r.device r.device refl)
@@ -103,7 +100,7 @@ hits_told level time failed rows = by_hits (hit_now failed rows) refl
   where
     by_hits : (hits : List ℕ) → hit_now failed rows ≡ hits → hit_now failed (rows_with_hits level time failed rows) ≡ []
     by_hits [] none = rw none none
-    by_hits (d ∷ hits) some = rw some (rows_told failed level (d ∷ hits) time rows (λ e is. subst (λ (l : List ℕ). is_among e l ≡ true) some is))
+    by_hits (d ∷ hits) some = rw some (rows_told failed (reach_of level rows) (reach_is_other level rows) (d ∷ hits) time rows (λ e is. subst (λ (l : List ℕ). is_among e l ≡ true) some is))
 
 -- ---- fewer jobs have failed
 
@@ -180,32 +177,16 @@ idle_behind_marks tells was is old new site next ended (Err e) may leaves marks 
 
 -- What holds of a row in whatever state holds of it behind hits.
 module _ (test : PairRow → Bool) (stays : (state : PairState) (r : PairRow) → test (in_state state r) ≡ test r) (level : Level) (time : ℕ) where
-  hit_passes : (hits : List ℕ) (r : PairRow) → test (hit_row hits time r) ≡ test r
-  hit_passes hits r = by_hit (is_among r.device hits)
-    where
-      by_hit : (b : Bool) → test (cond b (in_state (since Device time) r) r) ≡ test r
-      by_hit true = stays (since Device time) r
-      by_hit false = refl
-
-  reached_passes : (reach : Level) (hits : List ℕ) (r : PairRow) → test (reached_row reach hits time r) ≡ test r
-  reached_passes VolumeLevel hits r = refl
-  reached_passes SessionLevel hits r = by_row (is_among r.device hits) (is_suspended r.state)
-    where
-      by_row : (a b : Bool) → test (cond a r (cond b r (in_state (since Session time) r))) ≡ test r
-      by_row true b = refl
-      by_row false true = refl
-      by_row false false = stays (since Session time) r
-
-  all_pass : (hits : List ℕ) (rows : List PairRow) → list_all test (map (λ r. reached_row level hits time (hit_row hits time r)) rows) ≡ list_all test rows
-  all_pass hits [] = refl
-  all_pass hits (r ∷ rows) = λ i. (reached_passes level hits (hit_row hits time r) ∙ hit_passes hits r) i && all_pass hits rows i
+  mapped_pass : (reach : FaultReach) (t : Timed) (rows : List PairRow) → list_all test (map (row_after_change reach t) rows) ≡ list_all test rows
+  mapped_pass reach t [] = refl
+  mapped_pass reach t (r ∷ rows) = λ i. (ap test (changes_state reach t r) ∙ stays (row_after_change reach t r).state r) i && mapped_pass reach t rows i
 
   pub hits_pass : (failed : List Bool) (rows : List PairRow) → list_all test (rows_with_hits level time failed rows) ≡ list_all test rows
   hits_pass failed rows = by_hits (hit_now failed rows)
     where
       by_hits : (hits : List ℕ) → list_all test (rows_hit level time hits rows) ≡ list_all test rows
       by_hits [] = refl
-      by_hits (d ∷ hits) = all_pass (d ∷ hits) rows
+      by_hits (d ∷ hits) = mapped_pass (reach_of level rows) (record { time = time; change = Hit (d ∷ hits) }) rows
 
 -- A site with other jobs of the same number, and with hits behind its rows.
 may_do_again : (names : Naming) (level : Level) (time : ℕ) (site next : SiteState) → MayDo names site → length next.failed ≡ length site.failed → next.table ≡ with_rows site.table (rows_with_hits level time next.failed site.table.rows) → MayDo names next

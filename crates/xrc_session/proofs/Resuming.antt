@@ -13,7 +13,7 @@ use Rattle.group_state.specs.Groups.{control_at, with_control}
 use Rattle.group_state.specs.Machine.Call.{Resume}
 use Rattle.group_state.specs.Machine.Reply.{Owed}
 use Rattle.group_state.specs.SoundStates.{passes_or_none}
-use Rattle.record_rows.specs.Hits.{is_device_suspended}
+use Rattle.pair_table.specs.States.{is_device_suspended, is_duplex}
 use Rattle.fed_logs.proofs.Keeping.{steps_keep}
 use Rattle.fed_logs.specs.Feeds.{truth_of}
 use Rattle.fed_logs.specs.Logs.{is_of_size}
@@ -26,7 +26,7 @@ use Rattle.xrc_session.proofs.Calls.{keeps_resume, resume_itself, resume_other}
 use Rattle.xrc_session.proofs.CarriedRows.{stated_held, stated_others, stated_there}
 use Rattle.xrc_session.proofs.Standing.{Changes, stands_there}
 use Rattle.xrc_session.proofs.KeptRows.{dropped_suspended, kept_resumed_row, standing_rows_are_kept}
-use Rattle.xrc_session.proofs.Knowing.{base, below_stated, dropped_kept, is_duplex, is_other, none_known, owed_before, own_state, resumed_owes, resumed_size, same, sized_stated}
+use Rattle.xrc_session.proofs.Knowing.{base, below_stated, dropped_kept, is_other, none_known, owed_before, own_state, resumed_owes, resumed_size, same, sized_stated}
 
 module _ (start : PlantState) (b : Between) (r : PairRow) (st : StandsBetween start b) (may : MayResume b r) where
   abbrev k : ℕ

@@ -6,6 +6,7 @@ use Rattle.tod_stamp.specs.Names.{is_session}
 use Rattle.crash_plant.specs.declared.device.Device.TheVariants.{Control, Volume}
 use Rattle.crash_plant.specs.Calls.{Elapses, SameSite, Silent}
 use Rattle.crash_plant.specs.Moments.{PlantState}
+use Rattle.write_trace.specs.Headers.{serial_place}
 use Rattle.write_trace.specs.declared.trace.HeaderError.{HeaderError}
 use Rattle.write_trace.specs.declared.trace.Trace.{Trace}
 use Rattle.pair_table.specs.declared.level.Level.{Level}
@@ -30,7 +31,7 @@ use Rattle.xrc_session.proofs.AppliedEnds.{ended_answered, stays_worked}
 use Rattle.xrc_session.specs.LinePauses.{IsAtSite, IsBetween, IsRunOfSession, IsRunOver, IsUnstarted, RisesCover}
 use Rattle.xrc_session.specs.Lanes.{AllTold, AllWent, AreTracesGiven, HaveHeadsOf, SourceBytes, TurnOutFrom, trace_given}
 use Rattle.xrc_session.specs.Lines.{MayFinish}
-use Rattle.xrc_session.specs.Openings.{ComesEarly, OpensInOrder, first_named_again, opening_stop, serial_place, serials_in_header, stop_of_header, stop_of_headers, stop_of_site}
+use Rattle.xrc_session.specs.Openings.{ComesEarly, OpensInOrder, first_named_again, opening_stop, serials_in_header, stop_of_header, stop_of_headers, stop_of_site}
 use Rattle.xrc_session.specs.Runs.{AreCountsBelow, AreLabels, EndsScript, IsKnownSession, IsRunOfScript, RunsLines, RunsScript, RunsTold, StopsAtLine}
 use Rattle.xrc_session.specs.Starting.{BeginsRun, HasBegunRun}
 use Rattle.xrc_session.specs.Starting.BeginsRun.{Unstarted}

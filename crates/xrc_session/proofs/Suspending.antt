@@ -14,7 +14,7 @@ use Rattle.group_state.specs.Groups.{control_at, with_control}
 use Rattle.group_state.specs.Machine.Call.{Drop}
 use Rattle.group_state.specs.Machine.Reply.{Made}
 use Rattle.group_state.specs.SoundStates.{passes_or_none}
-use Rattle.record_rows.specs.Hits.{is_device_suspended}
+use Rattle.pair_table.specs.States.{is_device_suspended}
 use Rattle.fed_logs.proofs.Keeping.{steps_keep}
 use Rattle.fed_logs.specs.Feeds.{truth_of}
 use Rattle.fed_logs.specs.Logs.{IsPlanDone, is_of_size}

@@ -22,7 +22,7 @@ use Rattle.group_state.specs.Controls.{counts}
 use Rattle.group_state.specs.Groups.{Group, control_at}
 use Rattle.group_state.specs.Machine.{Call, group_after}
 use Rattle.group_state.specs.Machine.Call.{Carry, Drop, Forget, Resume}
-use Rattle.record_rows.specs.Hits.{is_by_device, is_device_suspended}
+use Rattle.pair_table.specs.States.{is_by_device, is_device_suspended, is_duplex, owes, owes_suspended}
 use Rattle.record_rows.specs.ToldRows.{InPlaces}
 use Rattle.consistency.specs.Stages.{tracks_of_row}
 use Rattle.fed_logs.specs.Logs.{IsPlanDone}
@@ -30,7 +30,7 @@ use Rattle.fed_logs.specs.Moves.{Plans, plans_without}
 use Rattle.mover.proofs.Failing.{among_map}
 use Rattle.mover.proofs.Pairs.{Among, among_of, apart_among, apart_still, contains_of, found_of_device, pair_of, pairs_of}
 use Rattle.mover.proofs.Pairs.Among.{Here, Later}
-use Rattle.xrc_session.specs.Taking.{AllMay, IfAdds, IsSuspendedSince, IsSoundForRows, MayBeBegun, MayTake, after_calls, as_pending, calls_of_change, carry_calls, command_calls, drop_between, drop_by, drop_call, drop_calls, forget_calls, is_begun, owes_again, plans_after, plans_after_calls}
+use Rattle.xrc_session.specs.Taking.{AllMay, IfAdds, IsSuspendedSince, IsSoundForRows, MayBeBegun, MayTake, after_calls, as_pending, calls_of_change, carry_calls, command_calls, drop_call, drop_calls, forget_calls, is_begun, owes_again, plans_after, plans_after_calls}
 use Rattle.xrc_session.specs.Taking.{resume_calls, rows_by_command, stands_again, state_by_command, state_or_pending, tracks_owed_to}
 use Rattle.xrc_session.proofs.KeptRows.{apart_last, may_carry_row}
 use Rattle.xrc_session.proofs.CarriedRows.{among_either, among_kept, stated_among}
@@ -105,7 +105,7 @@ pub record DropFacts (was is : PairState) (all : Bool) : Type 0 where
 some_bool : (a b : Bool) → (let x : Option Bool = Some a in let y : Option Bool = Some b in x ≡ y) → a ≡ b
 some_bool a b e = cc
 
-drop_facts : (was is : PairState) (all : Bool) → drop_between was is ≡ Some all → DropFacts was is all
+drop_facts : (was is : PairState) (all : Bool) → owes was is ≡ Some all → DropFacts was is all
 drop_facts was Pending all e = absurd cc
 drop_facts was Copy all e = absurd cc
 drop_facts was Duplex all e = absurd cc
@@ -118,7 +118,7 @@ drop_facts was (Suspended cause since) all e = by was e
     again true e was = all_known (some_bool true all e) was
     again false e was = absurd cc
 
-    by : (was : PairState) → drop_by was (is_by_device cause) ≡ Some all → DropFacts was (Suspended cause since) all
+    by : (was : PairState) → owes_suspended was (is_duplex was) (is_by_device cause) ≡ Some all → DropFacts was (Suspended cause since) all
     by Pending e = all_known (some_bool true all e) Pending
     by Copy e = all_known (some_bool true all e) Copy
     by Duplex e = record { suspends = refl; device = λ is. sym (some_bool (is_by_device cause) all e) ∙ is; known = λ none. refl }
@@ -128,12 +128,12 @@ drop_facts was (Suspended cause since) all e = by was e
 abbrev pub drops_in : (rows next : List PairRow) → List Call
 drops_in [] next = []
 drops_in (r ∷ rows) [] = []
-drops_in (r ∷ rows) (s ∷ next) = drop_call s (drop_between r.state s.state) ++ drops_in rows next
+drops_in (r ∷ rows) (s ∷ next) = drop_call s (owes r.state s.state) ++ drops_in rows next
 
 module _ (J : Group → List PairRow → Plans → Type 0) (fits : PairRow → Type 0) (steps : Steps J fits) where
-  drop_one : (xs : List PairRow) (r : PairRow) (rest : List PairRow) (state : PairState) (s : Group) (done : Plans) → (drop_between r.state state ≡ None → state ≡ r.state) → J s (xs ++ r ∷ rest) done
-      → Walked J (drop_call (in_state state r) (drop_between r.state state)) s (xs ++ in_state state r ∷ rest) done
-  drop_one xs r rest state s done stays j = choose (drop_between r.state state) refl
+  drop_one : (xs : List PairRow) (r : PairRow) (rest : List PairRow) (state : PairState) (s : Group) (done : Plans) → (owes r.state state ≡ None → state ≡ r.state) → J s (xs ++ r ∷ rest) done
+      → Walked J (drop_call (in_state state r) (owes r.state state)) s (xs ++ in_state state r ∷ rest) done
+  drop_one xs r rest state s done stays j = choose (owes r.state state) refl
     where
       kept : IsSoundForRows s (xs ++ r ∷ rest)
       kept = steps.kept s (xs ++ r ∷ rest) done j
@@ -141,7 +141,7 @@ module _ (J : Group → List PairRow → Plans → Type 0) (fits : PairRow → T
       among : Contains (xs ++ r ∷ rest) r
       among = contains_of r (xs ++ r ∷ rest) (among_at_place xs r rest)
 
-      choose : (o : Option Bool) → drop_between r.state state ≡ o → Walked J (drop_call (in_state state r) o) s (xs ++ in_state state r ∷ rest) done
+      choose : (o : Option Bool) → owes r.state state ≡ o → Walked J (drop_call (in_state state r) o) s (xs ++ in_state state r ∷ rest) done
       choose None is = record { may = tt; ends = subst (λ (x : PairState). J s (xs ++ in_state x r ∷ rest) done) (sym (stays is)) j }
       choose (Some all) is =
           let facts = drop_facts r.state state all is in
@@ -156,9 +156,9 @@ module _ (J : Group → List PairRow → Plans → Type 0) (fits : PairRow → T
   drops_walk xs [] (t ∷ next) s done follow j = absurd follow
   drops_walk xs (r ∷ rows) [] s done follow j = absurd follow
   drops_walk xs (r ∷ rows) (t ∷ next) s done follow j =
-      let calls = drop_call t (drop_between r.state t.state) in
+      let calls = drop_call t (owes r.state t.state) in
       let one : Walked J calls s (xs ++ t ∷ rows) done =
-      subst (λ (x : PairRow). Walked J (drop_call x (drop_between r.state t.state)) s (xs ++ x ∷ rows) done) (sym follow.0.same) (drop_one xs r rows t.state s done follow.0.stays j) in
+      subst (λ (x : PairRow). Walked J (drop_call x (owes r.state t.state)) s (xs ++ x ∷ rows) done) (sym follow.0.same) (drop_one xs r rows t.state s done follow.0.stays j) in
       let more = drops_walk (xs ++ t ∷ []) rows next (after_calls calls s) (plans_after_calls calls done) follow.1
       (subst (λ (all : List PairRow). J (after_calls calls s) all (plans_after_calls calls done)) (sym (append_assoc xs (t ∷ []) rows)) one.ends) in
       walked_then J calls (drops_in rows next) s (xs ++ t ∷ next) done one.may
@@ -398,7 +398,7 @@ same_drops change before [] (t ∷ next) follow states = absurd follow
 same_drops change before (r ∷ rows) [] follow states = absurd follow
 same_drops change before (r ∷ rows) (t ∷ next) follow states =
     let was : r.state ≡ state_by_command change before t = sym (states r t (Here rows) (Here next) follow.0.same) in
-    ap (λ (x : PairState). drop_call t (drop_between x t.state) ++ drops_in rows next) was
+    ap (λ (x : PairState). drop_call t (owes x t.state) ++ drops_in rows next) was
     ∙ ap (λ (calls : List Call). drop_calls change before t ++ calls) (same_drops change before rows next follow.1 (λ x y there among. states x y (Later r rows there) (Later t next among)))
 
 -- Suspensions leave each row's pair, so rows that don't clash don't behind them.

@@ -1,12 +1,13 @@
 -- What a session has that has just started.
 use Rattle.std.specs.Prelude.{◌≡◌, ℕ, ◌≤◌, [], length, false, Option}
-use Rattle.tod_stamp.specs.declared.limits.TheConstants.{MOST_CONTROLS}
+use Rattle.ckd_track.specs.declared.layout.TheConstants.{WRITES_OF_RUN}
+use Rattle.xrc_edge.specs.declared.limits.TheConstants.{MOST_CONTROLS}
 use Rattle.tod_stamp.specs.declared.stamp.Stamp.{Stamp}
 use Rattle.crash_plant.specs.declared.device.Device.TheVariants.{Volume}
 use Rattle.crash_plant.specs.Moments.{PlantState}
 use Rattle.xrc_command.specs.declared.line.Line.{Line}
 use Rattle.state_set.specs.Slots.{started_table}
-use Rattle.group_state.specs.Groups.{Group, most_records, new_group}
+use Rattle.group_state.specs.Groups.{Group, new_group}
 use Rattle.consistency.specs.Stages.{ScriptRun, Stage}
 use Rattle.fed_logs.specs.Logs.{Sizes}
 use Rattle.consistency.specs.Ways.{leg_at}
@@ -31,7 +32,7 @@ pub record HasJustStarted (tells : Type 0) (run : ScriptRun) (time : Stamp) (cou
   pub blocks : ℕ
   pub some : 1 ≤ controls
   pub few : controls ≤ MOST_CONTROLS
-  pub most : records ≤ most_records
+  pub most : records ≤ WRITES_OF_RUN
   pub shared : group ≡ new_group controls records blocks
   pub many : length run.traces ≡ controls
   pub volumes : ℕ

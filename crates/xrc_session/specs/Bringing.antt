@@ -5,7 +5,7 @@ use Rattle.applier.specs.Returns.{WorksOnLent}
 use Rattle.crash_plant.specs.Moments.{PlantState}
 use Rattle.pair_table.specs.Tables.{with_rows}
 use Rattle.record_rows.specs.ToldRows.{InPlaces}
-use Rattle.row_changes.specs.Spans.{is_settled}
+use Rattle.pair_table.specs.States.{is_settled}
 use Rattle.site_store.specs.Sites.{SiteState}
 use Rattle.write_trace.specs.declared.trace.Trace.{Trace}
 use Rattle.mover.specs.declared.lane.Lane.{Lane}

@@ -16,7 +16,7 @@ use Rattle.group_state.specs.Machine.{Call, group_after}
 use Rattle.group_state.specs.Machine.Call.{Carry, Drop, Forget, Resume}
 use Rattle.group_state.specs.Runs.{May}
 use Rattle.group_state.specs.SoundStates.{IsGroupSound}
-use Rattle.record_rows.specs.Hits.{is_device_suspended}
+use Rattle.pair_table.specs.States.{is_device_suspended}
 use Rattle.consistency.specs.Stages.{ScriptRun, tracks_of_row}
 use Rattle.fed_logs.specs.Logs.{Sizes}
 use Rattle.fed_logs.specs.Moves.{Plans}

@@ -6,7 +6,7 @@ use Rattle.crash_plant.specs.declared.device.Device.TheVariants.{Volume}
 use Rattle.crash_plant.specs.Calls.{Elapses, NoneLent, SameSite}
 use Rattle.crash_plant.specs.Moments.{Follows, PlantState, on}
 use Rattle.pair_table.specs.declared.row.PairRow.{PairRow}
-use Rattle.record_rows.specs.Hits.{is_device_suspended}
+use Rattle.pair_table.specs.States.{is_device_suspended}
 use Rattle.consistency.specs.Stages.{tracks_of_row}
 use Rattle.consistency.specs.Ways.{PassedPoint}
 use Rattle.mover.specs.Moves.{most_faults}

@@ -1,5 +1,6 @@
 -- What stands between two lines of a session: in memory and on the devices, and in a run.
 use Rattle.std.specs.Prelude.{◌≡◌, ℕ, ◌+◌, ◌≤◌, ◌<◌, List, [], length, true, false, Option, Some, None, IfSome, IsSomeAnd, MatchOption, IsTrue}
+use Rattle.xrc_edge.specs.declared.limits.TheConstants.{MOST_CONTROLS}
 use Rattle.ckd_track.specs.declared.layout.TheConstants.{BLOCKS_OF_QUEUE, WRITES_OF_RUN}
 use Rattle.crash_plant.specs.declared.device.Device.{Device}
 use Rattle.crash_plant.specs.declared.device.Device.TheVariants.{Volume}
@@ -86,7 +87,7 @@ pub record IsUnstarted {S : Type 0} (s : SessionState) (lanes : List (Lane S)) :
 -- A session stands between two lines, also on a plant that tells nothing.
 pub record IsBetween {S : Type 0} (tells : Type 0) (s : SessionState) (lanes : List (Lane S)) (plant : PlantState) : Type 0 where
   pub home : NoneLent plant
-  pub few : (1 ≤ s.controls) × (s.controls ≤ 16)
+  pub few : (1 ≤ s.controls) × (s.controls ≤ MOST_CONTROLS)
   pub many : length lanes ≡ s.controls
   pub lengths : HasLengths s.controls plant
   pub volumes : 1 ≤ plant.volumes

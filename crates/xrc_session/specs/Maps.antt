@@ -8,7 +8,7 @@ use Rattle.pair_table.specs.declared.row.SuspendCause.{SuspendCause}
 use Rattle.pair_table.specs.Rows.{is_suspended}
 use Rattle.pair_table.specs.Tables.{none_clash}
 use Rattle.record_rows.specs.Deeds.{Deed, rows_behind, rows_by_deed, time_by_deed}
-use Rattle.record_rows.specs.Hits.{is_by_device}
+use Rattle.pair_table.specs.States.{is_by_device}
 use Rattle.record_rows.specs.ToldRows.{InPlaces}
 use Rattle.change_map.specs.Sets.{has_track}
 use Rattle.write_trace.specs.declared.trace.Trace.{Trace}

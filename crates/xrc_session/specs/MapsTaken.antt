@@ -11,7 +11,7 @@ use Rattle.pair_table.specs.declared.row.PairState.TheVariants.{Suspended}
 use Rattle.pair_table.specs.declared.row.SuspendCause.{SuspendCause}
 use Rattle.pair_table.specs.Tables.{row_of}
 use Rattle.group_state.specs.Groups.{Group, control_at}
-use Rattle.record_rows.specs.Hits.{is_device_suspended}
+use Rattle.pair_table.specs.States.{is_device_suspended}
 use Rattle.passages.specs.Points.{last_point}
 use Rattle.consistency.specs.Stages.{ScriptRun, tracks_of_row}
 use Rattle.consistency.specs.Leads.{Point}

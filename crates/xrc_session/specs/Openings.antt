@@ -1,6 +1,7 @@
 -- What ends a run before its script is heard: the numbers of the site, the lengths of its devices, and the headers of the traces, in this order.
 use Rattle.std.specs.Prelude.{◌≡◌, ◌⊎◌, ℕ, ◌+◌, ◌*◌, ◌<◌, ◌==◌, ◌&&◌, List, [], ◌∷◌, ◌++◌, length, map, find, Bool, Option, Some, None, Result, Ok, Err, IsErrOf, IsSomeAnd, IsTrue, nat_le, nat_lt, bytes_eq, if◌then◌else◌, slice_index_or}
 use Rattle.std.specs.List.{list_all, list_any}
+use Rattle.xrc_edge.specs.declared.limits.TheConstants.{FEWEST_JOURNALS, MOST_JOURNALS, MOST_SITE_VOLUMES}
 use Rattle.xrc_edge.specs.Causes.{Rose}
 use Rattle.crash_plant.specs.declared.device.Device.{Device}
 use Rattle.crash_plant.specs.declared.device.Device.TheVariants.{Control, State, Journal, Volume}
@@ -10,6 +11,7 @@ use Rattle.write_trace.specs.declared.header.Header.{Header}
 use Rattle.write_trace.specs.declared.header.VolumeHead.{VolumeHead}
 use Rattle.write_trace.specs.declared.trace.HeaderError.{HeaderError}
 use Rattle.write_trace.specs.declared.trace.HeaderError.TheVariants as header
+use Rattle.write_trace.specs.Headers.{serial_place}
 use Rattle.write_trace.specs.Starts.{ReadsHeader}
 use Rattle.xrc_journal.specs.Lengths.{journal_length}
 use Rattle.pair_table.specs.Naming.{Naming, none_alike}
@@ -26,9 +28,9 @@ use Rattle.xrc_session.specs.Lanes.{AllTold, AllWent, SourceBytes, trace_given}
 
 -- ---- the site
 
--- There are as many traces as the session has controls, 2 to 16 journals, and 1 to 64 volumes.
+-- There are as many traces as the session has controls, and as many journals and volumes as a site has; one volume at least.
 abbrev pub has_site_numbers : (controls traces : ℕ) → PlantState → Bool
-has_site_numbers controls traces plant = traces == controls && (nat_le 2 plant.journals && nat_le plant.journals 16) && (nat_le 1 plant.volumes && nat_le plant.volumes 64)
+has_site_numbers controls traces plant = traces == controls && (nat_le FEWEST_JOURNALS plant.journals && nat_le plant.journals MOST_JOURNALS) && (nat_le 1 plant.volumes && nat_le plant.volumes MOST_SITE_VOLUMES)
 
 -- how many bytes a device needs in a session of so many controls; a volume's are no matter of its opening
 abbrev pub session_need : (controls : ℕ) → Device → ℕ
@@ -53,10 +55,6 @@ abbrev pub stop_of_site : (controls traces : ℕ) → PlantState → Option Stop
 stop_of_site controls traces plant = if has_site_numbers controls traces plant then stop_of_length controls (first_too_short controls plant) else Some BadSite
 
 -- ---- the headers
-
--- the place of a volume's serial in a header
-abbrev pub serial_place : (volume : ℕ) → ℕ
-serial_place v = 6 + v * 8
 
 abbrev pub is_named_in : (named : List (List ℕ)) → (serial : List ℕ) → Bool
 is_named_in named serial = list_any (bytes_eq serial) named

@@ -1,6 +1,7 @@
 -- What a crash may leave while a session begins: from a run's beginning until its start is answered.
 use Rattle.std.specs.Prelude.{◌≡◌, ◌≢◌, ◌⊎◌, ℕ, ◌<◌, ◌≤◌, ◌==◌, List, [], ◌++◌, length, false, Option, Some, None, Result, Ok, IfErr, IsErrOf, OnOk, IfSome, IsSomeAnd, MatchOption, codes, bytes_eq, if◌then◌else◌, IsTrue}
 use Rattle.std.specs.List.{All}
+use Rattle.xrc_edge.specs.declared.limits.TheConstants.{MOST_CONTROLS}
 use Rattle.crash_plant.specs.Calls.{Elapses, NoneLent, SameSite, Silent}
 use Rattle.crash_plant.specs.Choices.{AtEveryMoment, AtMoment, AtNow, Choice, IsChoice}
 use Rattle.crash_plant.specs.declared.device.Device.TheVariants.{Control, Journal, Volume}
@@ -212,7 +213,7 @@ pub record AreOwnSpent (run : ScriptRun) (s : Stage) (began now : PlantState) : 
 -- headers.
 pub record MayBeStarted {S : Type 0} (controls at : ℕ) (names : Naming) (group : Option Group) (lanes : List (Lane S)) (plant : PlantState) : Type 0 where
   pub time : 1 ≤ at
-  pub few : (1 ≤ controls) × (controls ≤ 16)
+  pub few : (1 ≤ controls) × (controls ≤ MOST_CONTROLS)
   pub home : NoneLent plant
   pub lengths : HasLengths controls plant
   pub labels : names.labels ≡ []

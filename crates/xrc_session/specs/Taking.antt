@@ -18,7 +18,7 @@ use Rattle.group_state.specs.Machine.{Call, group_after}
 use Rattle.group_state.specs.Machine.Call.{Carry, Drop, Forget, Resume}
 use Rattle.group_state.specs.Runs.{May}
 use Rattle.group_state.specs.SoundStates.{IsGroupSound}
-use Rattle.record_rows.specs.Hits.{is_by_device, is_device_suspended}
+use Rattle.pair_table.specs.States.{is_device_suspended, owes}
 use Rattle.record_rows.specs.ToldRows.{InPlaces}
 use Rattle.consistency.specs.Stages.{tracks_of_row}
 use Rattle.consistency.specs.Owing.{is_same_state}
@@ -126,21 +126,6 @@ command_calls change s before after = []
 
 -- ---- suspensions
 
--- Whether a suspension, by its own device or not, drops the volume of a row in this state, and if so, with all of its tracks. A duplex row owes
--- only what changes from then on, unless its own device suspends it. Every other row owes all of its tracks. The volume of a suspended row is
--- dropped again only if its device fails.
-abbrev pub drop_by : (was : PairState) → (by_device : Bool) → Option Bool
-drop_by Pending failed = Some true
-drop_by Copy failed = Some true
-drop_by Duplex failed = Some failed
-drop_by (Suspended cause since) failed = if failed && not (is_by_device cause) then Some true else None
-
-abbrev pub drop_between : (was is : PairState) → Option Bool
-drop_between was Pending = None
-drop_between was Copy = None
-drop_between was Duplex = None
-drop_between was (Suspended cause since) = drop_by was (is_by_device cause)
-
 abbrev pub drop_call : PairRow → Option Bool → List Call
 drop_call r None = []
 drop_call r (Some all) = Drop r.control r.volume all ∷ []
@@ -155,7 +140,7 @@ state_by_command change before r =
     if is_begun change r.device && not (stands_again (row_of r.device before) (Some r)) then Pending else state_or_pending (row_of r.device before)
 
 abbrev pub drop_calls : Change → (before : List PairRow) → PairRow → List Call
-drop_calls change before r = drop_call r (drop_between (state_by_command change before r) r.state)
+drop_calls change before r = drop_call r (owes (state_by_command change before r) r.state)
 
 -- ---- a change
 
@@ -167,7 +152,7 @@ calls_of_change change s before after = command_calls change s before after ++ f
 -- A row is as the command left it, but for a suspension that drops its volume.
 pub record IsSuspendedSince (r s : PairRow) : Type 0 where
   pub same : s ≡ in_state s.state r
-  pub stays : drop_between r.state s.state ≡ None → s.state ≡ r.state
+  pub stays : owes r.state s.state ≡ None → s.state ≡ r.state
 
 -- The row that a change adds is among those after it, and its control counts. One that it resumes is suspended, and its control counts.
 abbrev pub MayBeBegun : Group → Change → (before after : List PairRow) → Type 0

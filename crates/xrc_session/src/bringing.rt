@@ -1,6 +1,7 @@
 //! A session brought to the time of a line.
 
 ghost use Rattle.std.specs.Prelude.{◌≡◌, ◌≤◌, false, length, IsSomeAnd, OnOk};
+ghost use Rattle.xrc_edge.specs.declared.limits.TheConstants.{MOST_CONTROLS};
 ghost use Rattle.mover.specs.Epochs.{AreSameLanes};
 ghost use Rattle.xrc_session.specs.LinePauses.{HasCut, IsReadyForEpoch};
 ghost use Rattle.xrc_session.specs.Bringing.{BreakOnAsTraces, IsSiteBrought, IsWorkOfStore};
@@ -23,7 +24,7 @@ use xrc_status::Stop;
 
 /// Names the controls whose traces broke.
 fn name_broken<S>(names: &mut Names, traces: &[Lane<S>])
-    requires { length traces.now ≤ 16 }
+    requires { length traces.now ≤ MOST_CONTROLS }
     ensures { names.new ≡ with_lanes_broken 0 traces.now names.old }
 {
     for control in 0..traces.len() {

@@ -1,6 +1,7 @@
 //! What a session keeps beside its site.
 
 ghost use Rattle.std.specs.Prelude.{◌≡◌, ◌≤◌, Some, IfOk};
+ghost use Rattle.xrc_edge.specs.declared.limits.TheConstants.{MOST_CONTROLS};
 ghost use Rattle.group_state.specs.Groups.{new_group};
 
 use crate::rows::RowsBefore;
@@ -23,7 +24,7 @@ pub(crate) struct SessionParts {
 impl SessionParts {
     /// What a session of so many controls begins with.
     pub(crate) fn make(alloc: Global, names: Names, controls: u16) -> Result<SessionParts, NoMemory>
-        requires { (1 ≤ controls) × (controls ≤ 16) }
+        requires { (1 ≤ controls) × (controls ≤ MOST_CONTROLS) }
         ensures names { IfOk result (λ kept. kept.names ≡ names) }
         ensures group { IfOk result (λ kept. kept.group ≡ Some (new_group controls WRITES_OF_RUN BLOCKS_OF_QUEUE)) }
     {

@@ -1,6 +1,7 @@
 //! The labels of the volumes.
 
 ghost use Rattle.std.specs.Prelude.{◌+◌, ◌≡◌, ◌≤◌, ◌<◌, ◌++◌, [], None, Some, OnErr, OnOk, List};
+ghost use Rattle.xrc_edge.specs.declared.limits.TheConstants.{MOST_SITE_VOLUMES};
 ghost use Rattle.crash_plant.specs.Calls.{NoneLent, WorksOn};
 ghost use Rattle.site_store.specs.Commands.{LabelsFit};
 ghost use Rattle.site_store.specs.Records.{IsVolume, VolumesStay};
@@ -22,7 +23,7 @@ fn name_device<P: Plant>(
 ) -> Result<(), NoMemory>
     requires home { NoneLent (P.state plant.old) }
     requires there { device < (P.state plant.old).volumes }
-    requires few { (P.state plant.old).volumes ≤ 64 }
+    requires few { (P.state plant.old).volumes ≤ MOST_SITE_VOLUMES }
     requires fit { LabelsFit (P.state plant.old) names.old }
     // Its own label alone, if it gives one. It gives none if its count rose.
     ensures label { P.tells → OnOk result (NamesLabel (P.state plant.old) (P.state plant.new) device names.old names.new) }
@@ -46,7 +47,7 @@ pub(crate) fn name_devices<P: Plant>(
     names: &mut Names,
 ) -> Result<(), NoMemory>
     requires home { NoneLent (P.state plant.old) }
-    requires few { (P.state plant.old).volumes ≤ 64 }
+    requires few { (P.state plant.old).volumes ≤ MOST_SITE_VOLUMES }
     requires none { names.old.labels ≡ [] }
     ensures labels { P.tells → OnOk result (AreLabelsRead (P.state plant.old) (P.state plant.new) names.new.labels) }
     ensures others { OnOk result ((names.new.primaries ≡ names.old.primaries) × (names.new.broken ≡ names.old.broken)) }

@@ -8,16 +8,9 @@ ghost use Rattle.xrc_session.specs.Openings.{first_too_short, has_site_numbers, 
 ghost use Rattle.xrc_status.specs.declared.stop.Stop.{Stop as AnyStop};
 
 use crash_plant::{CONTROL_LENGTH, Device, Plant, STATE_LENGTH};
+use xrc_edge::{FEWEST_JOURNALS, MOST_JOURNALS, MOST_SITE_VOLUMES};
 use xrc_journal::journal_length;
 use xrc_status::Stop;
-
-/// How many journals a site may have.
-const FEWEST_JOURNALS: u16 = 2;
-
-const MOST_JOURNALS: u16 = 16;
-
-/// The most volumes that a site may have.
-const MOST_SITE_VOLUMES: u16 = 64;
 
 /// Whether a session of so many controls can run over so many traces on a site with these numbers of journals and volumes.
 fn has_numbers<P: Plant>(plant: &P, controls: u16, traces: usize) -> bool
@@ -25,7 +18,7 @@ fn has_numbers<P: Plant>(plant: &P, controls: u16, traces: usize) -> bool
 {
     traces == usize::from(controls)
         && (FEWEST_JOURNALS..=MOST_JOURNALS).contains(&plant.journals())
-        && (1..=MOST_SITE_VOLUMES).contains(&plant.volumes())
+        && (1..=MOST_SITE_VOLUMES as u16).contains(&plant.volumes())
 }
 
 /// That a device has the bytes that it needs.

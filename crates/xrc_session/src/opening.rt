@@ -1,14 +1,15 @@
 //! The headers of the traces.
 
 ghost use Rattle.std.specs.Prelude.{◌≡◌, ◌⊎◌, ◌<◌, ◌≤◌, ◌+◌, ◌*◌, ◌++◌, ◌∷◌, [], ℕ, length, None, Some, Ok, Err, IfErr, IsErrOf, OnOk, IsTrue, slice_index_or};
+ghost use Rattle.xrc_edge.specs.declared.limits.TheConstants.{MOST_CONTROLS, MOST_CONTROL_VOLUMES};
 ghost use Rattle.xrc_edge.specs.Causes.{Rose};
-ghost use Rattle.write_trace.specs.Headers.{are_volumes};
+ghost use Rattle.write_trace.specs.Headers.{are_volumes, serial_place};
 ghost use Rattle.consistency.specs.Stages.{volumes_named};
 ghost use Rattle.pair_table.specs.Naming.{none_alike};
 ghost use Rattle.xrc_status.specs.declared.stop.Stop.TheVariants.{HeaderFault, NoMemory};
 ghost use Rattle.mover.specs.Lanes.{reader_in};
 ghost use Rattle.xrc_session.specs.Lanes.{HaveNoReader, HaveVolumes, TurnOutFrom, primaries_in};
-ghost use Rattle.xrc_session.specs.Openings.{AreLanesOpened, AreSerialsNamed, IsOfControl, IsOfHeaders, NamesApart, OpensLane, StayGood, StopsByHeaders, first_named_again, serial_place, serials_in_header, stop_of_header};
+ghost use Rattle.xrc_session.specs.Openings.{AreLanesOpened, AreSerialsNamed, IsOfControl, IsOfHeaders, NamesApart, OpensLane, StayGood, StopsByHeaders, first_named_again, serials_in_header, stop_of_header};
 
 use mover::Lane;
 use pair_table::Names;
@@ -16,23 +17,9 @@ use primary_ctl::Primary;
 use sidefile::Sidefile;
 use std::alloc::Global;
 use tod_stamp::Serial;
-use write_trace::{HeaderError, VolumeHead, start};
+use write_trace::{HeaderError, VolumeHead, serial_place, start};
 use xrc_edge::Source;
 use xrc_status::Stop;
-
-/// The place of the first volume's serial in a header.
-const FIRST_SERIAL: u64 = 6;
-
-/// The bytes of a volume in a header: those of its serial, and of its cylinders.
-const VOLUME_LENGTH: u64 = 8;
-
-/// The place of a volume's serial in a header.
-fn serial_place(volume: usize) -> u64
-    requires { volume < 32 }
-    ensures { result ≡ serial_place volume }
-{
-    FIRST_SERIAL + volume as u64 * VOLUME_LENGTH
-}
 
 /// The stop of a trace's header that can't be read.
 fn stop_of_header(control: u16, error: HeaderError) -> Stop
@@ -47,7 +34,7 @@ fn stop_of_header(control: u16, error: HeaderError) -> Stop
 
 /// That no volume of a control has a serial that an earlier trace names.
 fn check_serials(control: u16, named: &[Serial], volumes: &[VolumeHead]) -> Result<(), Stop>
-    requires { length volumes.now ≤ 32 }
+    requires { length volumes.now ≤ MOST_CONTROL_VOLUMES }
     ensures ok { OnOk result (first_named_again named.now 0 volumes.now ≡ None) }
     ensures again { IfErr result (λ stop. (v : ℕ) × (first_named_again named.now 0 volumes.now ≡ Some v) × (stop ≡ Stop.BadHeader control (serial_place v))) }
 {
@@ -67,9 +54,9 @@ fn name_volumes(
     control: u16,
     volumes: &[VolumeHead],
 ) -> Result<(), Stop>
-    requires control { control < 16 }
+    requires control { control < MOST_CONTROLS }
     requires heads { IsTrue (are_volumes 1 [] volumes.now) }
-    requires few { length volumes.now ≤ 32 }
+    requires few { length volumes.now ≤ MOST_CONTROL_VOLUMES }
     requires apart { NamesApart control volumes.now named.old.items names.old }
     ensures ok { OnOk result ((names.new ≡ record names.old { primaries = names.old.primaries ++ volumes_named control 0 volumes.now }) × (named.new.items ≡ named.old.items ++ serials_in_header volumes.now)) }
     ensures stops { IfErr result (λ stop. stop ≡ NoMemory) }
@@ -89,7 +76,7 @@ fn open_lane<S: Source>(
     control: u16,
     lane: &mut Lane<S>,
 ) -> Result<(), Stop>
-    requires control { control < 16 }
+    requires control { control < MOST_CONTROLS }
     requires unread { reader_in lane.old ≡ None }
     requires named { AreSerialsNamed control named.old.items names.old }
     ensures named { OnOk result (AreSerialsNamed (control + 1) named.new.items names.new) }
@@ -116,7 +103,7 @@ pub(crate) fn open_lanes<S: Source>(
     names: &mut Names,
     traces: &mut [Lane<S>],
 ) -> Result<(), Stop>
-    requires few { length traces.old ≤ 16 }
+    requires few { length traces.old ≤ MOST_CONTROLS }
     requires unread { HaveNoReader traces.old }
     requires none { names.old.primaries ≡ [] }
     ensures named { OnOk result ((names.new.primaries ≡ primaries_in 0 traces.new) × IsTrue (none_alike names.new.primaries) × (names.new.labels ≡ names.old.labels) × (names.new.broken ≡ names.old.broken)) }

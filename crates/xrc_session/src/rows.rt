@@ -29,10 +29,8 @@ impl RowsBefore {
         ensures { self.new.rows.items ≡ table.now.rows }
     {
         self.rows.clear();
-        for place in 0..table.len() {
-            if let Some(row) = table.row(place) {
-                self.rows.push_reserved(*row);
-            }
+        for row in table.rows() {
+            self.rows.push_reserved(*row);
         }
     }
 

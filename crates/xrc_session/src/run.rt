@@ -1,6 +1,7 @@
 //! A session, line by line.
 
 ghost use Rattle.std.specs.Prelude.{◌≡◌, ◌⊎◌, ◌≤◌, true, false, Err, None, Some, IfErr, IfOk, IfSome, IsOk, IsSome, OnOk};
+ghost use Rattle.xrc_edge.specs.declared.limits.TheConstants.{MOST_CONTROLS};
 ghost use Rattle.crash_plant.specs.Calls.{HearsNothing, NoneLent, Silent};
 ghost use Rattle.consistency.specs.Stages.{ScriptRun};
 ghost use Rattle.mover.specs.Epochs.{AreSameLanes};
@@ -90,7 +91,7 @@ impl<V: Drop> SessionRun<V> {
         storage: u16,
         traces: &mut [Lane<S>],
     ) -> Result<SessionRun<V>, Stop>
-        requires storage { (1 ≤ storage) × (storage ≤ 16) }
+        requires storage { (1 ≤ storage) × (storage ≤ MOST_CONTROLS) }
         requires home { NoneLent (P.state plant.old) }
         requires unread { HaveNoReader traces.old }
         ensures opens { OpensInOrder S.left S.faults storage traces.old traces.new (P.state plant.old) result }

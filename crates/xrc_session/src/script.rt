@@ -1,6 +1,7 @@
 //! A script, heard to its end.
 
 ghost use Rattle.std.specs.Prelude.{◌≡◌, ◌⊎◌, ◌≤◌, List, None, Some, IfErr, OnOk};
+ghost use Rattle.xrc_edge.specs.declared.limits.TheConstants.{MOST_CONTROLS};
 ghost use Rattle.crash_plant.specs.Calls.{NoneLent};
 ghost use Rattle.xrc_session.specs.LinePauses.{IsBetween};
 ghost use Rattle.xrc_session.specs.Frames.{KeepsPlant};
@@ -74,7 +75,7 @@ pub fn run_script<R: Threads + Wait + Sync, S: Source + Send, P: Plant>(
     storage: u16,
     traces: &mut [Lane<S>],
 ) -> Result<(), Stop>
-    requires storage { (1 ≤ storage) × (storage ≤ 16) }
+    requires storage { (1 ≤ storage) × (storage ≤ MOST_CONTROLS) }
     requires home { NoneLent (P.state plant.old) }
     requires unread { HaveNoReader traces.old }
     // Numbers, lengths and headers come first, in this order, and then no device and no console is called.

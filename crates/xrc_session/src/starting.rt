@@ -1,6 +1,7 @@
 //! The start of a session.
 
 ghost use Rattle.std.specs.Prelude.{◌≡◌, ◌≤◌, ◌<◌, [], IfOk, OnOk};
+ghost use Rattle.xrc_edge.specs.declared.limits.TheConstants.{MOST_CONTROLS};
 ghost use Rattle.crash_plant.specs.Calls.{NoneLent};
 ghost use Rattle.mover.specs.Epochs.{AreSameLanes};
 ghost use Rattle.site_store.specs.Sites.{new_site};
@@ -43,7 +44,7 @@ fn format<P: Plant>(
     plant: &mut P,
 ) -> Result<Site<P::Volume>, Stop>
     requires time { 1 ≤ beginning.at.0 }
-    requires controls { (1 ≤ beginning.controls) × (beginning.controls ≤ 16) }
+    requires controls { (1 ≤ beginning.controls) × (beginning.controls ≤ MOST_CONTROLS) }
     requires home { NoneLent (P.state plant.old) }
     requires lengths { HasLengths beginning.controls (P.state plant.old) }
     requires unlabelled { names.old.labels ≡ [] }

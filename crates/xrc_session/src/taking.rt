@@ -6,12 +6,11 @@ ghost use Rattle.std.specs.Option.{option_copied};
 ghost use Rattle.pair_table.specs.Devices.{is_among};
 ghost use Rattle.pair_table.specs.Rows.{keeps_row_rules};
 ghost use Rattle.pair_table.specs.Tables.{row_of};
-ghost use Rattle.pair_table.specs.Rows.{cause_number};
 ghost use Rattle.pair_table.specs.declared.row.PairState.TheVariants.{Suspended};
-ghost use Rattle.record_rows.specs.Hits.{is_by_device, is_device_suspended};
+ghost use Rattle.pair_table.specs.States.{owes};
 ghost use Rattle.consistency.specs.Stages.{tracks_of_row};
 ghost use Rattle.xrc_session.specs.Taking.{AllMay, IsSoundForRows, MayTake, after_calls, calls_of_change, carry_calls, command_calls};
-ghost use Rattle.xrc_session.specs.Taking.{drop_between, drop_by, drop_call, drop_calls, forget_calls, is_adding, is_begun, is_suspended_as};
+ghost use Rattle.xrc_session.specs.Taking.{drop_call, drop_calls, forget_calls, is_adding, is_begun, is_suspended_as};
 ghost use Rattle.xrc_session.specs.Taking.{resume_calls, stands_again, state_by_command, tracks_owed_to, tracks_to_copy};
 
 use change_map::ChangeMap;
@@ -19,40 +18,8 @@ use copy_plan::CopyPlan;
 use group_state::GroupState;
 use pair_table::{Change, PairRow, PairState, PairTable, SuspendCause};
 use std::alloc::Global;
-use tod_stamp::{Stamp, TRACKS_OF_CYLINDER};
-use xrc_edge::NoMemory;
-
-/// Whether a pair is suspended by its own device.
-fn is_by_device(cause: SuspendCause) -> bool
-    ensures { result ≡ is_by_device cause }
-{
-    match cause {
-        SuspendCause::Device => true,
-        SuspendCause::Command | SuspendCause::Session | SuspendCause::Control => false,
-    }
-}
-
-/// Whether a row in this state is suspended by its own device.
-fn is_device_suspended(state: PairState) -> bool
-    ensures { result ≡ is_device_suspended state }
-{
-    match state {
-        PairState::Suspended { cause, since: _ } => is_by_device(cause),
-        PairState::Pending | PairState::Copy | PairState::Duplex => false,
-    }
-}
-
-/// The number of a cause. Each has its own.
-fn cause_number(cause: SuspendCause) -> u8
-    ensures { result ≡ cause_number cause }
-{
-    match cause {
-        SuspendCause::Command => 1,
-        SuspendCause::Device => 2,
-        SuspendCause::Session => 3,
-        SuspendCause::Control => 4,
-    }
-}
+use tod_stamp::Stamp;
+use xrc_edge::{NoMemory, TRACKS_OF_CYLINDER};
 
 /// Whether a row is suspended for a cause and since a time.
 fn is_suspended_by(was: PairState, cause: SuspendCause, since: Stamp) -> bool
@@ -62,7 +29,7 @@ fn is_suspended_by(was: PairState, cause: SuspendCause, since: Stamp) -> bool
         PairState::Suspended {
             cause: first,
             since: from,
-        } => cause_number(first) == cause_number(cause) && from.0 == since.0,
+        } => first.number() == cause.number() && from.0 == since.0,
         PairState::Pending | PairState::Copy | PairState::Duplex => false,
     }
 }
@@ -74,33 +41,6 @@ fn is_suspended_as(was: PairState, is: PairState) -> bool
     match is {
         PairState::Suspended { cause, since } => is_suspended_by(was, cause, since),
         PairState::Pending | PairState::Copy | PairState::Duplex => false,
-    }
-}
-
-/// Whether a suspension, by its own device or not, drops the volume of a row in this state, and if so, with all of its tracks.
-fn drop_by(was: PairState, by_device: bool) -> Option<bool>
-    ensures { result ≡ drop_by was by_device }
-{
-    match was {
-        PairState::Pending | PairState::Copy => Some(true),
-        PairState::Duplex => Some(by_device),
-        PairState::Suspended { cause, since: _ } => {
-            if by_device && !is_by_device(cause) {
-                Some(true)
-            } else {
-                None
-            }
-        }
-    }
-}
-
-/// Whether a row that goes from one state to another has its volume dropped by it, and if so, with all of its tracks.
-fn drop_between(was: PairState, is: PairState) -> Option<bool>
-    ensures { result ≡ drop_between was is }
-{
-    match is {
-        PairState::Suspended { cause, since: _ } => drop_by(was, is_by_device(cause)),
-        PairState::Pending | PairState::Copy | PairState::Duplex => None,
     }
 }
 
@@ -180,7 +120,7 @@ fn resume_row(group: &mut GroupState, was: &PairRow, after: Option<&PairRow>) ->
 {
     let tracks = group.resume(was.control, was.volume);
     if stands_again(Some(was), after) {
-        let all = is_device_suspended(was.state) || tracks != 0;
+        let all = was.state.is_suspended_by_device() || tracks != 0;
         group.drop_volume(was.control, was.volume, all);
     }
     tracks
@@ -240,10 +180,10 @@ fn take_command(
 
 /// Drops the volume of a row that was in another state, if that is to be dropped.
 fn drop_row(group: &mut GroupState, was: PairState, row: &PairRow)
-    requires may { AllMay (drop_call row.now (drop_between was row.now.state)) group.old }
-    ensures calls { group.new ≡ after_calls (drop_call row.now (drop_between was row.now.state)) group.old }
+    requires may { AllMay (drop_call row.now (owes was row.now.state)) group.old }
+    ensures calls { group.new ≡ after_calls (drop_call row.now (owes was row.now.state)) group.old }
 {
-    if let Some(all) = drop_between(was, row.state) {
+    if let Some(all) = was.owes(row.state) {
         group.drop_volume(row.control, row.volume, all);
     }
 }
@@ -253,10 +193,7 @@ fn drop_suspended(group: &mut GroupState, before: &[PairRow], table: &PairTable,
     requires may { AllMay (flat_map (drop_calls change.now before.now) table.now.rows) group.old }
     ensures calls { group.new ≡ after_calls (flat_map (drop_calls change.now before.now) table.now.rows) group.old }
 {
-    for place in 0..table.len() {
-        let Some(row) = table.row(place) else {
-            unreachable!()
-        };
+    for row in table.rows() {
         let was = state_by_command(change, before, row);
         drop_row(group, was, row);
     }

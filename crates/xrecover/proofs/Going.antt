@@ -16,7 +16,8 @@ use Rattle.pair_table.specs.Tables.{clashes, is_of, none_clash}
 use Rattle.site_means.proofs.ReadAll.{reads_none}
 use Rattle.xrc_journal.specs.Items.{Item}
 use Rattle.xrc_journal.specs.Jobs.{FailsByCount}
-use Rattle.xrecover.specs.Pairs.{HasDuplex, duplex_devices, is_duplex, is_duplex_of}
+use Rattle.xrecover.specs.Pairs.{HasDuplex, duplex_devices, is_duplex_of}
+use Rattle.pair_table.specs.States.{is_duplex}
 use Rattle.xrecover.specs.FinishedPairs.{FinishesPairs}
 use Rattle.xrecover.specs.Labels.{TreatsLabels}
 use Rattle.xrecover.specs.Works.{Nothing, OfOneVolume, Works}

@@ -24,7 +24,8 @@ use Rattle.applier.proofs.LentVolumes.{back_follows}
 use Rattle.site_means.specs.Answers.{IsExamined}
 use Rattle.pair_table.specs.declared.row.PairRow.{PairRow}
 use Rattle.pair_table.specs.Tables.{are_below, is_of}
-use Rattle.xrecover.specs.Pairs.{HasDuplex, is_duplex, is_duplex_of}
+use Rattle.xrecover.specs.Pairs.{HasDuplex, is_duplex_of}
+use Rattle.pair_table.specs.States.{is_duplex}
 use Rattle.xrecover.specs.SideVolumes.{AppliesSides, AreHome, AreSet, OfVolumes, is_left_alone, is_left}
 
 not_true : (b : Bool) → not b ≡ true → b ≡ false

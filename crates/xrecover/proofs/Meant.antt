@@ -24,7 +24,8 @@ use Rattle.volume_label.specs.Labels.{volume_need}
 use Rattle.xrecover.specs.declared.recover_error.RecoverError.{RecoverError}
 use Rattle.xrecover.specs.declared.recover_error.RecoverError.TheVariants.{Site, Other}
 use Rattle.xrecover.specs.Answers.{Behind, HasWalk, IsGoodOrCalledFor, IsMeant, IsOf, IsRecoverable, IsTooSmall}
-use Rattle.xrecover.specs.Pairs.{first_small, is_duplex}
+use Rattle.xrecover.specs.Pairs.{first_small}
+use Rattle.pair_table.specs.States.{is_duplex}
 use Rattle.xrecover.specs.Sights.{TellsDurable}
 
 -- The chosen mark has a walk where the devices mean something.

@@ -16,7 +16,8 @@ use Rattle.xrecover.specs.declared.labelling.Labelling.{Labelling}
 use Rattle.xrecover.specs.declared.labelling.Labelling.TheVariants.{AsPrimary, AsItIs}
 use Rattle.xrecover.specs.FinishedPairs.{FinishesPairs}
 use Rattle.xrecover.specs.Labels.{KeepsLabels, LabelsLast, TreatsLabels}
-use Rattle.xrecover.specs.Pairs.{AreFaulty, HasDuplex, SparesOthers, duplex_devices, is_duplex, is_duplex_of}
+use Rattle.xrecover.specs.Pairs.{AreFaulty, HasDuplex, SparesOthers, duplex_devices, is_duplex_of}
+use Rattle.pair_table.specs.States.{is_duplex}
 use Rattle.xrecover.specs.RedoneVolumes.{Draws, Recovers, Redone, SameLabel}
 use Rattle.xrecover.specs.SideVolumes.{AppliesSides, OfVolumes}
 use Rattle.xrecover.specs.Works.{Works}

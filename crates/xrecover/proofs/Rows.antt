@@ -11,7 +11,8 @@ use Rattle.pair_table.specs.declared.row.PairRow.{PairRow}
 use Rattle.pair_table.specs.Tables.{are_below, is_of}
 use Rattle.volume_label.specs.Labels.{volume_need}
 use Rattle.xrc_journal.specs.Items.{Item}
-use Rattle.xrecover.specs.Pairs.{HasDuplex, first_small, is_duplex, is_duplex_of, is_small}
+use Rattle.xrecover.specs.Pairs.{HasDuplex, first_small, is_duplex_of, is_small}
+use Rattle.pair_table.specs.States.{is_duplex}
 use Rattle.xrecover.specs.Works.{OfOneVolume}
 use Rattle.xrecover.specs.RedoneVolumes.{Recovers, Redoes}
 use Rattle.xrecover.proofs.Relations.{redoes_then}

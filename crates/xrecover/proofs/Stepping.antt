@@ -14,7 +14,8 @@ use Rattle.pair_table.specs.declared.row.PairRow.{PairRow}
 use Rattle.pair_table.specs.Tables.{AreRowsSound, are_below}
 use Rattle.xrecover.specs.declared.labelling.Labelling.{Labelling}
 use Rattle.xrecover.specs.FinishedPairs.{FinishesVolume}
-use Rattle.xrecover.specs.Pairs.{first_small, is_duplex}
+use Rattle.xrecover.specs.Pairs.{first_small}
+use Rattle.pair_table.specs.States.{is_duplex}
 use Rattle.xrecover.proofs.Going.{Going, apart_before, going_duplex, going_left, going_other, take_more}
 use Rattle.xrecover.proofs.Rows.{below_at, long_at}
 

@@ -7,7 +7,8 @@ use Rattle.pair_table.specs.declared.row.PairRow.{PairRow}
 use Rattle.xrc_journal.specs.Jobs.{FailsByCount}
 use Rattle.xrecover.specs.declared.labelling.Labelling.{Labelling}
 use Rattle.xrecover.specs.Labels.{TreatsLabel, TreatsLabels}
-use Rattle.xrecover.specs.Pairs.{HasDuplex, duplex_devices, is_duplex}
+use Rattle.xrecover.specs.Pairs.{HasDuplex, duplex_devices}
+use Rattle.pair_table.specs.States.{is_duplex}
 use Rattle.xrecover.specs.RedoneVolumes.{IsRedone, Recovers, Redoes}
 use Rattle.xrecover.specs.Works.{OfOneVolume, Works}
 

@@ -8,7 +8,7 @@ use Rattle.xrc_journal.specs.Items.{Item}
 use Rattle.volume_label.specs.Labels.{label_spelling}
 use Rattle.xrecover.specs.declared.labelling.Labelling.{Labelling}
 use Rattle.xrecover.specs.declared.labelling.Labelling.TheVariants.{AsPrimary, AsItIs}
-use Rattle.xrecover.specs.Pairs.{is_duplex}
+use Rattle.pair_table.specs.States.{is_duplex}
 use Rattle.xrecover.specs.RedoneVolumes.{Draws, SameLabel}
 
 -- Calls on a device leave its label: what a read gives has the same one, and at every moment so has whatever a crash leaves.

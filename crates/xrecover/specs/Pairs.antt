@@ -1,21 +1,14 @@
 -- The duplex pairs among rows, and whether their volumes are long enough.
-use Rattle.std.specs.Prelude.{◌≡◌, ℕ, ◌&&◌, List, find, filter, map, Bool, true, false, Option, nat_lt, IsTrue}
+use Rattle.std.specs.Prelude.{◌≡◌, ℕ, ◌&&◌, List, find, filter, map, Bool, Option, nat_lt, IsTrue}
 use Rattle.std.specs.List.{list_any}
 use Rattle.crash_plant.specs.declared.device.Device.{Device}
 use Rattle.crash_plant.specs.declared.device.Device.TheVariants.{Volume}
 use Rattle.crash_plant.specs.Moments.{PlantState}
-use Rattle.pair_table.specs.declared.row.PairState.{PairState}
-use Rattle.pair_table.specs.declared.row.PairState.TheVariants.{Pending, Copy, Duplex, Suspended}
 use Rattle.pair_table.specs.declared.row.PairRow.{PairRow}
+use Rattle.pair_table.specs.States.{is_duplex}
 use Rattle.pair_table.specs.Tables.{is_of}
 use Rattle.xrc_journal.specs.Jobs.{FailsByCount}
 use Rattle.volume_label.specs.Labels.{volume_need}
-
-abbrev pub is_duplex : PairState → Bool
-is_duplex Pending = false
-is_duplex Copy = false
-is_duplex Duplex = true
-is_duplex (Suspended cause since) = false
 
 -- whether a row is a device's, and duplex
 abbrev pub is_duplex_of : (device : ℕ) → PairRow → Bool

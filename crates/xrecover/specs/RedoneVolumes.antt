@@ -14,7 +14,8 @@ use Rattle.applier.specs.Slots.{BeginsWithTrack, IsApart}
 use Rattle.volume_label.specs.Labels.{label_spelling}
 use Rattle.xrecover.specs.declared.labelling.Labelling.{Labelling}
 use Rattle.xrecover.specs.declared.labelling.Labelling.TheVariants.{AsPrimary, AsItIs}
-use Rattle.xrecover.specs.Pairs.{HasDuplex, is_duplex}
+use Rattle.xrecover.specs.Pairs.{HasDuplex}
+use Rattle.pair_table.specs.States.{is_duplex}
 
 -- Only a label's 14 bytes, and the slots of the device's tracks of which an item is, may differ.
 pub record Redoes (device : ℕ) (items : List Item) (old new : List ℕ) : Type 0 where

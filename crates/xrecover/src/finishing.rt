@@ -11,7 +11,6 @@ ghost use Rattle.xrecover.specs.FinishedPairs.{FinishesPairs, FinishesVolume};
 ghost use Rattle.xrecover.specs.SideVolumes.{AreHome, is_left};
 
 use crate::Labelling;
-use crate::meaning::is_duplex;
 use crate::volumes::finish_volume;
 use applier::VolumeJob;
 use crash_plant::Plant;
@@ -57,7 +56,7 @@ pub(crate) fn finish_pairs<P: Plant>(
     let mut failed = failed;
     for place in 0..table.len() {
         let row = *table.row(place).unwrap();
-        if is_duplex(row.state) {
+        if row.state.is_duplex() {
             let left = jobs[usize::from(row.device)].failed;
             if finish_unless_left(plant, &row, left, labelling) {
                 failed.push_reserved(row.device);

@@ -13,29 +13,20 @@ ghost use Rattle.site_means.specs.Answers.{AllDurable, HasSpot, IsChosen, IsExam
 ghost use Rattle.volume_label.specs.Labels.{volume_need as volume_need};
 ghost use Rattle.xrecover.specs.declared.recover_error.RecoverError.{RecoverError as RecoverErrorValue};
 ghost use Rattle.xrecover.specs.declared.recover_error.RecoverError.TheVariants.{Other, Site};
-ghost use Rattle.xrecover.specs.Pairs.{first_small, is_duplex, is_small};
+ghost use Rattle.xrecover.specs.Pairs.{first_small, is_small};
 ghost use Rattle.xrecover.specs.Answers.{FailsSo, IsGoodOrCalledFor, IsMeant, IsRecoverable};
 ghost use Rattle.xrecover.specs.Sights.{TellsDurable};
 
 use crate::RecoverError;
 use control_set::Mark;
 use crash_plant::{Device, Plant};
-use pair_table::{PairRow, PairState, PairTable};
+use pair_table::{PairRow, PairTable};
 use site_means::{
     FirstRead, Means, SiteError, SiteReading, check_lengths, read_from_mark, read_mark,
 };
 use std::alloc::Global;
 use tod_stamp::Session;
 use volume_label::need;
-
-pub(crate) fn is_duplex(state: PairState) -> bool
-    ensures { result ≡ is_duplex state }
-{
-    match state {
-        PairState::Duplex => true,
-        _ => false,
-    }
-}
 
 /// That the mark is one of this session.
 fn check_session(mark: &Mark, session: Session) -> Result<(), RecoverError>
@@ -55,7 +46,7 @@ fn is_small<P: Plant>(plant: &P, row: &PairRow) -> bool
     requires there { row.now.device < (P.state plant.now).volumes }
     ensures { result ≡ is_small (P.state plant.now) row.now }
 {
-    is_duplex(row.state) && plant.length(Device::Volume(row.device)) < need(row.cylinders)
+    row.state.is_duplex() && plant.length(Device::Volume(row.device)) < need(row.cylinders)
 }
 
 /// The row of the first duplex pair whose volume is too small.
@@ -87,7 +78,7 @@ fn check_volumes<P: Plant>(plant: &P, table: &PairTable) -> Result<(), SiteError
 }
 
 /// The mark that counts, if it is this session's. Another session is told by its name, whatever the state holds.
-pub fn read_own_mark<P: Plant>(
+pub(crate) fn read_own_mark<P: Plant>(
     plant: &mut P,
     session: Session,
     first: FirstRead,

@@ -12,7 +12,6 @@ ghost use Rattle.site_means.specs.Answers.{IsExamined};
 ghost use Rattle.xrecover.specs.Pairs.{is_duplex_of};
 ghost use Rattle.xrecover.specs.SideVolumes.{AppliesSides, AreHome, AreToolsReady, AreSet, is_left};
 
-use crate::meaning::is_duplex;
 use applier::{VolumeJob, apply_body, give_back_all, lend_all};
 use ckd_track::Slot;
 use crash_plant::Plant;
@@ -40,7 +39,7 @@ fn has_duplex(table: &PairTable, device: u16) -> bool
     ensures { AreRowsSound table.now.rows → result ≡ list_any (is_duplex_of device) table.now.rows }
 {
     match table.row_of(device) {
-        Some(row) => is_duplex(row.state),
+        Some(row) => row.state.is_duplex(),
         None => false,
     }
 }

@@ -1,6 +1,6 @@
 use Rattle.std.proofs.Common.{rules, ◌≡◌, inl, inr, ◌<◌, ◌≤◌, ℕ, Option, Some, None, get_or, set, length, sym, ap, ◌∙◌, arith}
 use Rattle.std.specs.Prelude.{slice_get}
-use Rattle.std.specs.Option.{option_copied}
+use Rattle.image_former.proofs.Lists.{item_there}
 use Rattle.std.proofs.lemmas.Bool.{cases_eq}
 use Rattle.std.proofs.lemmas.List.{get_or-set_same, get_or-set_other, length-replicate, length-set}
 use Rattle.std.proofs.lemmas.Option.{same_Some, slice_get_within}
@@ -14,26 +14,24 @@ loop-place-init c = let none : Option PairState = None in record { long = length
 pub loop-place-preserved : goal.loop-place-preserved
 loop-place-preserved c =
     let rows = c.args.table.now.rows in
-    let row = c.in-Some.row.now in
+    let row = c.row-item.result in
     let i = c.loop-place.place in
-    let k = c.from.result in
     let states = c.loop-place.states in
     let inv = c.loop-place.invariant in
-    let from : k ≡ i = search (rules, c.from.ensures) in
-    let there : slice_get rows i ≡ Some row = sym c.row.ensures.row ∙ ap (λ (o : Option _). option_copied o) c.in-Some.is in
-    let few : length rows ≤ 64 = c.len-place-end.ensures.rules.few in
+    let there : slice_get rows i ≡ Some row = item_there c.rows-row-items.result.now rows i row c.rows-row-items.ensures.rows c.loop-place-test.true c.row-item.is in
+    let few : length rows ≤ 64 = c.rows-row-items.ensures.sound.few in
     let within : i < length rows = slice_get_within rows i row there in
-    let low : k < length states = omega (arith, within, few, from, inv.long) in
+    let low : i < length states = omega (arith, within, few, inv.long) in
     let state = λ (x : PairRow). let s : Option PairState = Some x.state in s in
     record {
-      long = length-set states k (Some row.state) ∙ inv.long;
-      are = λ j r lt at. elim (cases_eq j k) [
-        | inl e ↦ ap (λ (n : ℕ). get_or (set states k (Some row.state)) n None) e ∙ get_or-set_same states k (Some row.state) None low ∙ ap state (same_Some row r (sym there ∙ ap (slice_get rows) (sym (e ∙ from)) ∙ at))
-        | inr n ↦ get_or-set_other states k j (Some row.state) None n ∙ inv.are j r (omega (arith, lt, n, from)) at
+      long = length-set states i (Some row.state) ∙ inv.long;
+      are = λ j r lt at. elim (cases_eq j i) [
+        | inl e ↦ ap (λ (n : ℕ). get_or (set states i (Some row.state)) n None) e ∙ get_or-set_same states i (Some row.state) None low ∙ ap state (same_Some row r (sym there ∙ ap (slice_get rows) (sym e) ∙ at))
+        | inr n ↦ get_or-set_other states i j (Some row.state) None n ∙ inv.are j r (omega (arith, lt, n)) at
       ];
     }
 
 pub returns-clause-states : goal.returns-clause-states
 returns-clause-states c place r at =
     let within = slice_get_within c.args.table.now.rows place r at in
-    c.loop-place.invariant.are place r (omega (arith, within, c.len-place-end.ensures.count, c.loop-place-test.false)) at
+    c.loop-place.invariant.are place r (omega (arith, within, ap length c.rows-row-items.ensures.rows, c.loop-place-test.false)) at

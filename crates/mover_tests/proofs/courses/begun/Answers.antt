@@ -1,5 +1,5 @@
 use Rattle.std.proofs.Common.{rules, ◌≡◌, ◌≤◌, sym, subst, ◌∙◌}
-use Rattle.tod_stamp.specs.declared.limits.TheConstants.{MOST_CONTROLS}
+use Rattle.xrc_edge.specs.declared.limits.TheConstants.{MOST_CONTROLS}
 use Rattle.pair_table.specs.declared.names.NamedVolume.{NamedVolume}
 use Rattle.pair_table.specs.Naming.{Naming}
 use Rattle.mover_tests.specs.Courses.{AreOpened}

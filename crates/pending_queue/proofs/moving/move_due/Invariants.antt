@@ -1,6 +1,6 @@
 use Rattle.std.proofs.Common.{◌≡◌, ◌≤◌, ◌+◌, ◌*◌, ◌++◌, length, IsTrue}
+use Rattle.ckd_track.specs.declared.layout.TheConstants.{WRITES_OF_RUN}
 use Rattle.pending_queue.specs.Entries.{entries_never_fall, due, left, stands_before}
-use Rattle.pending_queue.specs.Groups.{most_of_control}
 use Rattle.pending_queue.specs.Waitings.{SameMemory}
 use Rattle.xrc_edge.specs.Order.{in_order, is_in_order}
 use Rattle.pending_queue.proofs.moving.move_due.Given as goal
@@ -9,7 +9,7 @@ abbrev pub invariant-loop-cut : goal.invariant-loop-cut
 invariant-loop-cut l = record {
   rising : IsTrue (entries_never_fall 0 l.waiting.entries);
   ordered : IsTrue (is_in_order stands_before l.entries.entries);
-  room : length l.entries.entries + length (due l.cut l.waiting.entries) ≤ most_of_control * l.entries.controls;
+  room : length l.entries.entries + length (due l.cut l.waiting.entries) ≤ WRITES_OF_RUN * l.entries.controls;
   controls : l.entries.controls ≡ l.initial.entries.controls;
   same : SameMemory l.initial.waiting l.waiting;
   stays : left l.cut l.waiting.entries ≡ left l.cut l.initial.waiting.entries;

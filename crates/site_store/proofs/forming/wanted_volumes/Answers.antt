@@ -19,16 +19,16 @@ pub device_of-requires : goal.device_of-requires
 device_of-requires c = some_row _ (λ d. d < 64) (device_at c.args.table.now.rows c.args.formed.now.entries c.loop-place.place c.head.result (λ d. d < 64) c.head.ensures c.requires)
 
 pub bounds-wanted-device_of : goal.bounds-wanted-device_of
-bounds-wanted-device_of c = subst (λ (o : Option ℕ). IsSomeAnd o (λ d. d < 64)) c.device_of.ensures (device_at c.args.table.now.rows c.args.formed.now.entries c.loop-place.place c.head.result (λ d. d < 64) c.head.ensures c.requires)
+bounds-wanted-device_of c = subst (λ (o : Option ℕ). IsSomeAnd o (λ d. d < 64)) c.device_of.ensures.device (device_at c.args.table.now.rows c.args.formed.now.entries c.loop-place.place c.head.result (λ d. d < 64) c.head.ensures c.requires)
 
 pub loop-place-preserved : goal.loop-place-preserved
 loop-place-preserved c =
     let rows = c.args.table.now.rows in
     let entries = c.args.formed.now.entries in
-    let low : c.device_of.result < 64 = subst (λ (o : Option ℕ). IsSomeAnd o (λ d. d < 64)) c.device_of.ensures (device_at rows entries c.loop-place.place c.head.result (λ d. d < 64) c.head.ensures c.requires) in
+    let low : c.device_of.result < 64 = subst (λ (o : Option ℕ). IsSomeAnd o (λ d. d < 64)) c.device_of.ensures.device (device_at rows entries c.loop-place.place c.head.result (λ d. d < 64) c.head.ensures c.requires) in
     record {
       long = length-set c.loop-place.wanted c.device_of.result true ∙ c.loop-place.invariant.long;
-      are = λ d lt. wanted_more rows entries c.loop-place.wanted c.loop-place.place c.device_of.result c.head.result c.head.ensures c.device_of.ensures (omega (arith, low, c.loop-place.invariant.long)) d (c.loop-place.invariant.are d lt);
+      are = λ d lt. wanted_more rows entries c.loop-place.wanted c.loop-place.place c.device_of.result c.head.result c.head.ensures c.device_of.ensures.device (omega (arith, low, c.loop-place.invariant.long)) d (c.loop-place.invariant.are d lt);
       written = written_more entries c.loop-place.place (omega (arith, c.loop-place-test.true, c.count-place-end.ensures)) c.entry.ensures.write c.loop-place.invariant.written;
     }
 

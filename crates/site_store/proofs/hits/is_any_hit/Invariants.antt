@@ -5,5 +5,5 @@ use Rattle.site_store.specs.Jobs.{has_job_failed}
 use Rattle.site_store.proofs.hits.is_any_hit.Given as goal
 
 -- no row before is hit
-abbrev pub invariant-loop-place : goal.invariant-loop-place
-invariant-loop-place g l = list_any (is_hit_now (map has_job_failed l.jobs)) (take l.place l.table.rows) ≡ false
+abbrev pub invariant-loop-row : goal.invariant-loop-row
+invariant-loop-row g l = list_any (is_hit_now (map has_job_failed l.jobs)) (take l.row-index l.table.rows) ≡ false

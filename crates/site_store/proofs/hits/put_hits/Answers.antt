@@ -1,41 +1,41 @@
-use Rattle.std.proofs.Common.{◌≡◌, ◌+◌, Option, Some, None, sym, ap, subst, ◌∙◌, arith}
+use Rattle.std.proofs.Common.{◌≡◌, ◌+◌, length, Option, Some, None, sym, ap, subst, ◌∙◌, arith}
 use Rattle.std.specs.Prelude.{slice_get}
-use Rattle.std.specs.Option.{option_copied}
+use Rattle.image_former.proofs.Lists.{item_there}
 use Rattle.xrc_journal.specs.Bodies.{BodyState}
 use Rattle.site_store.specs.Hits.{with_hits}
 use Rattle.site_store.proofs.HitRows.{row_below}
 use Rattle.site_store.proofs.RowPuts.{Puts, changed_is_row, changed_length, puts_none, puts_one, row_at_is}
 use Rattle.site_store.proofs.hits.put_hits.Goals as goal
-use Rattle.site_store.proofs.hits.put_hits.Goals.{in-Some-next_state, in_default-next_state}
+use Rattle.site_store.proofs.hits.put_hits.Goals.{in-Some, in_default}
 
 pub put_row-requires-clause-fits : goal.put_row-requires-clause-fits
 put_row-requires-clause-fits c =
     let rows = c.args.table.now.rows in
-    let row = c.in-Some.row.now in
-    let there : slice_get rows c.loop-place.place ≡ Some row = sym c.row.ensures.row ∙ ap (λ (o : Option _). option_copied o) c.in-Some.is in
-    let long = changed_length c.in-Some-next_state.state row c.in-Some-next_state.ensures.valid (row_at_is rows c.loop-place.place row c.len-place-end.ensures.rules.each there) in
-    omega (arith, long, c.loop-place.invariant.long, c.loop-place.invariant.room, c.len-place-end.ensures.rules.few, c.len-place-end.ensures.count, c.loop-place-test.true, c.requires.room)
+    let row = c.row-item.result in
+    let there : slice_get rows c.loop-row.row-index ≡ Some row = item_there c.rows-row-items.result.now rows c.loop-row.row-index row c.rows-row-items.ensures.rows c.loop-row-test.true c.row-item.is in
+    let long = changed_length c.in-Some.state row c.in-Some.ensures.valid (row_at_is rows c.loop-row.row-index row c.rows-row-items.ensures.sound.each there) in
+    omega (arith, long, c.loop-row.invariant.long, c.loop-row.invariant.room, c.rows-row-items.ensures.sound.few, ap length c.rows-row-items.ensures.rows, c.loop-row-test.true, c.requires.room)
 
-pub loop-place-preserved : goal.loop-place-preserved
-loop-place-preserved c =
+pub loop-row-preserved : goal.loop-row-preserved
+loop-row-preserved c =
     let next_of = with_hits c.args.hits.now in
     let rows = c.args.table.now.rows in
-    let i = c.loop-place.place in
-    let row = c.in-Some.row.now in
-    let there : slice_get rows i ≡ Some row = sym c.row.ensures.row ∙ ap (λ (o : Option _). option_copied o) c.in-Some.is in
+    let i = c.loop-row.row-index in
+    let row = c.row-item.result in
+    let there : slice_get rows i ≡ Some row = item_there c.rows-row-items.result.now rows i row c.rows-row-items.ensures.rows c.loop-row-test.true c.row-item.is in
     elim c.match-next_state.branch [
-      | in-Some-next_state w ↦
-          let state = w.in-Some-next_state.state in
-          let next : next_of row ≡ Some state = sym c.next_state.ensures.state ∙ w.in-Some-next_state.is in
-          let is_one = changed_is_row state row w.in-Some-next_state.ensures.valid (row_at_is rows i row c.len-place-end.ensures.rules.each there) in
-          puts_one next_of c.args.body.now c.loop-place.body rows i row there c.loop-place.invariant state c.match-next_state.body next is_one (w.body-is ∙ w.put_row.ensures)
-      | in_default-next_state w ↦
-          let none : next_of row ≡ None = sym c.next_state.ensures.state ∙ w.in_default-next_state.is in
-          subst (λ (h : BodyState). Puts next_of c.args.body.now h rows (i + 1)) (sym w.body-is) (puts_none next_of c.args.body.now c.loop-place.body rows i row there c.loop-place.invariant none)
+      | in-Some w ↦
+          let state = w.in-Some.state in
+          let next : next_of row ≡ Some state = sym c.next_state.ensures.state ∙ w.in-Some.is in
+          let is_one = changed_is_row state row w.in-Some.ensures.valid (row_at_is rows i row c.rows-row-items.ensures.sound.each there) in
+          puts_one next_of c.args.body.now c.loop-row.body rows i row there c.loop-row.invariant state c.match-next_state.body next is_one (w.body-is ∙ w.put_row.ensures)
+      | in_default w ↦
+          let none : next_of row ≡ None = sym c.next_state.ensures.state ∙ w.in_default.is in
+          subst (λ (h : BodyState). Puts next_of c.args.body.now h rows (i + 1)) (sym w.body-is) (puts_none next_of c.args.body.now c.loop-row.body rows i row there c.loop-row.invariant none)
     ]
 
 pub next_state-requires : goal.next_state-requires
 next_state-requires c =
     let rows = c.args.table.now.rows in
-    let there : slice_get rows c.loop-place.place ≡ Some c.in-Some.row.now = sym c.row.ensures.row ∙ ap (λ (o : Option _). option_copied o) c.in-Some.is in
-    row_below 64 rows c.loop-place.place c.in-Some.row.now c.requires.below there
+    let there : slice_get rows c.loop-row.row-index ≡ Some c.row-item.result = item_there c.rows-row-items.result.now rows c.loop-row.row-index c.row-item.result c.rows-row-items.ensures.rows c.loop-row-test.true c.row-item.is in
+    row_below 64 rows c.loop-row.row-index c.row-item.result c.requires.below there

@@ -1,10 +1,11 @@
-use Rattle.std.proofs.Common.{◌≤◌, ◌&&◌, inl, inr, not, Bool, false, List, length, map, get_or, sym, ap, ◌∙◌, arith}
+use Rattle.std.proofs.Common.{◌≤◌, ◌&&◌, inl, inr, not, Bool, false, List, length, map, get_or, sym, ap, subst, ◌∙◌, arith}
 use Rattle.std.proofs.lemmas.Bool.{cases_lt}
 use Rattle.std.proofs.lemmas.List.{length-map}
+use Rattle.tod_stamp.specs.declared.stamp.Stamp.{Stamp}
 use Rattle.site_means.specs.Walk.{first_unfit}
 use Rattle.xrc_journal.specs.Bodies.{BodyState}
 use Rattle.xrc_journal.specs.Items.{Item}
-use Rattle.site_store.specs.Hits.{pairs_with_next, with_group_and_hits}
+use Rattle.site_store.specs.Hits.{AreHits, pairs_with_next, with_group_and_hits}
 use Rattle.site_store.specs.Jobs.{has_job_failed}
 use Rattle.site_store.proofs.Below.{below_volumes}
 use Rattle.site_store.proofs.DueItems.{due_items, flags_past, none_past}
@@ -13,8 +14,8 @@ use Rattle.site_store.proofs.FormedItems.{formed_keep, pairs_are, pairs_lead}
 use Rattle.site_store.proofs.RecordPairsFit.{formed_fit}
 use Rattle.site_store.proofs.logging.form_record.Goals as goal
 
-pub hits_at-hits-requires-clause-below : goal.hits_at-hits-requires-clause-below
-hits_at-hits-requires-clause-below g c =
+pub hits_behind_mark-hits-requires-clause-below : goal.hits_behind_mark-hits-requires-clause-below
+hits_behind_mark-hits-requires-clause-below g c =
     let old = g.P.Plant.state c.args.plant.now in
     let same = c.form_group.ensures.fails.size in
     let many : old.volumes ≤ length c.form_group.new.jobs = omega (arith, c.requires.may.volumes, same, length-map c.form_group.new.jobs has_job_failed, length-map c.args.jobs.now has_job_failed) in
@@ -28,7 +29,7 @@ returns-clause-forms g c =
     let old = g.P.Plant.state c.args.plant.now in
     let rows = c.args.table.now.rows in
     let entries = c.args.formed.now.entries in
-    let next = with_group_and_hits c.args.formed.now c.hits_at-hits.result in
+    let next = with_group_and_hits c.args.formed.now c.hits_behind_mark-hits.result in
     let images = c.form_group.new.body.items in
     let parts = ap (λ (h : BodyState). h.items) c.put_changed.ensures.put in
     record {
@@ -56,3 +57,7 @@ returns-clause-forms g c =
                 ∙ ap (λ (b : Bool). b && not (get_or (map has_job_failed c.form_group.new.jobs) d false)) (sym (none_past old rows entries d c.requires.may.have c.requires.may.entries (omega (arith, past, c.form_group.auto.due, c.requires.may.flags, c.requires.may.volumes)))) ∙ same
           ];
     }
+
+pub returns-clause-hits : goal.returns-clause-hits
+returns-clause-hits g c = λ marked are.
+    subst (λ (time : Stamp). AreHits c.args.reach.level time (map has_job_failed c.form_group.new.jobs) marked c.args.table.now.rows c.hits_behind_mark-hits.result) c.cut.ensures (c.hits_behind_mark-hits.ensures.hits marked are)

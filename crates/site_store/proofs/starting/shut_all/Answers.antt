@@ -3,7 +3,7 @@ use Rattle.crash_plant.specs.declared.device.Device.{Device}
 use Rattle.crash_plant.specs.declared.device.Device.TheVariants.{Control, Journal}
 use Rattle.crash_plant.proofs.Steps.{works_on_more, works_on_trans}
 use Rattle.control_set.specs.Slots.{NoGateOpen}
-use Rattle.site_store.specs.Formats.{IsFormatted}
+use Rattle.site_store.specs.Formats.{AreZeroed, IsFormatted}
 use Rattle.site_store.proofs.Calls.{durable_still}
 use Rattle.site_store.proofs.Fresh.{shut_control, shut_journal}
 use Rattle.site_store.proofs.starting.shut_all.Goals as goal
@@ -46,3 +46,11 @@ returns-clause-moments g c told durable =
 pub returns-clause-only : goal.returns-clause-only
 returns-clause-only g c =
     works_on_trans g.P.Plant.tells _ _ _ _ (works_on_more g.P.Plant.tells _ IsFormatted _ _ control_formatted c.shut_gates.ensures.only) (works_on_more g.P.Plant.tells _ IsFormatted _ _ journal_formatted c.put_down.ensures.only)
+
+pub returns-clause-zeroed : goal.returns-clause-zeroed
+returns-clause-zeroed g c told =
+    let old = g.P.Plant.state c.args.plant.now in
+    subst (λ (l : List ℕ). AreZeroed (old.bytes Control) l) (sym (c.put_down.ensures.only.others told Control (λ same. cc same)).bytes) (c.in-Ok.ensures.zeroed told)
+
+pub returns-clause-first : goal.returns-clause-first
+returns-clause-first g c told = ap (λ (l : List ℕ). slice_index l 0) (c.in-Ok-put_down.ensures.written told)

@@ -4,7 +4,7 @@ use Rattle.crash_plant.specs.Moments.{on}
 use Rattle.crash_plant.proofs.Steps.{works_on_trans}
 use Rattle.control_set.specs.Slots.{lengths_of}
 use Rattle.site_store.specs.declared.starting.SlotFront.{SlotFront}
-use Rattle.site_store.proofs.Shutting.{both_follow, half_low, none_open, on_ok_both, one_follows, other_stays}
+use Rattle.site_store.proofs.Shutting.{both_follow, half_low, none_open, on_ok_both, one_follows, other_halves, other_stays}
 use Rattle.site_store.proofs.starting.shut_both.Goals as goal
 
 pub shut_gate-requires-clause-place : goal.shut_gate-requires-clause-place
@@ -54,3 +54,11 @@ returns-clause-shut g c told =
 
 pub returns-clause-only : goal.returns-clause-only
 returns-clause-only g c = works_on_trans g.P.Plant.tells _ _ _ _ c.shut_gate.ensures.only c.shut_gate-2.ensures.only
+
+pub returns-clause-idle : goal.returns-clause-idle
+returns-clause-idle g c told =
+    let mid = g.P.Plant.state c.shut_gate.new.plant in
+    let new = g.P.Plant.state c.shut_gate-2.new.plant in
+    on_ok_both c.shut_gate-2.result
+    (λ off torn on. other_stays c.args.counted.place c.args.idle.place (mid.bytes Control) (new.bytes Control) (other_halves c.args.idle.place c.args.counted.place c.requires.places) torn ∙ c.in_ok-shut_gate.ensures.zero told on)
+    (c.shut_gate-2.ensures.shut told) (c.shut_gate-2.ensures.torn told)

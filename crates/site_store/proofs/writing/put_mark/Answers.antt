@@ -1,11 +1,11 @@
-use Rattle.std.proofs.Common.{ℕ, List, sym, ap, subst, ◌∙◌}
+use Rattle.std.proofs.Common.{ℕ, List, sym, ap, subst, ◌∙◌, arith, rules}
 use Rattle.crash_plant.specs.declared.device.Device.TheVariants.{Control, State}
 use Rattle.crash_plant.proofs.Steps.{works_on_more, works_on_trans}
 use Rattle.control_set.specs.Slots.{IsNext, chosen_mark, free_place, lengths_of}
 use Rattle.control_set.proofs.Lengths.{same_lengths}
 use Rattle.state_set.specs.Slots.{state_length, state_of}
 use Rattle.site_store.proofs.Calls.{durable_still}
-use Rattle.site_store.proofs.Puts.{control_marked, puts_both, puts_state, state_marked}
+use Rattle.site_store.proofs.Puts.{control_marked, puts_both, puts_state, second_stays, state_marked}
 use Rattle.site_store.proofs.writing.put_mark.Goals as goal
 
 pub returns-in_default-clause-moments : goal.returns-in_default-clause-moments
@@ -61,3 +61,13 @@ returns-clause-put g c told =
 pub returns-clause-only : goal.returns-clause-only
 returns-clause-only g c =
     works_on_trans g.P.Plant.tells _ _ _ _ (works_on_more g.P.Plant.tells _ _ _ _ state_marked c.put.ensures.only) (works_on_more g.P.Plant.tells _ _ _ _ control_marked c.mark.ensures.only)
+
+pub returns-clause-second : goal.returns-clause-second
+returns-clause-second g c told gates =
+    let old = g.P.Plant.state c.args.plant.now in
+    let mid = g.P.Plant.state c.put.new.plant in
+    let new = g.P.Plant.state c.mark.new.plant in
+    let size = g.met.P.Plant.length_told c.args.plant.now Control told tt in
+    second_stays (lengths_of mid) c.args.value.now (old.bytes Control) (mid.bytes Control) (new.bytes Control) (omega (arith, size, c.requires.control))
+    (record { number = search rules; session = search rules; state_slot = search rules; set = search rules; place = search rules; next = search rules; time = search rules })
+    gates (c.put.ensures.only.others told Control (λ same. cc same)).bytes (c.in-Ok-mark.ensures.written told)

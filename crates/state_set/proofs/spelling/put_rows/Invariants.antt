@@ -4,4 +4,4 @@ use Rattle.state_set.proofs.spelling.put_rows.Given as goal
 
 -- the rows so far
 abbrev pub invariant-loop-place : goal.invariant-loop-place
-invariant-loop-place l = take (30 * l.place) l.out ≡ rows_spelling (take l.place l.table.rows)
+invariant-loop-place l = take (30 * l.place) l.out ≡ rows_spelling (take l.place l.row-items)

@@ -1,5 +1,5 @@
 use Rattle.std.proofs.Common.{rules, ◌≡◌, ◌<◌, length, slice_index_or, ap, ◌∙◌}
-use Rattle.tod_stamp.specs.declared.limits.TheConstants.{TRACKS_OF_CYLINDER}
+use Rattle.xrc_edge.specs.declared.limits.TheConstants.{TRACKS_OF_CYLINDER}
 use Rattle.group_state.specs.Answers.{copy_reply}
 use Rattle.std.proofs.lemmas.Grind.{get_or_default_zero}
 use Rattle.mover_tests.proofs.Stepping.{told_copied}

@@ -154,3 +154,9 @@ returns-clause-moments g c told durable =
     let view = c.site.view_is ∙ c.in_ok-site.ensures in
     shut_or_means g.P.Plant.tells told c.args.session c.args.level c.args.at old mid c.shut_all.ensures.only (c.shut_all.ensures.moments told durable) new (c.in_ok-shut_all.ensures.shut told) c.requires.lengths.journals.0 c.put_mark.ensures.only
     (puts_first c.args.session c.args.level c.args.at c.site.inside.mark c.site.inside.table.rows mid new (ap (λ (s : SiteState). s.mark) view) (ap (λ (s : SiteState). s.table.rows) view) (c.put_mark.ensures.moments told))
+
+pub returns-clause-zeroed : goal.returns-clause-zeroed
+returns-clause-zeroed g c told = record {
+  second = λ on. c.in_ok-put_mark.ensures.second told (c.in_ok-shut_all.ensures.shut told).gates ∙ (c.in_ok-shut_all.ensures.zeroed told).second on;
+  first_record = ap (λ (l : List ℕ). slice_index l 0) (c.put_mark.ensures.only.others told (Journal 0) (λ no. no)).bytes ∙ c.in_ok-shut_all.ensures.first told;
+}

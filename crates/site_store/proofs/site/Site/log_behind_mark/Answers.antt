@@ -1,18 +1,20 @@
-use Rattle.std.proofs.Common.{◌≡◌, ◌^◌, ◌<◌, Bool, List, map, Result, Ok, refl, sym, ap, subst, ◌∙◌, arith, rules}
+use Rattle.std.proofs.Common.{◌≡◌, ◌^◌, ◌<◌, Bool, List, map, Result, Ok, Err, refl, sym, ap, subst, ◌∙◌, arith, rules}
 use Rattle.crash_plant.specs.declared.device.Device.TheVariants.{Journal}
+use Rattle.pair_table.specs.declared.level.Level.TheVariants.{Volume as VolumeLevel}
 use Rattle.pair_table.specs.declared.row.PairRow.{PairRow}
-use Rattle.record_rows.specs.Hits.{hit_now, rows_marked}
 use Rattle.site_store.specs.declared.store_error.StoreError.{StoreError}
 use Rattle.site_store.specs.declared.placement.Placement.TheVariants.{Marked}
 use Rattle.site_store.specs.Causes.{FailByCounts}
 use Rattle.crash_plant.specs.Choices.{Choice, IsChoice}
 use Rattle.site_store.specs.Changing.{DoesRows, FormsChange, changed_items, told_by_mark}
 use Rattle.site_store.specs.Jobs.{has_job_failed}
-use Rattle.site_store.specs.Marking.{MakesMark}
+use Rattle.site_store.specs.Marking.{MakesMark, rows_at_mark, unit_of}
 use Rattle.site_store.specs.Sites.{SiteState}
 use Rattle.site_store.specs.Standing.{Leaves, StandsFast, none_excepted}
 use Rattle.site_store.proofs.ChangeEnds.{behind_done, behind_leaves, behind_logs, forms_there, mark_fails, may_put_behind}
 use Rattle.site_store.proofs.ChangeFirst.{fail_first, record_works}
+use Rattle.site_store.proofs.MarkRows.{hits_alone}
+use Rattle.site_store.proofs.NextMark.{behind_ahead, makes_alone}
 use Rattle.site_store.proofs.RowEnds.{with_told_mark}
 use Rattle.site_store.proofs.RowRoom.{reads_choice, some_choice}
 use Rattle.site_store.proofs.Views.{at_error, ends_there, flags_below, jobs_below, keeps_still, may_put_there, second_of, shows_there, taken_view}
@@ -23,43 +25,50 @@ use Rattle.site_store.proofs.site.Site.log_behind_mark.Goals.{After-form_change}
 
 -- ---- the mark isn't made
 
-pub returns-in_err-mark_told-clause-moments : goal.returns-in_err-mark_told-clause-moments
-returns-in_err-mark_told-clause-moments g c =
+pub returns-in_err-mark_first-clause-moments : goal.returns-in_err-mark_first-clause-moments
+returns-in_err-mark_first-clause-moments g c =
     let site = c.args.self.now in
     let tells = g.P.Plant.tells in
     let old = g.P.Plant.state c.args.plant.now in
-    let k = c.mark_told in
+    let k = c.mark_first in
     let mid = g.P.Plant.state k.new.plant in
-    let same : k.result ≡ c.from_residual.result = search rules in
-    let makes = subst (λ (r : Result (Unit {0}) StoreError). MakesMark tells site.mark.ended (rows_marked site.time (hit_now k.new.self.failed site.told) site.told) site k.new.self old mid r) c.in_err-mark_told.was k.ensures.makes in
-    subst (λ (r : Result (Unit {0}) StoreError). DoesRows tells Marked c.args.cut.0 site k.new.self old mid r) (sym c.in_err-mark_told.was ∙ same) (mark_fails tells c.args.cut.0 site k.new.self old mid c.in_err-mark_told.field-0.0 c.requires.may.idle makes)
+    let error = c.in_err-mark_first.field-0.0 in
+    let is : c.from_residual.result ≡ Err error = search rules in
+    let makes = makes_alone tells site.mark.ended k.new.self.failed site k.new.self old mid (Err error) (subst (λ (r : Result (Unit {0}) StoreError). MakesMark tells site.mark.ended (rows_at_mark VolumeLevel site k.new.self.failed) site k.new.self old mid r) (ap unit_of c.in_err-mark_first.was) k.ensures.makes) in
+    subst (λ (r : Result (Unit {0}) StoreError). DoesRows tells Marked c.args.cut.0 site k.new.self old mid r) (sym is) (mark_fails tells c.args.cut.0 site k.new.self old mid error c.requires.may.idle makes)
 
 -- ---- the mark is made, and the record is formed behind it
 
 -- the rows of the mark, and the site behind it
 abbrev marked : (g : given.Over) (c : After-form_change g) → List PairRow
-marked g c = told_by_mark c.mark_told.new.self.failed c.args.self.now
+marked g c = told_by_mark c.mark_first.new.self.failed c.args.self.now
 
 abbrev here : (g : given.Over) (c : After-form_change g) → SiteState
-here g c = with_told_mark (marked g c) c.mark_told.new.self.failed c.args.self.now
+here g c = with_told_mark (marked g c) c.mark_first.new.self.failed c.args.self.now
 
-here_is : (g : given.Over) (c : After-form_change g) → c.mark_told.new.self ≡ here g c
-here_is g c = c.in_ok-mark_told.ensures.ok
+here_is : (g : given.Over) (c : After-form_change g) → c.mark_first.new.self ≡ here g c
+here_is g c =
+    let site = c.args.self.now in
+    let failed = c.mark_first.new.self.failed in
+    c.in_ok-mark_first.ensures.ok ∙ behind_ahead site.mark.ended (rows_at_mark VolumeLevel site failed) failed site (c.requires.may.ahead c.requires.some)
+    ∙ ap (λ (rows : List PairRow). with_told_mark rows failed site) (hits_alone site.time failed site.told)
 
-makes : (g : given.Over) (c : After-form_change g) → MakesMark g.P.Plant.tells c.args.self.now.mark.ended (marked g c) c.args.self.now (here g c) (g.P.Plant.state c.args.plant.now) (g.P.Plant.state c.mark_told.new.plant) (Ok tt)
+makes : (g : given.Over) (c : After-form_change g) → MakesMark g.P.Plant.tells c.args.self.now.mark.ended (marked g c) c.args.self.now (here g c) (g.P.Plant.state c.args.plant.now) (g.P.Plant.state c.mark_first.new.plant) (Ok tt)
 makes g c =
-    subst (λ (x : Type 0). x) (λ i. MakesMark g.P.Plant.tells c.args.self.now.mark.ended (marked g c) c.args.self.now (here_is g c i) (g.P.Plant.state c.args.plant.now) (g.P.Plant.state c.mark_told.new.plant) (c.in_ok-mark_told.was i)) c.mark_told.ensures.makes
+    let site = c.args.self.now in
+    makes_alone g.P.Plant.tells site.mark.ended c.mark_first.new.self.failed site (here g c) (g.P.Plant.state c.args.plant.now) (g.P.Plant.state c.mark_first.new.plant) (Ok tt)
+    (subst (λ (x : SiteState). MakesMark g.P.Plant.tells site.mark.ended (rows_at_mark VolumeLevel site c.mark_first.new.self.failed) site x (g.P.Plant.state c.args.plant.now) (g.P.Plant.state c.mark_first.new.plant) (Ok tt)) (here_is g c) c.in_ok-mark_first.ensures.makes)
 
-leaves : (g : given.Over) (c : After-form_change g) → Leaves g.P.Plant.tells (λ e. none_excepted) c.args.self.now (here g c) (g.P.Plant.state c.args.plant.now) (g.P.Plant.state c.mark_told.new.plant)
-leaves g c = subst (λ (x : SiteState). Leaves g.P.Plant.tells (λ e. none_excepted) c.args.self.now x (g.P.Plant.state c.args.plant.now) (g.P.Plant.state c.mark_told.new.plant)) (here_is g c) c.in_ok-mark_told.ensures.leaves
+leaves : (g : given.Over) (c : After-form_change g) → Leaves g.P.Plant.tells (λ e. none_excepted) c.args.self.now (here g c) (g.P.Plant.state c.args.plant.now) (g.P.Plant.state c.mark_first.new.plant)
+leaves g c = subst (λ (x : SiteState). Leaves g.P.Plant.tells (λ e. none_excepted) c.args.self.now x (g.P.Plant.state c.args.plant.now) (g.P.Plant.state c.mark_first.new.plant)) (here_is g c) c.in_ok-mark_first.ensures.leaves
 
-forms : (g : given.Over) (c : After-form_change g) → FormsChange c.args.self.now.level c.args.cut c.mark_told.new.self.failed c.args.change.now c.args.self.now.table.rows c.self.inside.body c.form_change.new.body
+forms : (g : given.Over) (c : After-form_change g) → FormsChange c.args.self.now.level c.args.cut c.mark_first.new.self.failed c.args.change.now c.args.self.now.table.rows c.self.inside.body c.form_change.new.body
 forms g c =
     let s = c.self.inside in
     let is = c.self.view_is ∙ here_is g c in
     let rows_are : s.table.rows ≡ c.args.self.now.table.rows = ap (λ (x : SiteState). x.table.rows) is in
     let formed = second_of c.form_change.result _ _ c.form_change.ensures.none c.form_change.ensures.forms (λ none. c.requires.some (ap (λ (l : List PairRow). changed_items c.args.change.now l) (sym rows_are) ∙ none)) in
-    forms_there s.level c.args.cut (map has_job_failed c.deref.result.now) c.mark_told.new.self.failed c.args.change.now s.table.rows c.args.self.now s.body c.form_change.new.body (ap (λ (x : SiteState). x.level) is)
+    forms_there s.level c.args.cut (map has_job_failed c.deref.result.now) c.mark_first.new.self.failed c.args.change.now s.table.rows c.args.self.now s.body c.form_change.new.body (ap (λ (x : SiteState). x.level) is)
     (ap (map has_job_failed) c.deref.ensures.value ∙ ap (λ (x : SiteState). x.failed) is) rows_are formed
 
 low : (g : given.Over) (c : After-form_change g) → c.args.self.now.at.number < 2 ^ 64
@@ -71,10 +80,10 @@ choice g c = some_choice g.P.Plant.tells (g.P.Plant.state c.args.plant.now) c.re
 -- ---- what its calls ask
 
 pub form_change-requires-clause-below : goal.form_change-requires-clause-below
-form_change-requires-clause-below g c = jobs_below _ c.mark_told.new.self (g.P.Plant.state c.mark_told.new.plant) c.self.view_is c.in_ok-mark_told.ensures.leaves.fits c.self.inside.jobs.items c.deref.result.now refl c.deref.ensures.value
+form_change-requires-clause-below g c = jobs_below _ c.mark_first.new.self (g.P.Plant.state c.mark_first.new.plant) c.self.view_is c.in_ok-mark_first.ensures.leaves.fits c.self.inside.jobs.items c.deref.result.now refl c.deref.ensures.value
 
 pub take_logged-requires-clause-below : goal.take_logged-requires-clause-below
-take_logged-requires-clause-below g c = flags_below _ c.mark_told.new.self (g.P.Plant.state c.mark_told.new.plant) c.self.view_is c.in_ok-mark_told.ensures.leaves.fits
+take_logged-requires-clause-below g c = flags_below _ c.mark_first.new.self (g.P.Plant.state c.mark_first.new.plant) c.self.view_is c.in_ok-mark_first.ensures.leaves.fits
 
 pub put_record-requires-clause-may : goal.put_record-requires-clause-may
 put_record-requires-clause-may g c κs within =
@@ -83,7 +92,7 @@ put_record-requires-clause-may g c κs within =
     let may = c.requires.may in
     let tells = g.P.Plant.tells in
     let old = g.P.Plant.state c.args.plant.now in
-    let k = c.mark_told in
+    let k = c.mark_first in
     let mid = g.P.Plant.state k.new.plant in
     let s = c.self.inside in
     let failed = k.new.self.failed in
@@ -119,7 +128,7 @@ returns-in_err-put_record-clause-ok g c =
     let may = c.requires.may in
     let tells = g.P.Plant.tells in
     let old = g.P.Plant.state c.args.plant.now in
-    let k = c.mark_told in
+    let k = c.mark_first in
     let mid = g.P.Plant.state k.new.plant in
     let s = c.self.inside in
     let failed = k.new.self.failed in
@@ -136,7 +145,7 @@ returns-in_err-put_record-clause-moments g c =
     let may = c.requires.may in
     let tells = g.P.Plant.tells in
     let old = g.P.Plant.state c.args.plant.now in
-    let k = c.mark_told in
+    let k = c.mark_first in
     let mid = g.P.Plant.state k.new.plant in
     let s = c.self.inside in
     let failed = k.new.self.failed in
@@ -149,7 +158,7 @@ returns-in_err-put_record-clause-moments g c =
 
 pub returns-in_err-put_record-clause-only : goal.returns-in_err-put_record-clause-only
 returns-in_err-put_record-clause-only g c =
-    record_works g.P.Plant.tells c.args.self.now (g.P.Plant.state c.args.plant.now) (g.P.Plant.state c.mark_told.new.plant) (g.P.Plant.state c.put_record.new.plant) c.mark_told.ensures.only c.put_record.ensures.only
+    record_works g.P.Plant.tells c.args.self.now (g.P.Plant.state c.args.plant.now) (g.P.Plant.state c.mark_first.new.plant) (g.P.Plant.state c.put_record.new.plant) c.mark_first.ensures.only c.put_record.ensures.only
 
 pub returns-in_err-put_record-clause-failed : goal.returns-in_err-put_record-clause-failed
 returns-in_err-put_record-clause-failed g c =
@@ -157,7 +166,7 @@ returns-in_err-put_record-clause-failed g c =
     let was = (g.P.Plant.state c.args.plant.now).faults in
     let new = (g.P.Plant.state c.put_record.new.plant).faults in
     subst (λ (now : List Bool). FailByCounts failed now was new) (sym (ap (λ (x : SiteState). x.failed) c.self.view_is))
-    (fail_first failed c.mark_told.new.self.failed was (g.P.Plant.state c.mark_told.new.plant).faults new c.put_record.ensures.only.others_faults c.mark_told.ensures.failed)
+    (fail_first failed c.mark_first.new.self.failed was (g.P.Plant.state c.mark_first.new.plant).faults new c.put_record.ensures.only.others_faults c.mark_first.ensures.failed)
 
 -- ---- the record is put
 
@@ -168,7 +177,7 @@ returns-clause-ok g c =
     let may = c.requires.may in
     let tells = g.P.Plant.tells in
     let old = g.P.Plant.state c.args.plant.now in
-    let k = c.mark_told in
+    let k = c.mark_first in
     let mid = g.P.Plant.state k.new.plant in
     let s = c.self.inside in
     let failed = k.new.self.failed in
@@ -185,7 +194,7 @@ returns-clause-leaves g c =
     let may = c.requires.may in
     let tells = g.P.Plant.tells in
     let old = g.P.Plant.state c.args.plant.now in
-    let k = c.mark_told in
+    let k = c.mark_first in
     let mid = g.P.Plant.state k.new.plant in
     let s = c.self.inside in
     let failed = k.new.self.failed in
@@ -205,7 +214,7 @@ returns-clause-moments g c =
     let may = c.requires.may in
     let tells = g.P.Plant.tells in
     let old = g.P.Plant.state c.args.plant.now in
-    let k = c.mark_told in
+    let k = c.mark_first in
     let mid = g.P.Plant.state k.new.plant in
     let s = c.self.inside in
     let failed = k.new.self.failed in
@@ -219,7 +228,7 @@ returns-clause-moments g c =
 
 pub returns-clause-only : goal.returns-clause-only
 returns-clause-only g c =
-    record_works g.P.Plant.tells c.args.self.now (g.P.Plant.state c.args.plant.now) (g.P.Plant.state c.mark_told.new.plant) (g.P.Plant.state c.put_record.new.plant) c.mark_told.ensures.only c.put_record.ensures.only
+    record_works g.P.Plant.tells c.args.self.now (g.P.Plant.state c.args.plant.now) (g.P.Plant.state c.mark_first.new.plant) (g.P.Plant.state c.put_record.new.plant) c.mark_first.ensures.only c.put_record.ensures.only
 
 pub returns-clause-failed : goal.returns-clause-failed
 returns-clause-failed g c =
@@ -227,23 +236,23 @@ returns-clause-failed g c =
     let was = (g.P.Plant.state c.args.plant.now).faults in
     let new = (g.P.Plant.state c.put_record.new.plant).faults in
     subst (λ (now : List Bool). FailByCounts failed now was new) (sym (ap (λ (x : SiteState). x.failed) c.take_logged.ensures ∙ ap (λ (x : SiteState). x.failed) c.self.view_is))
-    (fail_first failed c.mark_told.new.self.failed was (g.P.Plant.state c.mark_told.new.plant).faults new c.put_record.ensures.only.others_faults c.mark_told.ensures.failed)
+    (fail_first failed c.mark_first.new.self.failed was (g.P.Plant.state c.mark_first.new.plant).faults new c.put_record.ensures.only.others_faults c.mark_first.ensures.failed)
 
 -- ---- the volumes stay
 
-pub returns-in_err-mark_told-clause-volumes : goal.returns-in_err-mark_told-clause-volumes
-returns-in_err-mark_told-clause-volumes g c = c.mark_told.ensures.makes.volumes
+pub returns-in_err-mark_first-clause-volumes : goal.returns-in_err-mark_first-clause-volumes
+returns-in_err-mark_first-clause-volumes g c = c.mark_first.ensures.makes.volumes
 
 pub returns-in_err-put_record-clause-volumes : goal.returns-in_err-put_record-clause-volumes
 returns-in_err-put_record-clause-volumes g c =
     let tells = g.P.Plant.tells in
-    let mid = g.P.Plant.state c.mark_told.new.plant in
+    let mid = g.P.Plant.state c.mark_first.new.plant in
     let new = g.P.Plant.state c.put_record.new.plant in
-    stay_then tells (g.P.Plant.state c.args.plant.now) mid new c.mark_told.ensures.only.elapses c.put_record.ensures.only.elapses c.mark_told.ensures.makes.volumes (stay_put tells mid new c.put_record.ensures.only)
+    stay_then tells (g.P.Plant.state c.args.plant.now) mid new c.mark_first.ensures.only.elapses c.put_record.ensures.only.elapses c.mark_first.ensures.makes.volumes (stay_put tells mid new c.put_record.ensures.only)
 
 pub returns-clause-volumes : goal.returns-clause-volumes
 returns-clause-volumes g c =
     let tells = g.P.Plant.tells in
-    let mid = g.P.Plant.state c.mark_told.new.plant in
+    let mid = g.P.Plant.state c.mark_first.new.plant in
     let new = g.P.Plant.state c.put_record.new.plant in
-    stay_then tells (g.P.Plant.state c.args.plant.now) mid new c.mark_told.ensures.only.elapses c.put_record.ensures.only.elapses c.mark_told.ensures.makes.volumes (stay_put tells mid new c.put_record.ensures.only)
+    stay_then tells (g.P.Plant.state c.args.plant.now) mid new c.mark_first.ensures.only.elapses c.put_record.ensures.only.elapses c.mark_first.ensures.makes.volumes (stay_put tells mid new c.put_record.ensures.only)

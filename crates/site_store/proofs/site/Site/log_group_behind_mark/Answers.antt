@@ -1,17 +1,18 @@
-use Rattle.std.proofs.Common.{rules, ◌≡◌, false, cond, [], length, map, Ok, Err, Result, refl, sym, ap, subst, ◌∙◌, arith}
+use Rattle.std.proofs.Common.{rules, ◌≡◌, false, cond, List, [], length, map, Ok, Err, Result, refl, sym, ap, subst, ◌∙◌, arith}
 use Rattle.std.specs.Prelude.{slice_index_or}
 use Rattle.std.specs.Vec.{with_items}
 use Rattle.std.proofs.lemmas.List.{length-map, with_items_is}
 use Rattle.std.proofs.lemmas.Result.{err_from_is_err_and}
 use Rattle.tod_stamp.specs.declared.stamp.Stamp.{Stamp}
 use Rattle.crash_plant.specs.declared.device.Device.TheVariants.{Journal}
+use Rattle.pair_table.specs.declared.row.PairRow.{PairRow}
 use Rattle.pair_table.specs.Tables.{Table, with_rows}
 use Rattle.record_rows.specs.Hits.{hit_now}
 use Rattle.site_store.specs.declared.store_error.StoreError.{StoreError}
 use Rattle.site_store.specs.declared.placement.Placement.{Placement}
 use Rattle.site_store.specs.declared.placement.Placement.TheVariants.{Marked as MarkedFirst}
 use Rattle.site_store.specs.Causes.{HasStoreCause}
-use Rattle.site_store.specs.Hits.{are_some}
+use Rattle.site_store.specs.Hits.{AreDevices}
 use Rattle.site_store.specs.Jobs.{are_home_from, has_job_failed}
 use Rattle.site_store.specs.Logging.{IsOfEntries, LogsBy}
 use Rattle.site_store.specs.Records.{IsOfMark, one_more}
@@ -19,37 +20,37 @@ use Rattle.site_store.specs.Sites.{SiteState}
 use Rattle.site_store.proofs.Below.{below_volumes}
 use Rattle.site_store.proofs.LogContent.{read_choice}
 use Rattle.site_store.proofs.LogExits as exits
-use Rattle.site_store.proofs.LogExits.{IsBehind, MadeMark, behind_after, behind_entries, behind_few, is_behind, last_put, last_ready, last_set, last_stands, rows_after}
-use Rattle.site_store.proofs.LogFails.{quiet_ok}
+use Rattle.site_store.proofs.LogExits.{IsBehind, MadeMark, behind_after, behind_entries, behind_few, is_behind, last_put, last_ready, last_set, last_stands, made_mark, rows_after}
 use Rattle.site_store.proofs.LogForms as forms
 use Rattle.site_store.proofs.LogPut.{logged_site}
 use Rattle.site_store.proofs.LogReads.{with_failed}
 use Rattle.site_store.proofs.LogStart.{one_more_is, room_formed}
+use Rattle.site_store.proofs.NextMark.{makes_alone}
 use Rattle.site_store.proofs.VolumesStaying.{stay_behind}
 use Rattle.site_store.proofs.site.Site.log_group_behind_mark.Goals as goal
 
 -- ---- the mark fails
 
-pub returns-in_err-reached : goal.returns-in_err-reached
-returns-in_err-reached g c =
+pub returns-in_err-hit : goal.returns-in_err-hit
+returns-in_err-hit g c =
     let tells = g.P.Plant.tells in
     let site = c.args.self.now in
     let group = c.args.formed.now in
     let old = g.P.Plant.state c.args.plant.now in
-    let marked = g.P.Plant.state c.mark_hits.new.plant in
-    let error = c.in_err-reached.field-0.0 in
+    let marked = g.P.Plant.state c.mark_first.new.plant in
+    let error = c.in_err-hit.field-0.0 in
     let result = c.from_residual.result in
     let err_is : Err error ≡ result = search rules in
-    let m = c.mark_hits.ensures in
+    let m = c.mark_first.ensures in
     record {
-      ok = subst (λ (r : Result (Unit {0}) StoreError). LogsBy tells group MarkedFirst site c.mark_hits.new.self old marked r) err_is
-          (forms.mark_fails tells group site c.mark_hits.new.self.failed old marked c.mark_hits.new.self (Err error) c.requires.ready.idle c.in_err-reached.ensures.makes m.only m.failed c.mark_hits.new.self error refl refl);
+      ok = subst (λ (r : Result (Unit {0}) StoreError). LogsBy tells group MarkedFirst site c.mark_first.new.self old marked r) err_is
+          (forms.mark_fails tells group site c.mark_first.new.self.failed old marked c.mark_first.new.self (Err error) c.requires.ready.idle (makes_alone tells site.mark.ended c.mark_first.new.self.failed site c.mark_first.new.self old marked (Err error) c.in_err-hit.ensures.makes) m.only m.failed c.mark_first.new.self error refl refl);
       leaves = search rules;
-      others = forms.marked_works tells group site c.mark_hits.new.self.failed old marked c.mark_hits.new.self _ c.requires.ready.idle m.makes m.only m.failed;
-      cause = subst (λ (r : Result (Unit {0}) StoreError). HasStoreCause (g.P.Plant.state c.args.plant.now).faults (g.P.Plant.state c.mark_hits.new.plant).faults r) err_is c.in_err-reached.ensures.cause;
+      others = forms.marked_works tells group site c.mark_first.new.self.failed old marked c.mark_first.new.self _ c.requires.ready.idle (makes_alone tells site.mark.ended c.mark_first.new.self.failed site c.mark_first.new.self old marked _ m.makes) m.only m.failed;
+      cause = subst (λ (r : Result (Unit {0}) StoreError). HasStoreCause (g.P.Plant.state c.args.plant.now).faults (g.P.Plant.state c.mark_first.new.plant).faults r) err_is c.in_err-hit.ensures.cause;
       unspent = search rules;
       volumes = m.makes.volumes;
-      failed = c.mark_hits.ensures.failed;
+      failed = c.mark_first.ensures.failed;
     }
 
 -- ---- the record is formed behind it
@@ -60,14 +61,13 @@ form_record-hits-requires-clause-may g c κs within =
     let site = c.args.self.now in
     let group = c.args.formed.now in
     let old = g.P.Plant.state c.args.plant.now in
-    let marked = g.P.Plant.state c.mark_hits.new.plant in
+    let marked = g.P.Plant.state c.mark_first.new.plant in
     let s = c.self-2.inside in
     let behind : SiteState = record { controls = s.controls; level = s.level; table = s.table; is_ahead = s.ahead; told = cond s.ahead s.told.rows s.table.rows; time = s.time.0; mark = s.mark; at = s.journal.at; since = s.since; waiting = cond s.waits s.body.items []; failed = map has_job_failed s.jobs.items; written = s.written.items } in
-    let m = c.in_ok-reached.ensures in
-    let made_there : MadeMark tells site c.mark_hits.new.self old marked = record { is = m.ok; leaves = m.leaves; makes = m.makes; works = c.mark_hits.ensures.only; quiet = quiet_ok old.faults marked.faults m.cause; fails = c.mark_hits.ensures.failed } in
+    let m = c.in_ok-hit.ensures in
+    let made_there : MadeMark tells site c.mark_first.new.self old marked = made_mark tells site c.mark_first.new.self old marked c.requires.ready.level m.ok m.leaves m.makes c.mark_first.ensures.only m.cause c.mark_first.ensures.failed in
     let made : MadeMark tells site behind old marked = subst (λ (x : SiteState). MadeMark tells site x old marked) (sym c.self-2.view_is) made_there in
-    let reached = c.in_ok-reached.reached in
-    let reached_is : reached ≡ are_some (hit_now behind.failed site.told) = subst (λ (x : SiteState). reached ≡ are_some (hit_now x.failed site.told)) (sym c.self-2.view_is) m.due in
+    let hit_is : AreDevices (hit_now behind.failed site.told) c.in_ok-hit.hit = subst (λ (x : SiteState). AreDevices (hit_now x.failed site.told) c.in_ok-hit.hit) (sym c.self-2.view_is) (subst (λ (rows : List PairRow). AreDevices (hit_now c.mark_first.new.self.failed rows) c.in_ok-hit.hit) (sym c.requires.rows) m.marked) in
     let fits = made.leaves.fits in
     let was_long : length c.deref_mut.result.now ≡ length s.jobs.items = λ i. length (c.deref_mut.ensures.value i) in
     record {
@@ -86,14 +86,13 @@ form_record-hits-requires-clause-room g c κs within =
     let site = c.args.self.now in
     let group = c.args.formed.now in
     let old = g.P.Plant.state c.args.plant.now in
-    let marked = g.P.Plant.state c.mark_hits.new.plant in
+    let marked = g.P.Plant.state c.mark_first.new.plant in
     let s = c.self-2.inside in
     let behind : SiteState = record { controls = s.controls; level = s.level; table = s.table; is_ahead = s.ahead; told = cond s.ahead s.told.rows s.table.rows; time = s.time.0; mark = s.mark; at = s.journal.at; since = s.since; waiting = cond s.waits s.body.items []; failed = map has_job_failed s.jobs.items; written = s.written.items } in
-    let m = c.in_ok-reached.ensures in
-    let made_there : MadeMark tells site c.mark_hits.new.self old marked = record { is = m.ok; leaves = m.leaves; makes = m.makes; works = c.mark_hits.ensures.only; quiet = quiet_ok old.faults marked.faults m.cause; fails = c.mark_hits.ensures.failed } in
+    let m = c.in_ok-hit.ensures in
+    let made_there : MadeMark tells site c.mark_first.new.self old marked = made_mark tells site c.mark_first.new.self old marked c.requires.ready.level m.ok m.leaves m.makes c.mark_first.ensures.only m.cause c.mark_first.ensures.failed in
     let made : MadeMark tells site behind old marked = subst (λ (x : SiteState). MadeMark tells site x old marked) (sym c.self-2.view_is) made_there in
-    let reached = c.in_ok-reached.reached in
-    let reached_is : reached ≡ are_some (hit_now behind.failed site.told) = subst (λ (x : SiteState). reached ≡ are_some (hit_now x.failed site.told)) (sym c.self-2.view_is) m.due in
+    let hit_is : AreDevices (hit_now behind.failed site.told) c.in_ok-hit.hit = subst (λ (x : SiteState). AreDevices (hit_now x.failed site.told) c.in_ok-hit.hit) (sym c.self-2.view_is) (subst (λ (rows : List PairRow). AreDevices (hit_now c.mark_first.new.self.failed rows) c.in_ok-hit.hit) (sym c.requires.rows) m.marked) in
     room_formed s.controls group.controls s.body.room group.entries c.self-2.invariant.room_is (behind_few tells group site behind old marked c.requires.ready c.requires.may c.requires.rows made) c.controls.ensures.few
 
 pub put_record-requires-clause-may : goal.put_record-requires-clause-may
@@ -102,14 +101,13 @@ put_record-requires-clause-may g c κs within =
     let site = c.args.self.now in
     let group = c.args.formed.now in
     let old = g.P.Plant.state c.args.plant.now in
-    let marked = g.P.Plant.state c.mark_hits.new.plant in
+    let marked = g.P.Plant.state c.mark_first.new.plant in
     let s = c.self-2.inside in
     let behind : SiteState = record { controls = s.controls; level = s.level; table = s.table; is_ahead = s.ahead; told = cond s.ahead s.told.rows s.table.rows; time = s.time.0; mark = s.mark; at = s.journal.at; since = s.since; waiting = cond s.waits s.body.items []; failed = map has_job_failed s.jobs.items; written = s.written.items } in
-    let m = c.in_ok-reached.ensures in
-    let made_there : MadeMark tells site c.mark_hits.new.self old marked = record { is = m.ok; leaves = m.leaves; makes = m.makes; works = c.mark_hits.ensures.only; quiet = quiet_ok old.faults marked.faults m.cause; fails = c.mark_hits.ensures.failed } in
+    let m = c.in_ok-hit.ensures in
+    let made_there : MadeMark tells site c.mark_first.new.self old marked = made_mark tells site c.mark_first.new.self old marked c.requires.ready.level m.ok m.leaves m.makes c.mark_first.ensures.only m.cause c.mark_first.ensures.failed in
     let made : MadeMark tells site behind old marked = subst (λ (x : SiteState). MadeMark tells site x old marked) (sym c.self-2.view_is) made_there in
-    let reached = c.in_ok-reached.reached in
-    let reached_is : reached ≡ are_some (hit_now behind.failed site.told) = subst (λ (x : SiteState). reached ≡ are_some (hit_now x.failed site.told)) (sym c.self-2.view_is) m.due in
+    let hit_is : AreDevices (hit_now behind.failed site.told) c.in_ok-hit.hit = subst (λ (x : SiteState). AreDevices (hit_now x.failed site.told) c.in_ok-hit.hit) (sym c.self-2.view_is) (subst (λ (rows : List PairRow). AreDevices (hit_now c.mark_first.new.self.failed rows) c.in_ok-hit.hit) (sym c.requires.rows) m.marked) in
     let mid = g.P.Plant.state c.form_record-hits.new.plant in
     let f = c.form_record-hits.ensures in
     let was_is : map has_job_failed c.deref_mut.result.now ≡ behind.failed = λ i. map has_job_failed (c.deref_mut.ensures.value i) in
@@ -117,8 +115,8 @@ put_record-requires-clause-may g c κs within =
     let items = c.form_record-hits.new.body.items in
     let hits = c.form_record-hits.result in
     let placement : Placement = MarkedFirst in
-    let first : IsBehind tells group site behind old marked mid failed items = is_behind tells group site behind old marked c.requires.ready c.requires.may c.requires.rows made mid s.body c.form_record-hits.new.body c.form_record-hits.new.due (map has_job_failed c.deref_mut.result.now) failed reached hits
-    f.forms f.hits reached_is c.requires.next was_is f.fails f.by_entries f.reads f.home f.only c.controls.ensures.few in
+    let first : IsBehind tells group site behind old marked mid failed items = is_behind tells group site behind old marked c.requires.ready c.requires.may c.requires.rows made mid s.body c.form_record-hits.new.body c.form_record-hits.new.due (map has_job_failed c.deref_mut.result.now) failed hits
+    f.forms (f.hits (hit_now behind.failed site.told) hit_is) c.requires.next was_is f.fails f.by_entries f.reads f.home f.only c.controls.ensures.few in
     let after = rows_after group site behind failed in
     let read = λ (told : tells). read_choice mid f.home (λ d there. g.met.P.Plant.read_is_image c.form_record-hits.new.plant d told there) in
     let size = λ (told : tells). g.met.P.Plant.length_told c.form_record-hits.new.plant (Journal behind.at.set) told (last_set tells group site behind old marked mid failed items first) in
@@ -149,14 +147,13 @@ returns-in_err-put_record g c =
     let site = c.args.self.now in
     let group = c.args.formed.now in
     let old = g.P.Plant.state c.args.plant.now in
-    let marked = g.P.Plant.state c.mark_hits.new.plant in
+    let marked = g.P.Plant.state c.mark_first.new.plant in
     let s = c.self-2.inside in
     let behind : SiteState = record { controls = s.controls; level = s.level; table = s.table; is_ahead = s.ahead; told = cond s.ahead s.told.rows s.table.rows; time = s.time.0; mark = s.mark; at = s.journal.at; since = s.since; waiting = cond s.waits s.body.items []; failed = map has_job_failed s.jobs.items; written = s.written.items } in
-    let m = c.in_ok-reached.ensures in
-    let made_there : MadeMark tells site c.mark_hits.new.self old marked = record { is = m.ok; leaves = m.leaves; makes = m.makes; works = c.mark_hits.ensures.only; quiet = quiet_ok old.faults marked.faults m.cause; fails = c.mark_hits.ensures.failed } in
+    let m = c.in_ok-hit.ensures in
+    let made_there : MadeMark tells site c.mark_first.new.self old marked = made_mark tells site c.mark_first.new.self old marked c.requires.ready.level m.ok m.leaves m.makes c.mark_first.ensures.only m.cause c.mark_first.ensures.failed in
     let made : MadeMark tells site behind old marked = subst (λ (x : SiteState). MadeMark tells site x old marked) (sym c.self-2.view_is) made_there in
-    let reached = c.in_ok-reached.reached in
-    let reached_is : reached ≡ are_some (hit_now behind.failed site.told) = subst (λ (x : SiteState). reached ≡ are_some (hit_now x.failed site.told)) (sym c.self-2.view_is) m.due in
+    let hit_is : AreDevices (hit_now behind.failed site.told) c.in_ok-hit.hit = subst (λ (x : SiteState). AreDevices (hit_now x.failed site.told) c.in_ok-hit.hit) (sym c.self-2.view_is) (subst (λ (rows : List PairRow). AreDevices (hit_now c.mark_first.new.self.failed rows) c.in_ok-hit.hit) (sym c.requires.rows) m.marked) in
     let mid = g.P.Plant.state c.form_record-hits.new.plant in
     let f = c.form_record-hits.ensures in
     let was_is : map has_job_failed c.deref_mut.result.now ≡ behind.failed = λ i. map has_job_failed (c.deref_mut.ensures.value i) in
@@ -164,8 +161,8 @@ returns-in_err-put_record g c =
     let items = c.form_record-hits.new.body.items in
     let hits = c.form_record-hits.result in
     let placement : Placement = MarkedFirst in
-    let first : IsBehind tells group site behind old marked mid failed items = is_behind tells group site behind old marked c.requires.ready c.requires.may c.requires.rows made mid s.body c.form_record-hits.new.body c.form_record-hits.new.due (map has_job_failed c.deref_mut.result.now) failed reached hits
-    f.forms f.hits reached_is c.requires.next was_is f.fails f.by_entries f.reads f.home f.only c.controls.ensures.few in
+    let first : IsBehind tells group site behind old marked mid failed items = is_behind tells group site behind old marked c.requires.ready c.requires.may c.requires.rows made mid s.body c.form_record-hits.new.body c.form_record-hits.new.due (map has_job_failed c.deref_mut.result.now) failed hits
+    f.forms (f.hits (hit_now behind.failed site.told) hit_is) c.requires.next was_is f.fails f.by_entries f.reads f.home f.only c.controls.ensures.few in
     let after = rows_after group site behind failed in
     let read = λ (told : tells). read_choice mid f.home (λ d there. g.met.P.Plant.read_is_image c.form_record-hits.new.plant d told there) in
     let new = g.P.Plant.state c.put_record.new.plant in
@@ -184,7 +181,7 @@ returns-in_err-put_record g c =
       others = exits.end_others tells group placement site (with_failed failed behind) after old mid new items stage read works site refl;
       cause = exits.end_cause tells group placement site (with_failed failed behind) after old mid new items stage read works site refl result (subst (λ (r : Result (Unit {0}) StoreError). HasStoreCause mid.faults new.faults r) err_is c.in_err-put_record.ensures.cause);
       unspent = search rules;
-      volumes = stay_behind tells (IsOfMark site) (IsOfEntries behind.table.rows group.entries) old marked mid new m.makes.volumes c.mark_hits.ensures.only f.reads f.only works;
+      volumes = stay_behind tells (IsOfMark site) (IsOfEntries behind.table.rows group.entries) old marked mid new m.makes.volumes c.mark_first.ensures.only f.reads f.only works;
       failed = exits.end_failed tells group placement site (with_failed failed behind) after old mid new items stage read works site refl last failed_is;
     }
 
@@ -196,14 +193,13 @@ take_changed-requires g c =
     let site = c.args.self.now in
     let group = c.args.formed.now in
     let old = g.P.Plant.state c.args.plant.now in
-    let marked = g.P.Plant.state c.mark_hits.new.plant in
+    let marked = g.P.Plant.state c.mark_first.new.plant in
     let s = c.self-2.inside in
     let behind : SiteState = record { controls = s.controls; level = s.level; table = s.table; is_ahead = s.ahead; told = cond s.ahead s.told.rows s.table.rows; time = s.time.0; mark = s.mark; at = s.journal.at; since = s.since; waiting = cond s.waits s.body.items []; failed = map has_job_failed s.jobs.items; written = s.written.items } in
-    let m = c.in_ok-reached.ensures in
-    let made_there : MadeMark tells site c.mark_hits.new.self old marked = record { is = m.ok; leaves = m.leaves; makes = m.makes; works = c.mark_hits.ensures.only; quiet = quiet_ok old.faults marked.faults m.cause; fails = c.mark_hits.ensures.failed } in
+    let m = c.in_ok-hit.ensures in
+    let made_there : MadeMark tells site c.mark_first.new.self old marked = made_mark tells site c.mark_first.new.self old marked c.requires.ready.level m.ok m.leaves m.makes c.mark_first.ensures.only m.cause c.mark_first.ensures.failed in
     let made : MadeMark tells site behind old marked = subst (λ (x : SiteState). MadeMark tells site x old marked) (sym c.self-2.view_is) made_there in
-    let reached = c.in_ok-reached.reached in
-    let reached_is : reached ≡ are_some (hit_now behind.failed site.told) = subst (λ (x : SiteState). reached ≡ are_some (hit_now x.failed site.told)) (sym c.self-2.view_is) m.due in
+    let hit_is : AreDevices (hit_now behind.failed site.told) c.in_ok-hit.hit = subst (λ (x : SiteState). AreDevices (hit_now x.failed site.told) c.in_ok-hit.hit) (sym c.self-2.view_is) (subst (λ (rows : List PairRow). AreDevices (hit_now c.mark_first.new.self.failed rows) c.in_ok-hit.hit) (sym c.requires.rows) m.marked) in
     below_volumes marked 64 s.table.rows made.leaves.fits.lengths.volumes made.leaves.fits.rows
 
 pub invariant_of-self-2 : goal.invariant_of-self-2
@@ -229,14 +225,13 @@ returns g c =
     let site = c.args.self.now in
     let group = c.args.formed.now in
     let old = g.P.Plant.state c.args.plant.now in
-    let marked = g.P.Plant.state c.mark_hits.new.plant in
+    let marked = g.P.Plant.state c.mark_first.new.plant in
     let s = c.self-2.inside in
     let behind : SiteState = record { controls = s.controls; level = s.level; table = s.table; is_ahead = s.ahead; told = cond s.ahead s.told.rows s.table.rows; time = s.time.0; mark = s.mark; at = s.journal.at; since = s.since; waiting = cond s.waits s.body.items []; failed = map has_job_failed s.jobs.items; written = s.written.items } in
-    let m = c.in_ok-reached.ensures in
-    let made_there : MadeMark tells site c.mark_hits.new.self old marked = record { is = m.ok; leaves = m.leaves; makes = m.makes; works = c.mark_hits.ensures.only; quiet = quiet_ok old.faults marked.faults m.cause; fails = c.mark_hits.ensures.failed } in
+    let m = c.in_ok-hit.ensures in
+    let made_there : MadeMark tells site c.mark_first.new.self old marked = made_mark tells site c.mark_first.new.self old marked c.requires.ready.level m.ok m.leaves m.makes c.mark_first.ensures.only m.cause c.mark_first.ensures.failed in
     let made : MadeMark tells site behind old marked = subst (λ (x : SiteState). MadeMark tells site x old marked) (sym c.self-2.view_is) made_there in
-    let reached = c.in_ok-reached.reached in
-    let reached_is : reached ≡ are_some (hit_now behind.failed site.told) = subst (λ (x : SiteState). reached ≡ are_some (hit_now x.failed site.told)) (sym c.self-2.view_is) m.due in
+    let hit_is : AreDevices (hit_now behind.failed site.told) c.in_ok-hit.hit = subst (λ (x : SiteState). AreDevices (hit_now x.failed site.told) c.in_ok-hit.hit) (sym c.self-2.view_is) (subst (λ (rows : List PairRow). AreDevices (hit_now c.mark_first.new.self.failed rows) c.in_ok-hit.hit) (sym c.requires.rows) m.marked) in
     let mid = g.P.Plant.state c.form_record-hits.new.plant in
     let f = c.form_record-hits.ensures in
     let was_is : map has_job_failed c.deref_mut.result.now ≡ behind.failed = λ i. map has_job_failed (c.deref_mut.ensures.value i) in
@@ -244,8 +239,8 @@ returns g c =
     let items = c.form_record-hits.new.body.items in
     let hits = c.form_record-hits.result in
     let placement : Placement = MarkedFirst in
-    let first : IsBehind tells group site behind old marked mid failed items = is_behind tells group site behind old marked c.requires.ready c.requires.may c.requires.rows made mid s.body c.form_record-hits.new.body c.form_record-hits.new.due (map has_job_failed c.deref_mut.result.now) failed reached hits
-    f.forms f.hits reached_is c.requires.next was_is f.fails f.by_entries f.reads f.home f.only c.controls.ensures.few in
+    let first : IsBehind tells group site behind old marked mid failed items = is_behind tells group site behind old marked c.requires.ready c.requires.may c.requires.rows made mid s.body c.form_record-hits.new.body c.form_record-hits.new.due (map has_job_failed c.deref_mut.result.now) failed hits
+    f.forms (f.hits (hit_now behind.failed site.told) hit_is) c.requires.next was_is f.fails f.by_entries f.reads f.home f.only c.controls.ensures.few in
     let after = rows_after group site behind failed in
     let read = λ (told : tells). read_choice mid f.home (λ d there. g.met.P.Plant.read_is_image c.form_record-hits.new.plant d told there) in
     let new = g.P.Plant.state c.put_record.new.plant in
@@ -253,7 +248,7 @@ returns g c =
     let works = c.put_record.ensures.only in
     let now_is : (with_items s.jobs c.form_record-hits.new.jobs).items ≡ c.form_record-hits.new.jobs = with_items_is s.jobs c.form_record-hits.new.jobs (omega (arith, c.form_record-hits.auto.jobs, c.deref_mut.ensures.len, s.jobs.ok.0)) in
     let failed_is : map has_job_failed (with_items s.jobs c.form_record-hits.new.jobs).items ≡ failed = λ i. map has_job_failed (now_is i) in
-    let table_is : c.take_changed.new.table ≡ with_rows s.table after = c.take_changed.ensures ∙ ap (with_rows s.table) (behind_after tells group site behind old marked c.requires.ready c.requires.may c.requires.rows made mid s.body c.form_record-hits.new.body c.form_record-hits.new.due (map has_job_failed c.deref_mut.result.now) failed reached hits f.forms f.hits reached_is) in
+    let table_is : c.take_changed.new.table ≡ with_rows s.table after = c.take_changed.ensures ∙ ap (with_rows s.table) (behind_after tells group site behind old marked c.requires.ready c.requires.may c.requires.rows made mid s.body c.form_record-hits.new.body c.form_record-hits.new.due (map has_job_failed c.deref_mut.result.now) failed hits f.forms (f.hits (hit_now behind.failed site.told) hit_is)) in
     let ahead_is : s.ahead ≡ false = ap (λ (x : SiteState). x.is_ahead) made.is in
     let told_now : cond s.ahead s.told.rows c.take_changed.new.table.rows ≡ after = (λ i. cond (ahead_is i) s.told.rows c.take_changed.new.table.rows) ∙ ap (λ (t : Table). t.rows) table_is in
     let time_is : c.cut-self-inside.result.0 ≡ group.cut.0 = ap (λ (t : Stamp). t.0) c.cut-self-inside.ensures in
@@ -267,6 +262,6 @@ returns g c =
       others = exits.end_others tells group placement site (with_failed failed behind) after old mid new items stage read works site refl;
       cause = exits.end_cause tells group placement site (with_failed failed behind) after old mid new items stage read works site refl (Ok tt) c.in_ok-put_record.ensures.cause;
       unspent = λ e. cc e;
-      volumes = stay_behind tells (IsOfMark site) (IsOfEntries behind.table.rows group.entries) old marked mid new m.makes.volumes c.mark_hits.ensures.only f.reads f.only works;
+      volumes = stay_behind tells (IsOfMark site) (IsOfEntries behind.table.rows group.entries) old marked mid new m.makes.volumes c.mark_first.ensures.only f.reads f.only works;
       failed = exits.end_failed tells group placement site (with_failed failed behind) after old mid new items stage read works site refl last failed_is;
     }

@@ -12,15 +12,17 @@ use Rattle.xrc_journal.specs.Bodies.{BodyState}
 use Rattle.site_store.specs.declared.store_error.StoreError.{StoreError}
 use Rattle.site_store.specs.declared.store_error.StoreError.TheVariants.{Spent}
 use Rattle.site_store.specs.declared.placement.Placement.TheVariants.{Marked}
-use Rattle.site_store.specs.Causes.{FailByCounts}
+use Rattle.site_store.specs.Causes.{FailByCounts, HasStoreCause}
 use Rattle.site_store.specs.Hits.{pairs_with_next, with_hits}
-use Rattle.site_store.specs.Marking.{MakesMark}
+use Rattle.site_store.specs.Marking.{MakesMark, behind_next_mark}
 use Rattle.site_store.specs.Records.{IsOfMark, IsOfRecord, behind_mark}
 use Rattle.site_store.specs.Sites.{SiteState}
 use Rattle.site_store.specs.Standing.{Leaves, none_excepted}
 use Rattle.site_store.specs.Placements.{suspension_needs_more, placement_from, placement_of}
 use Rattle.site_store.proofs.ChangeFirst.{fail_first, none_fail}
 use Rattle.site_store.proofs.HitStates.{hits_make_rows}
+use Rattle.site_store.proofs.NextMark.{behind_level, unit_not, unit_ok}
+use Rattle.site_store.proofs.RecordPuts.{on_ok}
 use Rattle.site_store.proofs.RowEnds.{plain_behind}
 use Rattle.site_store.proofs.RowRoom.{reads_choice}
 use Rattle.site_store.proofs.SuspensionEnds.{AreFormed, are_formed, mark_does, mark_leaves, mark_suspends, may_put, none_does, none_hit, none_suspends, record_does, record_leaves, record_suspends, spent_does, spent_suspends}
@@ -28,7 +30,7 @@ use Rattle.site_store.proofs.Views.{at_error, ends_there, idle_site, jobs_below,
 use Rattle.site_store.proofs.VolumesStaying.{stay_here, stay_put}
 use Rattle.site_store.proofs.site.Site.suspend.Given as given
 use Rattle.site_store.proofs.site.Site.suspend.Goals as goal
-use Rattle.site_store.proofs.site.Site.suspend.Goals.{After-placement_from-placement}
+use Rattle.site_store.proofs.site.Site.suspend.Goals.{After-placement_from-placement, After-without_value}
 
 -- ---- what its calls ask
 
@@ -133,6 +135,20 @@ returns-then-suspension_needs_more-clause-uncalled g c = λ spent. (idle_site _ 
 
 -- ---- a mark in place of the record
 
+unspent : (g : given.Over) (c : After-without_value g) → ¬ IsErrOf c.without_value.result Spent
+unspent g c = subst (λ (r : Result (Unit {0}) StoreError). ¬ IsErrOf r Spent) (sym c.without_value.ensures) (unit_not c.mark_first.result Spent c.mark_first.ensures.unspent)
+
+behind : (g : given.Over) (c : After-without_value g)
+    → OnOk c.without_value.result (c.mark_first.new.self ≡ behind_mark c.args.self.now.mark.ended (rows_with_hits c.args.self.now.level c.args.self.now.time c.mark_first.new.self.failed c.args.self.now.told) c.mark_first.new.self.failed c.args.self.now)
+behind g c =
+    let site = c.args.self.now in
+    let k = c.mark_first in
+    let failed = k.new.self.failed in
+    let there = idle_site _ site c.self.view_is c.requires.ready.idle in
+    let made = subst (λ (x : Type 0). x)
+    (λ i. OnOk (sym c.without_value.ensures i) (k.new.self ≡ behind_next_mark (there i).mark.ended (rows_with_hits (there i).level (there i).time failed (there i).told) failed (there i))) (unit_ok _ k.result k.ensures.ok) in
+    on_ok c.without_value.result (λ (is : k.new.self ≡ behind_next_mark site.mark.ended (rows_with_hits site.level site.time failed site.told) failed site). is ∙ behind_level site.mark.ended (rows_with_hits site.level site.time failed site.told) failed site c.requires.ready.level) made
+
 pub returns-then-eq-clause-ok : goal.returns-then-eq-clause-ok
 returns-then-eq-clause-ok g c =
     let f = (goal.at.returns-then-eq-clause-ok g c).After-placement_from-placement in
@@ -141,10 +157,9 @@ returns-then-eq-clause-ok g c =
     let old = g.P.Plant.state c.args.plant.now in
     let hits = c.hits_at-hits.result in
     let enough = sym (c.suspension_needs_more.ensures ∙ (λ i. suspension_needs_more c.placement_from-placement.result (c.self.view_is i).at.number (c.self.view_is i).mark.number)) ∙ c.if-suspension_needs_more.false in
-    let k = c.mark_suspensions in
+    let k = c.mark_first in
     let marked = last_placement c.placement_from-placement.result (λ is. let no = (rw is at c.eq.ensures) in let yes = c.if-eq.true in cc (no, yes)) (λ is. let no = (rw is at c.eq.ensures) in let yes = c.if-eq.true in cc (no, yes)) in
-    mark_suspends tells c.args.cut site old hits (formed g f) c.args.plant.now k.new.plant k.new.self c.placement_from-placement.result (placement_is g f) enough k.result k.ensures.unspent marked
-    (subst (λ (x : SiteState). OnOk k.result (k.new.self ≡ behind_mark x.mark.ended (rows_with_hits x.level x.time k.new.self.failed x.told) k.new.self.failed x)) (idle_site _ site c.self.view_is c.requires.ready.idle) k.ensures.ok)
+    mark_suspends tells c.args.cut site old hits (formed g f) c.args.plant.now k.new.plant k.new.self c.placement_from-placement.result (placement_is g f) enough c.without_value.result (unspent g (goal.at.returns-then-eq-clause-ok g c).After-without_value) marked (behind g (goal.at.returns-then-eq-clause-ok g c).After-without_value)
 
 pub returns-then-eq-clause-leaves : goal.returns-then-eq-clause-leaves
 returns-then-eq-clause-leaves g c =
@@ -153,9 +168,9 @@ returns-then-eq-clause-leaves g c =
     let tells = g.P.Plant.tells in
     let old = g.P.Plant.state c.args.plant.now in
     let hits = c.hits_at-hits.result in
-    let k = c.mark_suspensions in
-    mark_leaves tells c.args.cut site old hits (formed g f) k.new.self (g.P.Plant.state k.new.plant) k.result
-    (subst (λ (x : SiteState). OnOk k.result (Leaves tells (λ e. none_excepted) x k.new.self old (g.P.Plant.state k.new.plant))) (idle_site _ site c.self.view_is c.requires.ready.idle) k.ensures.leaves)
+    let k = c.mark_first in
+    mark_leaves tells c.args.cut site old hits (formed g f) k.new.self (g.P.Plant.state k.new.plant) c.without_value.result
+    (subst (λ (x : Type 0). x) (λ i. OnOk (sym c.without_value.ensures i) (Leaves tells (λ e. none_excepted) (idle_site _ site c.self.view_is c.requires.ready.idle i) k.new.self old (g.P.Plant.state k.new.plant))) (unit_ok _ k.result k.ensures.leaves))
 
 pub returns-then-eq-clause-moments : goal.returns-then-eq-clause-moments
 returns-then-eq-clause-moments g c =
@@ -164,21 +179,28 @@ returns-then-eq-clause-moments g c =
     let tells = g.P.Plant.tells in
     let old = g.P.Plant.state c.args.plant.now in
     let hits = c.hits_at-hits.result in
-    let k = c.mark_suspensions in
+    let k = c.mark_first in
     let new = g.P.Plant.state k.new.plant in
+    let there = idle_site _ site c.self.view_is c.requires.ready.idle in
     let marked = last_placement c.placement_from-placement.result (λ is. let no = (rw is at c.eq.ensures) in let yes = c.if-eq.true in cc (no, yes)) (λ is. let no = (rw is at c.eq.ensures) in let yes = c.if-eq.true in cc (no, yes)) in
-    mark_does tells c.args.cut site old hits (formed g f) c.placement_from-placement.result (placement_is g f) marked k.new.self new k.result
-    (subst (λ (x : SiteState). MakesMark tells x.mark.ended (rows_with_hits x.level x.time k.new.self.failed x.told) x k.new.self old new k.result) (idle_site _ site c.self.view_is c.requires.ready.idle) k.ensures.makes)
-    (subst (λ (x : SiteState). OnOk k.result (k.new.self ≡ behind_mark x.mark.ended (rows_with_hits x.level x.time k.new.self.failed x.told) k.new.self.failed x)) (idle_site _ site c.self.view_is c.requires.ready.idle) k.ensures.ok)
+    mark_does tells c.args.cut site old hits (formed g f) c.placement_from-placement.result (placement_is g f) marked k.new.self new c.without_value.result
+    (subst (λ (x : Type 0). x) (λ i. MakesMark tells (there i).mark.ended (rows_with_hits (there i).level (there i).time k.new.self.failed (there i).told) (there i) k.new.self old new (sym c.without_value.ensures i)) k.ensures.makes)
+    (behind g (goal.at.returns-then-eq-clause-moments g c).After-without_value)
 
 pub returns-then-eq-clause-others : goal.returns-then-eq-clause-others
 returns-then-eq-clause-others g c =
     let site = c.args.self.now in
     let tells = g.P.Plant.tells in
     let old = g.P.Plant.state c.args.plant.now in
-    let new = g.P.Plant.state c.mark_suspensions.new.plant in
-    let only = subst (λ (x : SiteState). WorksOn tells (IsOfMark x) old new) (idle_site _ site c.self.view_is c.requires.ready.idle) c.mark_suspensions.ensures.only in
+    let new = g.P.Plant.state c.mark_first.new.plant in
+    let only = subst (λ (x : SiteState). WorksOn tells (IsOfMark x) old new) (idle_site _ site c.self.view_is c.requires.ready.idle) c.mark_first.ensures.only in
     lent_of_works tells (IsOfRecord site) old new (works_on_more tells (IsOfMark site) (IsOfRecord site) old new (λ d is. inr is) only)
+
+pub returns-then-eq-clause-uncalled : goal.returns-then-eq-clause-uncalled
+returns-then-eq-clause-uncalled g c = λ spent. absurd (unspent g (goal.at.returns-then-eq-clause-uncalled g c).After-without_value spent)
+
+pub returns-then-eq-clause-cause : goal.returns-then-eq-clause-cause
+returns-then-eq-clause-cause g c = subst (λ (r : Result (Unit {0}) StoreError). HasStoreCause (g.P.Plant.state c.args.plant.now).faults (g.P.Plant.state c.mark_first.new.plant).faults r) (sym c.without_value.ensures) c.mark_first.ensures.cause
 
 -- ---- the record
 
@@ -310,7 +332,7 @@ pub returns-then-suspension_needs_more-clause-volumes : goal.returns-then-suspen
 returns-then-suspension_needs_more-clause-volumes g c = stay_here g.P.Plant.tells (g.P.Plant.state c.args.plant.now)
 
 pub returns-then-eq-clause-volumes : goal.returns-then-eq-clause-volumes
-returns-then-eq-clause-volumes g c = c.mark_suspensions.ensures.makes.volumes
+returns-then-eq-clause-volumes g c = c.mark_first.ensures.makes.volumes
 
 pub returns-in_err-put_record-clause-volumes : goal.returns-in_err-put_record-clause-volumes
 returns-in_err-put_record-clause-volumes g c = stay_put g.P.Plant.tells (g.P.Plant.state c.args.plant.now) (g.P.Plant.state c.put_record.new.plant) c.put_record.ensures.only

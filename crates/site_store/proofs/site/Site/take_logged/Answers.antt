@@ -1,4 +1,4 @@
-use Rattle.std.proofs.Common.{◌≡◌, ◌≤◌, List, length, map, refl, sym, ap, subst, ◌∙◌, true, false}
+use Rattle.std.proofs.Common.{◌≡◌, ◌≤◌, List, [], length, map, refl, sym, ap, subst, ◌∙◌, true, false}
 use Rattle.pair_table.specs.Tables.{are_below, with_rows}
 use Rattle.record_rows.specs.Records.{rows_with_hits}
 use Rattle.xrc_journal.specs.declared.job.VolumeJob.{VolumeJob}
@@ -23,7 +23,7 @@ returns g c =
     let few : length failed ≤ 64 = subst (λ (s : SiteState). length s.failed ≤ 64) (sym c.self.view_is) c.requires.few in
     let below : are_below (length failed) s.table.rows ≡ true = subst (λ (s : SiteState). are_below (length s.failed) s.table.rows ≡ true) (sym c.self.view_is) c.requires.below in
     let hits = c.hits_at-hits.result in
-    let are : AreHits s.level c.args.cut failed false s.table.rows hits = subst (λ (jobs : List (VolumeJob _)). AreHits s.level c.args.cut (map has_job_failed jobs) false s.table.rows hits) c.deref.ensures.value c.hits_at-hits.ensures.hits in
+    let are : AreHits s.level c.args.cut failed [] s.table.rows hits = subst (λ (jobs : List (VolumeJob _)). AreHits s.level c.args.cut (map has_job_failed jobs) [] s.table.rows hits) c.deref.ensures.value c.hits_at-hits.ensures.hits in
     let made = hits_make_rows s.level c.args.cut failed s.table.rows hits are (below_more (length failed) 64 s.table.rows few below) in
     let table : c.take_hits.new.table ≡ with_rows s.table (rows_with_hits s.level c.args.cut.0 failed s.table.rows) = c.take_hits.ensures ∙ ap (with_rows s.table) made in
     rw (table, ← c.self.view_is) refl

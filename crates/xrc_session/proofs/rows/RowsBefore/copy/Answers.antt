@@ -1,15 +1,14 @@
-use Rattle.std.proofs.Common.{sym, arith}
-use Rattle.xrc_session.proofs.CopiedRows.{none_within, taken_more}
-use Rattle.xrc_session.proofs.rows.RowsBefore.copy.Goals.{in-Some, in_default}
+use Rattle.std.proofs.Common.{arith}
+use Rattle.image_former.proofs.Lists.{item_there}
+use Rattle.xrc_session.proofs.CopiedRows.{taken_more}
 use Rattle.xrc_session.proofs.rows.RowsBefore.copy.Goals as goal
 
-pub loop-place-preserved : goal.loop-place-preserved
-loop-place-preserved c = elim c.match-row.branch [
-  | in-Some w ↦
-      let items = w.push_reserved.ensures.items in
-      let len = w.push_reserved.ensures.len in (
-        rw w.self-is (taken_more c.args.table.now.rows c.loop-place.place w.in-Some.row.now c.loop-place.self.rows.items w.push_reserved.new.self.items (sym w.in-Some.ensures.row) c.loop-place.invariant.0 items),
-        rw w.self-is (omega arith),
-      )
-  | in_default w ↦ absurd (none_within c.args.table.now.rows c.loop-place.place (omega arith) (sym w.in_default.ensures.row))
-]
+pub loop-row-preserved : goal.loop-row-preserved
+loop-row-preserved c =
+    let rows = c.args.table.now.rows in
+    let i = c.loop-row.row-index in
+    let row = c.row-item.result in
+    let there = item_there c.rows-row-items.result.now rows i row c.rows-row-items.ensures.rows c.loop-row-test.true c.row-item.is in (
+      taken_more rows i row c.loop-row.self.rows.items c.push_reserved.new.self.items there c.loop-row.invariant.0 c.push_reserved.ensures.items,
+      omega (arith, c.push_reserved.ensures.len, c.loop-row.invariant.1),
+    )

@@ -1,0 +1,34 @@
+use Rattle.std.proofs.Common.{refl}
+use Rattle.xrc_cli.proofs.laws.limits_are_fixed.Goals as goal
+
+pub returns : goal.returns
+returns c = record {
+  controls = refl;
+  control_volumes = refl;
+  cylinders = refl;
+  tracks = refl;
+  run_writes = refl;
+  trace = refl;
+  lines = refl;
+  line = refl;
+  heard = refl;
+  input = refl;
+  fewest_journals = refl;
+  journals = refl;
+  site_volumes = refl;
+  last_device = refl;
+  rows = refl;
+  row = refl;
+  block = refl;
+  track = refl;
+  update = refl;
+  slot = refl;
+  first_slot = refl;
+  cylinder = refl;
+  control = refl;
+  state = refl;
+  switch = refl;
+  beside_controls = refl;
+  of_control = refl;
+  body = refl;
+}
