@@ -7,7 +7,7 @@
 # - `Module.name` is a word of a file Module.antt, and `crate::name` one of that crate. `Type::name` is two words of one file.
 # - Any other word is one of crates/*/src, of crates/*/specs or of a script, or a part of a path.
 # Comments don't count. Words of one letter, numbers, bytes in hexadecimal digits, what begins with a sign, indented and fenced blocks, and what
-# stands behind `rt` are left out.
+# stands after `rt` are left out.
 set -eu
 cd "$(dirname "$0")/.."
 

@@ -35,7 +35,7 @@ copy() {
     check_said labelled wanted_label
     [ "$(volume_bytes 0 0 14)" = 58564f4c53454330303100000001 ] || fail "the label is another"
     status=0
-    "$program" run ABC 1 <script >replies || status=$?
+    "$program" run ABC 1 script replies || status=$?
     echo "xrc run ABC 1 says:"
     check_said replies wanted
     [ "$status" -eq 0 ] || fail "the status is $status and not 0"
@@ -61,7 +61,7 @@ echo
     bytes '04 00 00 00 00 00 00 00 10 00 00 00 00 00 03 00 03 01 00 00 02 41 42 02 00 00 02 43 44 03 00 00 02 45 46'
     # At 58 its record 2 is updated by X, which is filled with a zero.
     bytes '02 00 00 00 00 00 00 00 58 00 00 00 00 00 03 02 00 01 58'
-    # At 64 it is formatted behind record 2: record 3 is erased, and record 4 gets the key K and the content GHI.
+    # At 64 it is formatted after record 2: record 3 is erased, and record 4 gets the key K and the content GHI.
     bytes '03 00 00 00 00 00 00 00 64 00 00 00 00 00 03 02 01 04 01 00 03 4B 47 48 49'
     # At 70 track 5, which is empty, is formatted from its start: record 1 gets the content N.
     bytes '03 00 00 00 00 00 00 00 70 00 00 00 00 00 05 00 01 01 00 00 01 4E'
@@ -74,4 +74,4 @@ copy
 check_slot 0 3 000301000002595a020000025800040100034b474849 "record 1 with YZ, record 2 with X and a zero, record 4 with the key K and GHI"
 check_slot 0 5 0001010000014e "record 1 with N"
 check_slot 0 0 0000 "no record"
-echo "The volume was copied and followed. The write of 91 came behind the session's end at 90."
+echo "The volume was copied and followed. The write of 91 came after the session's end at 90."

@@ -79,7 +79,7 @@ front() {
     bytes '01 00 00 00 00 00 00 02 45'
 }
 
-# Whether track 5 of PRIM03 has come behind the first write to it.
+# Whether track 5 of PRIM03 has come after the first write to it.
 is_updated() {
     case $(slot 2 5 8) in
     0001010000024d4e | 0001010000024f50) true ;;
@@ -91,7 +91,7 @@ new_devices 2 3
 mkfifo trace.1
 (front; exec sleep 600) >trace.1 &
 writing=$!
-"$program" run ABC 2 <script >replies &
+"$program" run ABC 2 script replies &
 running=$!
 wait_until "no write of 235 came to the secondary" is_updated
 crash
@@ -112,7 +112,7 @@ printf 'PAIR PRIM01 SEC001 DUPLEX\nPAIR PRIM02 SEC002 DUPLEX\nPAIR PRIM03 SEC003
 tail -n +2 recovered | cmp -s wanted - || fail "not all pairs are duplex"
 echo
 echo "All three secondaries stand at one time, $time, up to which both controllers had told their writes:"
-check_slot 0 3 0001010000024748 "GH of 230. IJ of 250 is not there, since it is behind $time, although controller 0 had told it"
+check_slot 0 3 0001010000024748 "GH of 230. IJ of 250 is not there, since it is after $time, although controller 0 had told it"
 check_slot 1 1 0001010000024546 "EF of 110, which was written while the pair was suspended"
 check_slot 1 7 0001010000014e "N of 118, which was written while the pair was suspended"
 check_slot 2 5 "$track" "$content"

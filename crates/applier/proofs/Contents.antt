@@ -9,16 +9,16 @@ use Rattle.ckd_track.specs.Images.{image, image_at}
 use Rattle.ckd_track.specs.SlotPlaces.{slot_place, slot_end, slot_track, track_read}
 use Rattle.ckd_track.proofs.ImageLaws.{image_again}
 use Rattle.ckd_track.proofs.Parts.{length-image}
-use Rattle.ckd_track.proofs.SlotTracks.{behind_is, image_same}
+use Rattle.ckd_track.proofs.SlotTracks.{after_is, image_same}
 use Rattle.crash_plant.specs.Bytes.{patched, Torn}
 use Rattle.crash_plant.proofs.Patches.{patched_torn}
-use Rattle.xrc_journal.specs.Items.{Item, Earlier, anywhere, behind, is_item, are_items_behind}
+use Rattle.xrc_journal.specs.Items.{Item, Earlier, anywhere, earlier_after, is_item, are_items_after}
 use Rattle.xrc_journal.specs.Items.Item.{Image, Delta, Pair, Gone}
 use Rattle.xrc_journal.specs.Contents.{HasItem, content_by, content_through, is_of_track}
 use Rattle.xrc_journal.proofs.ItemsAgain.{image_rules}
 use Rattle.applier.specs.Slots.{DiffersInSlots, BeginsWithTrack, HoldsContentBut, HoldsContent}
 use Rattle.applier.specs.Writes.{written_by, written}
-use Rattle.applier.proofs.Ranges.{torn_apart, written_behind, range_written, range_part}
+use Rattle.applier.proofs.Ranges.{torn_apart, written_after, range_written, range_part}
 use Rattle.applier.proofs.InSlots.{has_first, has_more, differs_here, differs_then, torn_differs, slots_apart}
 use Rattle.applier.proofs.Writing.{own_track}
 
@@ -29,9 +29,9 @@ same_slot x v w room same =
     let q = slot_end x in
     let t = slice_range v p q in
     let long : 56670 ≤ length t = omega (arith, room, length-take (q - p) (drop p v), length-drop p v) in
-    ap (λ (l : List ℕ). track_read (image_at l)) (behind_is p q w ∙ ap (λ (l : List ℕ). l ++ drop (q - p) (drop p w)) same)
+    ap (λ (l : List ℕ). track_read (image_at l)) (after_is p q w ∙ ap (λ (l : List ℕ). l ++ drop (q - p) (drop p w)) same)
     ∙ image_same t (drop (q - p) (drop p w)) (drop (q - p) (drop p v)) long
-    ∙ ap (λ (l : List ℕ). track_read (image_at l)) (sym (behind_is p q v))
+    ∙ ap (λ (l : List ℕ). track_read (image_at l)) (sym (after_is p q v))
 
 -- the slot begins with a track's image, which fits it
 abbrev pub Begun : (volume : List ℕ) → (track : ℕ) → Option (List Rec) → Type 0
@@ -67,7 +67,7 @@ module _ (device : ℕ) where
     put_differs = torn_differs device y (length (image recs)) (Image of y recs) b (patched (slot_place y) (image recs) b) (own_track device of y recs here) short torn
 
     put_track : slot_track (patched (slot_place y) (image recs) b) y ≡ Some recs
-    put_track = ap (λ (l : List ℕ). track_read (image_at l)) (written_behind (slot_place y) (image recs) b (omega (arith, room)))
+    put_track = ap (λ (l : List ℕ). track_read (image_at l)) (written_after (slot_place y) (image recs) b (omega (arith, room)))
         ∙ ap (λ (r : Result _ _). track_read r) (image_again recs (drop (slot_place y + length (image recs)) b) are)
 
     put_begun : Begun (patched (slot_place y) (image recs) b) y (Some recs)
@@ -170,7 +170,7 @@ module _ (device : ℕ) where
     pub content : (x : ℕ) → slot_end x ≤ length b → slot_track c x ≡ content_through device x items (slot_track b x)
     pub begun : (x : ℕ) (t : Option (List Rec)) → HasItem device x items ⊎ Begun b x t → Begun c x (content_through device x items t)
 
-  pub items_steps : (earlier : Earlier) (items : List Item) (b : List ℕ) → are_items_behind anywhere earlier items ≡ true → Room items (length b) → Steps items b (written device items b)
+  pub items_steps : (earlier : Earlier) (items : List Item) (b : List ℕ) → are_items_after anywhere earlier items ≡ true → Room items (length b) → Steps items b (written device items b)
   items_steps earlier [] b keep room = record {
     differs = differs_here device [] b;
     content = λ x within. refl;
@@ -183,10 +183,10 @@ module _ (device : ℕ) where
       clash : false ≡ true → ⊥
       clash e = cc
   items_steps earlier (i ∷ items) b keep room =
-      let parts = and_parts (is_item anywhere earlier i) (are_items_behind anywhere (behind i earlier) items) keep in
+      let parts = and_parts (is_item anywhere earlier i) (are_items_after anywhere (earlier_after i earlier) items) keep in
       let one = item_step earlier i b parts.0 (λ x has. room x (has_first device x i items has)) in
       let b' = written_by device b i in
-      let more = items_steps (behind i earlier) items b' parts.1 (λ x has. omega (arith, room x (has_more device x i items has), one.differs.size)) in
+      let more = items_steps (earlier_after i earlier) items b' parts.1 (λ x has. omega (arith, room x (has_more device x i items has), one.differs.size)) in
       record {
         differs = differs_then device (i ∷ []) items b b' (written device items b') one.differs more.differs;
         content = λ x within. more.content x (omega (arith, within, one.differs.size)) ∙ ap (content_through device x items) (one.content x within);
@@ -200,7 +200,7 @@ module _ (device : ℕ) where
 
   -- ---- what a volume holds
 
-  pub holds_all : (earlier : Earlier) (items : List Item) (b : List ℕ) → are_items_behind anywhere earlier items ≡ true → Room items (length b) → HoldsContent device items b (written device items b)
+  pub holds_all : (earlier : Earlier) (items : List Item) (b : List ℕ) → are_items_after anywhere earlier items ≡ true → Room items (length b) → HoldsContent device items b (written device items b)
   holds_all earlier items b keep room =
       let all = items_steps earlier items b keep room in
       record {
@@ -209,7 +209,7 @@ module _ (device : ℕ) where
       }
 
   -- also where the write of an item more failed
-  pub holds_but : (earlier : Earlier) (items : List Item) (i : Item) (b c : List ℕ) → are_items_behind anywhere earlier items ≡ true → Room items (length b) → DiffersInSlots device (i ∷ []) (written device items b) c
+  pub holds_but : (earlier : Earlier) (items : List Item) (i : Item) (b c : List ℕ) → are_items_after anywhere earlier items ≡ true → Room items (length b) → DiffersInSlots device (i ∷ []) (written device items b) c
       → HoldsContentBut (i ∷ []) device items b c
   holds_but earlier items i b c keep room torn =
       let all = items_steps earlier items b keep room in

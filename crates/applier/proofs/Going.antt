@@ -6,12 +6,12 @@ use Rattle.std.proofs.lemmas.Bool.{and_parts}
 use Rattle.std.proofs.lemmas.Option.{same_Some}
 use Rattle.std.proofs.lemmas.List.{take_all, drop_at, drop-drop}
 use Rattle.xrc_journal.specs.declared.reading.BodyItem.{BodyItem}
-use Rattle.xrc_journal.specs.Items.{Item, Earlier, none_earlier, anywhere, behind, is_item, are_items_behind, item_spelling, body_spelling}
+use Rattle.xrc_journal.specs.Items.{Item, Earlier, none_earlier, anywhere, earlier_after, is_item, are_items_after, item_spelling, body_spelling}
 use Rattle.xrc_journal.specs.Views.{told, first_told}
 use Rattle.xrc_journal.proofs.ItemsAgain.{some_bytes}
 use Rattle.xrc_journal.specs.Contents.{HasItem}
 use Rattle.applier.specs.Writes.{IsTold}
-use Rattle.applier.proofs.InSlots.{has_behind, has_first}
+use Rattle.applier.proofs.InSlots.{has_after, has_first}
 
 -- how far the items of a body were gone over
 pub record Reading (items : List Item) (bytes : List ℕ) (at : ℕ) : Type 0 where
@@ -21,9 +21,9 @@ pub record Reading (items : List Item) (bytes : List ℕ) (at : ℕ) : Type 0 wh
   pub whole : items ≡ done ++ todo
   pub within : at ≤ length bytes
   pub rest : drop at bytes ≡ body_spelling todo
-  pub keep : are_items_behind anywhere earlier todo ≡ true
+  pub keep : are_items_after anywhere earlier todo ≡ true
 
-abbrev pub reading_start : (items : List Item) (bytes : List ℕ) → are_items_behind anywhere none_earlier items ≡ true → bytes ≡ body_spelling items → Reading items bytes 0
+abbrev pub reading_start : (items : List Item) (bytes : List ℕ) → are_items_after anywhere none_earlier items ≡ true → bytes ≡ body_spelling items → Reading items bytes 0
 reading_start items bytes keep spelled = record { done = []; todo = items; earlier = none_earlier; whole = refl; within = omega arith; rest = spelled; keep = keep }
 
 module _ (items : List Item) (bytes : List ℕ) (at : ℕ) (r : Reading items bytes at) where
@@ -41,12 +41,12 @@ module _ (items : List Item) (bytes : List ℕ) (at : ℕ) (r : Reading items by
     pub some : 1 ≤ size
     pub long : at + size ≤ length bytes
     pub rest_is : drop (at + size) bytes ≡ body_spelling more
-    pub others : are_items_behind anywhere (behind i r.earlier) more ≡ true
+    pub others : are_items_after anywhere (earlier_after i r.earlier) more ≡ true
 
   next_by : (todo : List Item) (item : BodyItem) (size : ℕ) → r.todo ≡ todo → (let a : Option (BodyItem × ℕ) = Some (item, size) in a ≡ first_told todo) → Next item size
   next_by [] item size is e = absurd cc
   next_by (i ∷ more) item size is e =
-      let parts = and_parts (is_item anywhere r.earlier i) (are_items_behind anywhere (behind i r.earlier) more) (subst (λ (l : List Item). are_items_behind anywhere r.earlier l ≡ true) is r.keep) in
+      let parts = and_parts (is_item anywhere r.earlier i) (are_items_after anywhere (earlier_after i r.earlier) more) (subst (λ (l : List Item). are_items_after anywhere r.earlier l ≡ true) is r.keep) in
       let pair = same_Some (item, size) (told i, length (item_spelling i)) e in
       let same : (item ≡ told i) × (size ≡ length (item_spelling i)) = (ap (λ (p : BodyItem × ℕ). p.0) pair, ap (λ (p : BodyItem × ℕ). p.1) pair) in
       let within : (at + size) - at ≡ size = omega arith in
@@ -71,7 +71,7 @@ module _ (items : List Item) (bytes : List ℕ) (at : ℕ) (r : Reading items by
   read_more item size n = record {
     done = r.done ++ n.i ∷ [];
     todo = n.more;
-    earlier = behind n.i r.earlier;
+    earlier = earlier_after n.i r.earlier;
     whole = n.parts ∙ sym (append_assoc r.done (n.i ∷ []) n.more);
     within = n.long;
     rest = n.rest_is;
@@ -84,7 +84,7 @@ module _ (items : List Item) (bytes : List ℕ) (at : ℕ) (r : Reading items by
 
   -- It is one of the items.
   pub next_has : (item : BodyItem) (size : ℕ) (n : Next item size) (device x : ℕ) → HasItem device x (n.i ∷ []) → HasItem device x items
-  next_has item size n device x has = subst (λ (l : List Item). HasItem device x l) (sym n.parts) (has_behind device x r.done (n.i ∷ n.more) (has_first device x n.i n.more has))
+  next_has item size n device x has = subst (λ (l : List Item). HasItem device x l) (sym n.parts) (has_after device x r.done (n.i ∷ n.more) (has_first device x n.i n.more has))
 
   -- all were read
   none_by : (todo : List Item) → (let a : Option (BodyItem × ℕ) = None in a ≡ first_told todo) → todo ≡ []

@@ -22,8 +22,8 @@ module _ (device : ℕ) where
   pub has_before : (x : ℕ) (a b : List Item) → HasItem device x a → HasItem device x (a ++ b)
   has_before x a b has = list_any-append (is_of_track device x) a b ∙ or_left (list_any (is_of_track device x) a) (list_any (is_of_track device x) b) has
 
-  pub has_behind : (x : ℕ) (a b : List Item) → HasItem device x b → HasItem device x (a ++ b)
-  has_behind x a b has = list_any-append (is_of_track device x) a b ∙ or_right (list_any (is_of_track device x) a) (list_any (is_of_track device x) b) has
+  pub has_after : (x : ℕ) (a b : List Item) → HasItem device x b → HasItem device x (a ++ b)
+  has_after x a b has = list_any-append (is_of_track device x) a b ∙ or_right (list_any (is_of_track device x) a) (list_any (is_of_track device x) b) has
 
   pub has_either : (x : ℕ) (a b : List Item) → HasItem device x (a ++ b) → HasItem device x a ⊎ HasItem device x b
   has_either x a b has = or_cases (list_any (is_of_track device x) a) (list_any (is_of_track device x) b) (sym (list_any-append (is_of_track device x) a b) ∙ has)
@@ -33,7 +33,7 @@ module _ (device : ℕ) where
   has_first x i more has = has_before x (i ∷ []) more has
 
   pub has_more : (x : ℕ) (i : Item) (more : List Item) → HasItem device x more → HasItem device x (i ∷ more)
-  has_more x i more has = has_behind x (i ∷ []) more has
+  has_more x i more has = has_after x (i ∷ []) more has
 
   pub has_split : (x : ℕ) (i : Item) (more : List Item) → HasItem device x (i ∷ more) → HasItem device x (i ∷ []) ⊎ HasItem device x more
   has_split x i more has = has_either x (i ∷ []) more has
@@ -50,7 +50,7 @@ module _ (device : ℕ) where
   pub differs_then : (items more : List Item) (a b c : List ℕ) → DiffersInSlots device items a b → DiffersInSlots device more b c → DiffersInSlots device (items ++ more) a c
   differs_then items more a b c d e = record {
     size = e.size ∙ d.size;
-    others = λ from to up apart. e.others from to up (λ x has. apart x (has_behind x items more has)) ∙ d.others from to up (λ x has. apart x (has_before x items more has));
+    others = λ from to up apart. e.others from to up (λ x has. apart x (has_after x items more has)) ∙ d.others from to up (λ x has. apart x (has_before x items more has));
   }
 
   -- a write into the slot of an item's track
@@ -59,7 +59,7 @@ module _ (device : ℕ) where
     size = torn.size;
     others = λ from to up apart. torn_apart (slot_place y) n from to b c torn up (elim (apart y has) [
       | inl before ↦ inl before
-      | inr behind ↦ inr (omega (arith, behind, short))
+      | inr after ↦ inr (omega (arith, after, short))
     ]);
   }
 

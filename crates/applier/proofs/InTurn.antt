@@ -12,7 +12,7 @@ use Rattle.applier.specs.Disks.{OnDisks}
 use Rattle.applier.specs.Slots.{DiffersInSlots}
 use Rattle.applier.specs.Writes.{written_by, written, EndsAs, StopsAt, Writes, WritesAll, WritesInTurn, WritesOn, WritesToJob}
 use Rattle.applier.proofs.Going.{Reading}
-use Rattle.applier.proofs.InSlots.{has_before, has_behind, differs_here, differs_before, differs_then}
+use Rattle.applier.proofs.InSlots.{has_before, has_after, differs_here, differs_before, differs_then}
 
 module _ {D : Type 0} (state : D → Standing) (tells : Type 0) (device : ℕ) where
   -- nothing yet
@@ -54,7 +54,7 @@ module _ {D : Type 0} (state : D → Standing) (tells : Type 0) (device : ℕ) w
     writes_more is = record {
       length_is = one.length_is ∙ so_far.length_is;
       faults = same_count (state mid).faults (state last).faults result is one.cause ∙ so_far.faults;
-      idle = λ none. one.idle (λ x has. none x (has_behind device x done (i ∷ []) has)) ∙ so_far.idle (λ x has. none x (has_before device x done (i ∷ []) has));
+      idle = λ none. one.idle (λ x has. none x (has_after device x done (i ∷ []) has)) ∙ so_far.idle (λ x has. none x (has_before device x done (i ∷ []) has));
       past = λ told. kept_trans (state first) (state mid) (state last) (so_far.past told) (one.past told);
       moments = both_moments;
       bytes = λ told. same_bytes (state last).bytes (written_by device (state mid).bytes i) (written device (done ++ i ∷ []) (state first).bytes) result is (one.done told)
@@ -77,7 +77,7 @@ module _ {D : Type 0} (state : D → Standing) (tells : Type 0) (device : ℕ) w
       bytes = λ told. subst (λ (l : List ℕ). DiffersInSlots device (i ∷ []) l (state last).bytes) (so_far.bytes told) (one.bytes told);
     }
 
-  -- An item behind the one that failed is not begun.
+  -- An item after the one that failed is not begun.
   stops_still : (items : List Item) (i : Item) (first last : D) → StopsAt state tells device items first last → StopsAt state tells device (items ++ i ∷ []) first last
   stops_still items i first last s = record {
     before = s.before;

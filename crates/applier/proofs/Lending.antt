@@ -48,7 +48,7 @@ module _ {D : Type 0} where
   pub other_volume : (jobs : List (VolumeJob D)) (i k : ℕ) (d : VolumeJob D) → AreApart jobs → i < length jobs → k < length jobs → k ≢ i → (get_or jobs k d).device ≢ (get_or jobs i d).device
   other_volume jobs i k d apart i_less k_less differ same = elim (cases_lt i k) [
     | inl before ↦ apart i k d before k_less (sym same)
-    | inr behind ↦ apart k i d (omega (arith, behind, differ)) i_less same
+    | inr after ↦ apart k i d (omega (arith, after, differ)) i_less same
   ]
 
   -- An item without a disk is none that has one.

@@ -39,7 +39,7 @@ module _ {D : Type 0} (holds : VolumeJob D → VolumeJob D → Type 0) where
         at i d less = elim (cases_lt i (length front)) [
           | inl before ↦ subst (λ (j : VolumeJob D). holds j (get_or (front' ++ back') i d)) (sym (get_or_append_left front back d i before))
               (subst (λ (j : VolumeJob D). holds (get_or front i d) j) (sym (get_or_append_left front' back' d i (omega (arith, before, first.same)))) (first.each i d before))
-          | inr behind ↦ subst (λ (j : VolumeJob D). holds j (get_or (front' ++ back') i d)) (sym (get_or-append_right front back (length front) i d refl behind))
-              (subst (λ (j : VolumeJob D). holds (get_or back (i - length front) d) j) (sym (get_or-append_right front' back' (length front) i d first.same behind))
-              (second.each (i - length front) d (omega (arith, less, behind, length-append front back))))
+          | inr after ↦ subst (λ (j : VolumeJob D). holds j (get_or (front' ++ back') i d)) (sym (get_or-append_right front back (length front) i d refl after))
+              (subst (λ (j : VolumeJob D). holds (get_or back (i - length front) d) j) (sym (get_or-append_right front' back' (length front) i d first.same after))
+              (second.each (i - length front) d (omega (arith, less, after, length-append front back))))
         ]

@@ -11,7 +11,7 @@ use Rattle.crash_plant.proofs.Steps.{kept_here, follows_here}
 use Rattle.xrc_journal.specs.declared.job.VolumeJob.{VolumeJob}
 use Rattle.xrc_journal.specs.declared.reading.BodyItem.{BodyItem}
 use Rattle.xrc_journal.specs.declared.reading.BodyItem.TheVariants.{Image as ImageTold}
-use Rattle.xrc_journal.specs.Items.{Item, anywhere, none_earlier, is_item, are_items_behind}
+use Rattle.xrc_journal.specs.Items.{Item, anywhere, none_earlier, is_item, are_items_after}
 use Rattle.xrc_journal.specs.Items.Item.{Image, Delta, Pair, Gone}
 use Rattle.xrc_journal.specs.Views.{told}
 use Rattle.xrc_journal.specs.Contents.{HasItem}
@@ -216,7 +216,7 @@ module _ {D : Type 0} (state : D → Standing) (tells : Type 0) where
         let there : k < length old = omega (arith, less, so_far.same) in
         room_of_item state tells items item bytes i t has_more done (get_or old k d) (get_or now k d) (slots k d there) (so_far.each k d there)
 
-  pub each_applies : (items : List Item) (old now : List (VolumeJob D)) → are_items_behind anywhere none_earlier items ≡ true → All (HasItsSlots state items) old → ((disk : D) → tells → length (state disk).bytes ≡ (state disk).length_is) → HoldsOfEach (WritesInTurn state tells items) old now → HoldsOfEach (AppliesToJob state tells items) old now
+  pub each_applies : (items : List Item) (old now : List (VolumeJob D)) → are_items_after anywhere none_earlier items ≡ true → All (HasItsSlots state items) old → ((disk : D) → tells → length (state disk).bytes ≡ (state disk).length_is) → HoldsOfEach (WritesInTurn state tells items) old now → HoldsOfEach (AppliesToJob state tells items) old now
   each_applies items old now keep slots told_length all = record {
     same = all.same;
     each = λ k d less. applies_in_turn state tells items (get_or old k d) (get_or now k d) keep (slots k d less) told_length (all.each k d less);

@@ -5,7 +5,7 @@ use Rattle.ckd_track.specs.SlotPlaces.{slot_end}
 use Rattle.crash_plant.specs.Moments.{Standing, Follows, SamePast}
 use Rattle.crash_plant.proofs.Steps.{kept_here, follows_here}
 use Rattle.xrc_journal.specs.declared.job.VolumeJob.{VolumeJob}
-use Rattle.xrc_journal.specs.Items.{Item, Form, Earlier, none_earlier, anywhere, behind, is_item, are_items_behind}
+use Rattle.xrc_journal.specs.Items.{Item, Form, Earlier, none_earlier, anywhere, earlier_after, is_item, are_items_after}
 use Rattle.xrc_journal.specs.Contents.{HasItem}
 use Rattle.xrc_journal.specs.Jobs.{FailsByCount, OnVolume}
 use Rattle.applier.specs.Disks.{OnDisks}
@@ -13,19 +13,19 @@ use Rattle.applier.specs.Sides.{AppliesToJob, HasItsSlots}
 use Rattle.applier.specs.Slots.{DiffersInSlots, HoldsContent}
 use Rattle.applier.specs.Jobs.{HasSlots, StopsAtItem}
 use Rattle.applier.specs.Writes.{written, EndsAs, StopsAt, WritesAll, WritesInTurn}
-use Rattle.applier.proofs.InSlots.{has_before, has_behind, differs_before, differs_here, differs_then}
+use Rattle.applier.proofs.InSlots.{has_before, has_after, differs_before, differs_here, differs_then}
 use Rattle.applier.proofs.Contents.{Room, items_steps, holds_all, holds_but}
 
-keep_front : (form : Form) (earlier : Earlier) (items more : List Item) → are_items_behind form earlier (items ++ more) ≡ true → are_items_behind form earlier items ≡ true
+keep_front : (form : Form) (earlier : Earlier) (items more : List Item) → are_items_after form earlier (items ++ more) ≡ true → are_items_after form earlier items ≡ true
 keep_front form earlier [] more keep = refl
 keep_front form earlier (i ∷ items) more keep =
-    let parts = and_parts (is_item form earlier i) (are_items_behind form (behind i earlier) (items ++ more)) keep in
-    λ j. parts.0 j && keep_front form (behind i earlier) items more parts.1 j
+    let parts = and_parts (is_item form earlier i) (are_items_after form (earlier_after i earlier) (items ++ more)) keep in
+    λ j. parts.0 j && keep_front form (earlier_after i earlier) items more parts.1 j
 
 slots_of : {D : Type 0} (state : D → Standing) (device : ℕ) (items : List Item) (job : Option D) (disk : D) → job ≡ Some disk → HasSlots state device items job → (x : ℕ) → HasItem device x items → slot_end x ≤ (state disk).length_is
 slots_of state device items job disk is has = subst (λ (o : Option _). HasSlots state device items o) is has
 
-module _ {D : Type 0} (state : D → Standing) (tells : Type 0) (device : ℕ) (items : List Item) (old new : D) (keep : are_items_behind anywhere none_earlier items ≡ true) (slots : (x : ℕ) → HasItem device x items → slot_end x ≤ (state old).length_is)
+module _ {D : Type 0} (state : D → Standing) (tells : Type 0) (device : ℕ) (items : List Item) (old new : D) (keep : are_items_after anywhere none_earlier items ≡ true) (slots : (x : ℕ) → HasItem device x items → slot_end x ≤ (state old).length_is)
     (told_length : tells → length (state old).bytes ≡ (state old).length_is) where
   room : tells → Room device items (length (state old).bytes)
   room told x has = omega (arith, slots x has, told_length told)
@@ -42,8 +42,8 @@ module _ {D : Type 0} (state : D → Standing) (tells : Type 0) (device : ℕ) (
   -- ---- one failed
 
   module _ (s : StopsAt state tells device items old new) where
-    front : are_items_behind anywhere none_earlier s.before ≡ true
-    front = keep_front anywhere none_earlier s.before (s.item ∷ s.rest) (ap (λ (l : List Item). are_items_behind anywhere none_earlier l) (sym s.parts) ∙ keep)
+    front : are_items_after anywhere none_earlier s.before ≡ true
+    front = keep_front anywhere none_earlier s.before (s.item ∷ s.rest) (ap (λ (l : List Item). are_items_after anywhere none_earlier l) (sym s.parts) ∙ keep)
 
     front_room : tells → Room device s.before (length (state old).bytes)
     front_room told x has = room told x (subst (λ (l : List Item). HasItem device x l) (sym s.parts) (has_before device x s.before (s.item ∷ s.rest) has))
@@ -75,7 +75,7 @@ module _ {D : Type 0} (state : D → Standing) (tells : Type 0) (device : ℕ) (
     }
 
     some : ((x : ℕ) → HasItem device x items → ⊥) → ⊥
-    some none = none s.track (subst (λ (l : List Item). HasItem device s.track l) (sym parts) (has_before device s.track (s.before ++ s.item ∷ []) s.rest (has_behind device s.track s.before (s.item ∷ []) s.own)))
+    some none = none s.track (subst (λ (l : List Item). HasItem device s.track l) (sym parts) (has_before device s.track (s.before ++ s.item ∷ []) s.rest (has_after device s.track s.before (s.item ∷ []) s.own)))
 
   -- ---- by whether the job failed
 
@@ -129,7 +129,7 @@ same_on holds None None to held = refl
 same_on holds None (Some b) to held = absurd held
 same_on holds (Some a) None to held = absurd held
 
-module _ {D : Type 0} (state : D → Standing) (tells : Type 0) (items : List Item) (old new : VolumeJob D) (keep : are_items_behind anywhere none_earlier items ≡ true) (slots : HasItsSlots state items old)
+module _ {D : Type 0} (state : D → Standing) (tells : Type 0) (items : List Item) (old new : VolumeJob D) (keep : are_items_after anywhere none_earlier items ≡ true) (slots : HasItsSlots state items old)
     (told_length : (disk : D) → tells → length (state disk).bytes ≡ (state disk).length_is) (w : WritesInTurn state tells items old new) where
   room_on : old.failed ≡ false → (a : D) → old.disk ≡ Some a → (x : ℕ) → HasItem old.device x items → slot_end x ≤ (state a).length_is
   room_on good a is = slots_of state old.device items old.disk a is (slots good)

@@ -31,8 +31,8 @@ pub record IsImageOf (of track : ℕ) (bytes : List ℕ) (i : Item) : Type 0 whe
   pub spelled : bytes ≡ 1 ∷ to_be_bytes w16 of ++ to_be_bytes w32 track ++ image recs
   pub bytes_are : slice_range bytes 7 (length bytes) ≡ image recs
 
-image_behind : (of track : ℕ) (recs : List Rec) → drop 7 (1 ∷ to_be_bytes w16 of ++ to_be_bytes w32 track ++ image recs) ≡ image recs
-image_behind of track recs = refl
+image_after : (of track : ℕ) (recs : List Rec) → drop 7 (1 ∷ to_be_bytes w16 of ++ to_be_bytes w32 track ++ image recs) ≡ image recs
+image_after of track recs = refl
 
 pub told_image : (of track : ℕ) (bytes : List ℕ) (i : Item) → IsTold (BodyItem.Image of track) bytes i → IsImageOf of track bytes i
 told_image of track bytes i t = go i t.keeps t.told_is t.spelled
@@ -46,7 +46,7 @@ told_image of track bytes i t = go i t.keeps t.told_is t.spelled
           is = λ i. Image (sym device i) (sym place i) r;
           are = (image_rules anywhere t.earlier d x r keeps).are;
           spelled = spelled ∙ (λ i. 1 ∷ to_be_bytes w16 (sym device i) ++ to_be_bytes w32 (sym place i) ++ image r);
-          bytes_are = take_rest bytes 7 ∙ ap (λ (l : List ℕ). drop 7 l) spelled ∙ image_behind d x r;
+          bytes_are = take_rest bytes 7 ∙ ap (λ (l : List ℕ). drop 7 l) spelled ∙ image_after d x r;
         }
     go (Delta d x kind) keeps e spelled = absurd cc
     go (Pair row) keeps e spelled = absurd cc

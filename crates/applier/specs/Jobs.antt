@@ -11,7 +11,7 @@ abbrev pub HasSlots : {D : Type 0} (state : D → Standing) → (device : ℕ) �
 HasSlots state device items (Some disk) = (x : ℕ) → HasItem device x items → slot_end x ≤ (state disk).length_is
 HasSlots state device items None = (x : ℕ) → ¬ HasItem device x items
 
--- A write failed at one of the device's items: those before it are done, and those behind it aren't begun.
+-- A write failed at one of the device's items: those before it are done, and those after it aren't begun.
 pub record StopsAtItem (device : ℕ) (items : List Item) (old new : Standing) : Type 0 where
   pub done : List Item
   pub item : Item

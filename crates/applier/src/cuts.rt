@@ -38,8 +38,8 @@ pub(crate) fn count_work<D>(jobs: &[VolumeJob<D>]) -> usize {
     jobs.iter().filter(|job| has_work(job)).count()
 }
 
-/// The place behind so many jobs on which there is work.
-pub(crate) fn place_behind<D>(jobs: &[VolumeJob<D>], count: usize) -> usize
+/// The place after so many jobs on which there is work.
+pub(crate) fn place_after<D>(jobs: &[VolumeJob<D>], count: usize) -> usize
     ensures { result ≤ length jobs.now }
 {
     let mut passed = 0;
@@ -70,7 +70,7 @@ fn work_in_parts<R: Threads + Sync, D: Send, W: Work<D> + Sync>(
         work.work_on(jobs);
         return;
     }
-    let (front, back) = jobs.split_at_mut(place_behind(jobs, count / 2));
+    let (front, back) = jobs.split_at_mut(place_after(jobs, count / 2));
     work_on_both(rt, work, front, back, cuts - 1);
 }
 

@@ -3,7 +3,7 @@
 ghost use Rattle.std.specs.Prelude.{◌≡◌, ◌<◌, ℕ, length, slice_index_or};
 ghost use Rattle.applier.specs.Sides.{HoldsOfEach, SyncsJob};
 
-use crate::cuts::{count_work, place_behind};
+use crate::cuts::{count_work, place_after};
 use crate::sides::{sync_all, sync_each};
 use crash_plant::Disk;
 use std::sync::atomic::{AtomicBool, Ordering};
@@ -75,7 +75,7 @@ fn sync_by_pace<R: Threads + Sync, D: Disk + Send>(
 
 /// Does what `sync_all` does, one volume after another where a sync takes less time than a thread to start, else side by side.
 /// Each sixteenth call with several volumes to sync finds out which: it syncs the first of them while a new thread looks whether
-/// that sync has ended. Where no thread can be started the look comes behind the sync, and volumes are synced one after another.
+/// that sync has ended. Where no thread can be started the look comes after the sync, and volumes are synced one after another.
 pub fn sync_some<R: Threads + Sync, D: Disk + Send>(
     rt: &R,
     pace: &mut SyncPace,
@@ -93,7 +93,7 @@ pub fn sync_some<R: Threads + Sync, D: Disk + Send>(
         sync_by_pace(rt, pace, jobs);
         return;
     }
-    let (first, rest) = jobs.split_at_mut(place_behind(jobs, 1));
+    let (first, rest) = jobs.split_at_mut(place_after(jobs, 1));
     pace.is_quick = sync_watched(rt, first);
     pace.left = CALLS_OF_LOOK;
     sync_by_pace(rt, pace, rest);

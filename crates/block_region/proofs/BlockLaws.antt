@@ -27,8 +27,8 @@ put_here b a piece old fits is =
     ∙ ap (λ (t : List ℕ). take (length piece) t) (drop_at (take p old) (piece ++ rest) p (front_is p old fits))
     ∙ take_at piece rest (length piece) refl
 
-put_behind : (q p : ℕ) (piece old : List ℕ) → q + 512 ≤ p → p ≤ length old → take 512 (drop q (put_at p piece old)) ≡ take 512 (drop q old)
-put_behind q p piece old le fits =
+put_after : (q p : ℕ) (piece old : List ℕ) → q + 512 ≤ p → p ≤ length old → take 512 (drop q (put_at p piece old)) ≡ take 512 (drop q old)
+put_after q p piece old le fits =
     let rest = drop (p + length piece) old in
     sym (drop-take q 512 (put_at p piece old))
     ∙ ap (λ (t : List ℕ). drop q (take (q + 512) t)) (append_assoc (take p old) piece rest)
@@ -43,7 +43,7 @@ pub put_elsewhere : (b c : ℕ) (piece old : List ℕ) → c ≢ b → length pi
 put_elsewhere b c piece old apart short fits = elim (cases_order c b) [
   | inl same ↦ absurd (apart same)
   | inr other ↦ elim other [
-    | inl less ↦ put_behind (512 * c) (512 * b) piece old (omega arith) fits
+    | inl less ↦ put_after (512 * c) (512 * b) piece old (omega arith) fits
     | inr more ↦ ap (λ (t : List ℕ). take 512 t) (put_before (512 * c) (512 * b) piece old (omega arith) fits)
   ]
 ]

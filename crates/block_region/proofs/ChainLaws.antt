@@ -123,8 +123,8 @@ rest_kept region chains chain place all below at k d lt =
       | inl before ↦
           subst (IsKept region after) (sym (get_or-remove_below chains place d k before below))
           (gives_keep region chain (get_or chains k d) (others_apart chains chain place all.apart below at k d (omega arith) (λ same. absurd (omega arith))) (all.held k d (omega arith)))
-      | inr behind ↦
-          subst (IsKept region after) (sym (get_or-remove_above chains place d k behind below))
+      | inr beyond ↦
+          subst (IsKept region after) (sym (get_or-remove_above chains place d k beyond below))
           (gives_keep region chain (get_or chains (k + 1) d) (others_apart chains chain place all.apart below at (k + 1) d (omega arith) (λ same. absurd (omega arith))) (all.held (k + 1) d (omega arith)))
     ]
 

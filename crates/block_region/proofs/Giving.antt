@@ -45,16 +45,16 @@ module _ (bytes next lens : List ℕ) (first_free free first : ℕ) (kept : AreR
   hops_else : (i k : ℕ) → i ≢ first → k < blocks_of (get_or lens i 0) → hop next' k i ≡ hop next k i
   hops_else i k other lt = hop-set next last_block first_free k i (λ j below same. other (omega (arith, (kept.apart (suc i) (suc first) j (count - 1) (omega arith) (omega (arith, positive)) same).0)))
 
-  -- behind the chain come the free blocks
-  hops_behind : (k : ℕ) → k < free → hop next' (count + k) first ≡ hop next k first_free
-  hops_behind k lt =
+  -- after the chain come the free blocks
+  hops_after : (k : ℕ) → k < free → hop next' (count + k) first ≡ hop next k first_free
+  hops_after k lt =
       let e : count ≡ suc (count - 1) = omega (arith, positive) in
       let joint : hop next' count first ≡ first_free =
       ap (λ m. hop next' m first) e ∙ ap (λ b. get_or next' b 0) (hops_here (count - 1) (omega (arith, positive))) ∙ get_or-set_same next last_block first_free 0 last_inside in
       hop-add next' count k first ∙ ap (hop next' k) joint ∙ hops_free k lt
 
   hops_past : (k : ℕ) → count ≤ k → k < free + count → hop next' k first ≡ hop next (k - count) first_free
-  hops_past k le lt = let e : k ≡ count + (k - count) = omega arith in ap (λ m. hop next' m first) e ∙ hops_behind (k - count) (omega arith)
+  hops_past k le lt = let e : k ≡ count + (k - count) = omega arith in ap (λ m. hop next' m first) e ∙ hops_after (k - count) (omega arith)
 
   none_here : (i k : ℕ) → i ≡ first → k < blocks_of (get_or lens' i 0) → ⊥
   none_here i k is lt = omega (arith, ap (λ m. blocks_of (get_or lens' m 0)) is ∙ ap blocks_of (get_or-set_same lens first 0 0 chain_inside))
@@ -77,7 +77,7 @@ module _ (bytes next lens : List ℕ) (first_free free first : ℕ) (kept : AreR
         omega (arith, hops_else i k other at, kept.within (suc i) k at, same_length)
   ]
 
-  -- no block is in the chain and behind it
+  -- no block is in the chain and after it
   mixed : (k l : ℕ) → k < count → count ≤ l → l < free + count → hop next' k first ≡ hop next' l first → ⊥
   mixed k l near far lt same =
       omega (arith, (kept.apart (suc first) 0 k (l - count) near (omega arith) (sym (hops_here k near) ∙ same ∙ hops_past l far lt)).0)

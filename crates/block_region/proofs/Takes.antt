@@ -11,30 +11,30 @@ use Rattle.block_region.proofs.Views.{room_is}
 use Rattle.block_region.proofs.Taking.{first_inside, first_fresh, taken_keeps, taken_chains}
 
 -- the run of free blocks from a block on, after it was filled
-pub record Filled (old new next : List ℕ) (first : ℕ) (given : List ℕ) (behind : ℕ) : Type 0 where
+pub record Filled (old new next : List ℕ) (first : ℕ) (given : List ℕ) (after : ℕ) : Type 0 where
   pub len : length new ≡ length old
   pub filled : run_bytes new next first (length given) ≡ given
   pub others : (other : ℕ) → ((k : ℕ) → k < blocks_of (length given) → ¬ (other ≡ hop next k first)) → block_at new other ≡ block_at old other
-  pub behind_is : behind ≡ hop next (blocks_of (length given)) first
+  pub after_is : after ≡ hop next (blocks_of (length given)) first
 
 -- the same of the lists that were seen
-pub filled_in : (old new next seen_old seen_next : List ℕ) (first : ℕ) (given : List ℕ) (behind : ℕ) → seen_old ≡ old → seen_next ≡ next → Filled seen_old new seen_next first given behind → Filled old new next first given behind
-filled_in old new next seen_old seen_next first given behind a b fact =
-    subst (λ (l : List ℕ). Filled l new next first given behind) a (subst (λ (n : List ℕ). Filled seen_old new n first given behind) b fact)
+pub filled_in : (old new next seen_old seen_next : List ℕ) (first : ℕ) (given : List ℕ) (after : ℕ) → seen_old ≡ old → seen_next ≡ next → Filled seen_old new seen_next first given after → Filled old new next first given after
+filled_in old new next seen_old seen_next first given after a b fact =
+    subst (λ (l : List ℕ). Filled l new next first given after) a (subst (λ (n : List ℕ). Filled seen_old new n first given after) b fact)
 
-pub record Taken (bytes' next lens : List ℕ) (first_free free count behind : ℕ) (region : RegionState) (given : List ℕ) : Type 0 where
+pub record Taken (bytes' next lens : List ℕ) (first_free free count after : ℕ) (region : RegionState) (given : List ℕ) : Type 0 where
   pub first_inside : first_free < length lens
-  pub keeps : AreRunsSound bytes' next (set lens first_free (length given)) behind (free - count)
+  pub keeps : AreRunsSound bytes' next (set lens first_free (length given)) after (free - count)
   pub fresh : chain_bytes_at region first_free ≡ []
   pub taken : record { chains = chains_from bytes' next 0 (set lens first_free (length given)) } ≡ with_chain region first_free given
   pub begins : chain_bytes_at (with_chain region first_free given) first_free ≡ given
   pub room : free_blocks (with_chain region first_free given) + blocks_of (length given) ≡ free_blocks region
 
-pub takes : (bytes bytes' put next lens : List ℕ) (first_free free count behind : ℕ) (region : RegionState) (given : List ℕ) → AreRunsSound bytes next lens first_free free
-    → record { chains = chains_from bytes next 0 lens } ≡ region → Filled bytes put next first_free given behind → bytes' ≡ put
+pub takes : (bytes bytes' put next lens : List ℕ) (first_free free count after : ℕ) (region : RegionState) (given : List ℕ) → AreRunsSound bytes next lens first_free free
+    → record { chains = chains_from bytes next 0 lens } ≡ region → Filled bytes put next first_free given after → bytes' ≡ put
     → count ≡ blocks_of (length given) → count ≤ free → 0 < length given
-    → Taken bytes' next lens first_free free count behind region given
-takes bytes bytes' put next lens first_free free count behind region given kept view fill is count_is room some = record {
+    → Taken bytes' next lens first_free free count after region given
+takes bytes bytes' put next lens first_free free count after region given kept view fill is count_is room some = record {
   first_inside = inside;
   keeps = keeps;
   fresh = ap (λ (r : RegionState). chain_bytes_at r first_free) (sym view) ∙ chain_of bytes next lens first_free inside ∙ ap (λ n. run_bytes bytes next first_free n) fresh_len;
@@ -55,9 +55,9 @@ takes bytes bytes' put next lens first_free free count behind region given kept 
     fresh_len : get_or lens first_free 0 ≡ 0
     fresh_len = first_fresh bytes next lens first_free free kept positive
 
-    keeps : AreRunsSound bytes' next (set lens first_free (length given)) behind (free - count)
+    keeps : AreRunsSound bytes' next (set lens first_free (length given)) after (free - count)
     keeps =
-        subst (λ b. AreRunsSound bytes' next (set lens first_free (length given)) b (free - count)) (sym fill.behind_is)
+        subst (λ b. AreRunsSound bytes' next (set lens first_free (length given)) b (free - count)) (sym fill.after_is)
         (subst (λ n. AreRunsSound bytes' next (set lens first_free (length given)) (hop next (blocks_of (length given)) first_free) (free - n)) (sym count_is)
         (taken_keeps bytes bytes' next lens first_free free (length given) kept some fits (ap length is ∙ fill.len)))
 
@@ -70,19 +70,19 @@ takes bytes bytes' put next lens first_free free count behind region given kept 
         ∙ ap (λ (r : RegionState). with_chain r first_free given) view
 
     new_room : free - count + taken_blocks (with_chain region first_free given) ≡ block_count (with_chain region first_free given)
-    new_room = room_is bytes' next (set lens first_free (length given)) behind (free - count) keeps (with_chain region first_free given) taken
+    new_room = room_is bytes' next (set lens first_free (length given)) after (free - count) keeps (with_chain region first_free given) taken
 
 -- the same of a region's fields, where they were seen as slices
-pub took : (r : Inside) (region : RegionState) (given old links put : List ℕ) (count behind : ℕ) → AreRunsSound r.bytes.items r.next.items r.lens.items r.first_free r.free
+pub took : (r : Inside) (region : RegionState) (given old links put : List ℕ) (count after : ℕ) → AreRunsSound r.bytes.items r.next.items r.lens.items r.first_free r.free
     → record { chains = chains_from r.bytes.items r.next.items 0 r.lens.items } ≡ region → old ≡ r.bytes.items → links ≡ r.next.items
     → length put ≡ length old → run_bytes put links r.first_free (length given) ≡ given
     → ((other : ℕ) → ((k : ℕ) → k < blocks_of (length given) → ¬ (other ≡ hop links k r.first_free)) → block_at put other ≡ block_at old other)
-    → behind ≡ hop links (blocks_of (length given)) r.first_free
+    → after ≡ hop links (blocks_of (length given)) r.first_free
     → count ≡ blocks_of (length given) → count ≤ r.free → 0 < length given
-    → Taken (with_items r.bytes put).items r.next.items r.lens.items r.first_free r.free count behind region given
-took r region given old links put count behind kept view same_bytes same_next len filled others behind_is count_is room some =
-    takes r.bytes.items (with_items r.bytes put).items put r.next.items r.lens.items r.first_free r.free count behind region given kept view
-    (filled_in r.bytes.items put r.next.items old links r.first_free given behind same_bytes same_next (record { len = len; filled = filled; others = others; behind_is = behind_is }))
+    → Taken (with_items r.bytes put).items r.next.items r.lens.items r.first_free r.free count after region given
+took r region given old links put count after kept view same_bytes same_next len filled others after_is count_is room some =
+    takes r.bytes.items (with_items r.bytes put).items put r.next.items r.lens.items r.first_free r.free count after region given kept view
+    (filled_in r.bytes.items put r.next.items old links r.first_free given after same_bytes same_next (record { len = len; filled = filled; others = others; after_is = after_is }))
     (with_items_is r.bytes put (omega (arith, len, ap length same_bytes, r.bytes.ok.0))) count_is room some
 
 -- A chain of no bytes begins at no block.

@@ -22,8 +22,8 @@ module _ (bytes bytes' next lens : List ℕ) (first_free free len : ℕ) (kept :
   abbrev count : ℕ
   count = blocks_of len
 
-  abbrev behind : ℕ
-  behind = hop next count first_free
+  abbrev after : ℕ
+  after = hop next count first_free
 
   abbrev lens' : List ℕ
   lens' = set lens first_free len
@@ -40,15 +40,15 @@ module _ (bytes bytes' next lens : List ℕ) (first_free free len : ℕ) (kept :
   count_else : (i : ℕ) → i ≢ first_free → blocks_of (get_or lens' i 0) ≡ blocks_of (get_or lens i 0)
   count_else i other = ap blocks_of (get_or-set_other lens first_free i len 0 other)
 
-  within' : (run k : ℕ) → k < run_count (free - count) lens' run → hop next k (run_first behind run) < length next
+  within' : (run k : ℕ) → k < run_count (free - count) lens' run → hop next k (run_first after run) < length next
   within' zero k lt = omega (arith, hop-add next count k first_free, kept.within 0 (count + k) (omega arith))
   within' (suc i) k lt = elim (cases_eq i first_free) [
     | inl is ↦ omega (arith, ap (hop next k) is, kept.within 0 k (omega (arith, count_here i is)))
     | inr other ↦ kept.within (suc i) k (omega (arith, count_else i other))
   ]
 
-  -- no block is behind the new chain and in a chain
-  crossed : (i k l : ℕ) → k < free - count → l < blocks_of (get_or lens' i 0) → hop next k behind ≡ hop next l i → ⊥
+  -- no block is after the new chain and in a chain
+  crossed : (i k l : ℕ) → k < free - count → l < blocks_of (get_or lens' i 0) → hop next k after ≡ hop next l i → ⊥
   crossed i k l a b same = elim (cases_eq i first_free) [
     | inl is ↦
         let at : l < count = omega (arith, count_here i is) in
@@ -80,7 +80,7 @@ module _ (bytes bytes' next lens : List ℕ) (first_free free len : ℕ) (kept :
   ]
 
   apart' : (run other k l : ℕ) → k < run_count (free - count) lens' run → l < run_count (free - count) lens' other
-      → hop next k (run_first behind run) ≡ hop next l (run_first behind other) → (run ≡ other) × (k ≡ l)
+      → hop next k (run_first after run) ≡ hop next l (run_first after other) → (run ≡ other) × (k ≡ l)
   apart' zero zero k l a b same = (
     refl,
     omega (arith, (kept.apart 0 0 (count + k) (count + l) (omega arith) (omega arith) (hop-add next count k first_free ∙ same ∙ sym (hop-add next count l first_free))).1),
@@ -89,7 +89,7 @@ module _ (bytes bytes' next lens : List ℕ) (first_free free len : ℕ) (kept :
   apart' (suc i) zero k l a b same = absurd (crossed i l k b a (sym same))
   apart' (suc i) (suc j) k l a b same = let both = chains_apart i j k l a b same in (ap suc both.0, both.1)
 
-  pub taken_keeps : length bytes' ≡ length bytes → AreRunsSound bytes' next lens' behind (free - count)
+  pub taken_keeps : length bytes' ≡ length bytes → AreRunsSound bytes' next lens' after (free - count)
   taken_keeps same = record {
     few = kept.few;
     sized = same ∙ kept.sized;

@@ -23,7 +23,7 @@ pub record IsKept (before after : RegionState) (chain : ChainState) : Type 0 whe
 abbrev pub NoneAreOut : Type 0
 NoneAreOut = (blocks : ℕ) → AreAllOut (empty_region blocks) []
 
--- A new chain goes behind those that are out.
+-- A new chain goes after those that are out.
 abbrev pub TakenChainsAreOut : Type 0
 TakenChainsAreOut = (region : RegionState) (chains : List ChainState) (chain : ChainState) (bytes : List ℕ) → AreAllOut region chains
     → chain.len ≡ length bytes → chain_bytes_at region chain.first ≡ [] → Holds (with_chain region chain.first bytes) chain

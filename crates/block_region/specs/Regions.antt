@@ -5,7 +5,7 @@
 --
 -- A caller keeps its chains in a list of its own, as a queue does with those of its waiting writes, and one fact with it:
 -- `AreAllOut region chains`, that these are all the chains which are out, each held and no two of them one. What waits at a place
--- is `chain_bytes region chain`. A take puts its chain behind the list, a give takes one out at any place, and both leave the bytes
+-- is `chain_bytes region chain`. A take puts its chain after the list, a give takes one out at any place, and both leave the bytes
 -- of all others as they are; so what waits changes by that one entry. The free blocks are the region's less the sum over the list.
 -- The law `takes_keep_chains` says all this.
 use Rattle.std.specs.Prelude.{◌≡◌, ℕ, ◌-◌, ◌<◌, ◌==◌, List, [], length, get_or, take, set, replicate, sum_by, if◌then◌else◌}

@@ -18,7 +18,7 @@ const NO_BLOCK: u32 = u32::MAX;
 #[derive(Debug, Drop)]
 pub struct Region {
     bytes: Vec<u8>,
-    // Behind each block, the one that follows it in its chain or among the free ones.
+    // After each block, the one that follows it in its chain or among the free ones.
     next: Vec<u32>,
     // For each block, the length of the chain that begins there, or 0.
     lens: Vec<u64>,
@@ -124,10 +124,10 @@ impl Region {
         if chain.len == 0 {
             return;
         }
-        let behind = self.first_free;
+        let after = self.first_free;
         let count = blocks_of(chain.len);
         let last = block_after(self.next.as_slice(), chain.first, count - 1);
-        self.next[last as usize] = behind;
+        self.next[last as usize] = after;
         self.first_free = chain.first;
         self.free += count;
         self.lens[chain.first as usize] = 0;

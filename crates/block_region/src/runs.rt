@@ -45,7 +45,7 @@ fn put_block(blocks: &mut [u8], block: u32, bytes: &[u8])
     blocks[begin..begin + bytes.len()].copy_from_slice(bytes);
 }
 
-/// Fills the run from a block on with bytes, and tells the block behind it.
+/// Fills the run from a block on with bytes, and tells the block after it.
 pub fn fill(blocks: &mut [u8], next: &[u32], first: u32, bytes: &[u8]) -> u32
     requires size { length blocks.old ≡ BLOCK * length next.now }
     requires few { length next.now < 2 ^ 32 }
@@ -53,7 +53,7 @@ pub fn fill(blocks: &mut [u8], next: &[u32], first: u32, bytes: &[u8]) -> u32
     ensures len { length blocks.new ≡ length blocks.old }
     ensures filled { run_bytes blocks.new next.now first (length bytes.now) ≡ bytes.now }
     ensures others { (other : ℕ) → ((k : ℕ) → k < blocks_of (length bytes.now) → ¬ (other ≡ hop next.now k first)) → block_at blocks.new other ≡ block_at blocks.old other }
-    ensures behind { result ≡ hop next.now (blocks_of (length bytes.now)) first }
+    ensures after { result ≡ hop next.now (blocks_of (length bytes.now)) first }
 {
     let mut block = first;
     for place in 0..bytes.len().div_ceil(BLOCK) {

@@ -33,7 +33,7 @@ shifted ws k w place i is at within =
 
 module _ (ws : List ℕ) (w place : ℕ) (is : w ≡ get_or ws (place / 64) 0) (fits : w < 2 ^ 64) where
   pub none_in_word : w / 2 ^ (place % 64) ≡ 0 → (x : ℕ) → place ≤ x → x < 64 * (place / 64) + 64 → has_bit ws x ≡ false
-  none_in_word empty x behind before =
+  none_in_word empty x not_before before =
       let at : place + (x - place) ≡ x = omega arith in
       ap (has_bit ws) (sym at)
       ∙ sym (shifted ws (place / 64) w place (x - place) is refl (omega arith))
@@ -53,9 +53,9 @@ module _ (ws : List ℕ) (w place : ℕ) (is : w ≡ get_or ws (place / 64) 0) (
             absurd (omega (arith, none, lowest.1))
       ] in
       record {
-        behind = omega arith;
+        not_before = omega arith;
         is_set = sym (shifted ws (place / 64) w place next is refl within) ∙ ap (λ b. nat_eq b 1) lowest.1;
-        none_before = λ x behind before.
+        none_before = λ x not_before before.
             let at : place + (x - place) ≡ x = omega arith in
             ap (has_bit ws) (sym at)
             ∙ sym (shifted ws (place / 64) w place (x - place) is refl (omega arith))
@@ -78,13 +78,13 @@ module _ (ws : List ℕ) (w place : ℕ) (is : w ≡ get_or ws (place / 64) 0) (
 -- the next bit, where none before its word is set
 pub next_of_word : (ws : List ℕ) (k w start : ℕ) → w ≡ get_or ws k 0 → 0 < w → w < 2 ^ 64 → start ≤ 64 * k
     → ((x : ℕ) → start ≤ x → x < 64 * k → has_bit ws x ≡ false) → IsNextBit ws start (k * 64 + trailing_zeros w64 w)
-next_of_word ws k w start is some fits behind none =
+next_of_word ws k w start is some fits not_before none =
     let next : ℕ = trailing_zeros w64 w in
     let lowest = bit_at-trailing_zeros w64 w some fits in
     let within : next < 64 = lowest.0 in
     let place : (k * 64 + next) % 64 ≡ next = omega arith in
     record {
-      behind = omega arith;
+      not_before = omega arith;
       is_set = sym (read_here ws k w (k * 64 + next) is (omega arith)) ∙ ap (λ i. nat_eq (bit_at w i) 1) place ∙ ap (λ b. nat_eq b 1) lowest.1;
       none_before = λ x from before. elim (cases_lt x (64 * k)) [
         | inl lower ↦ none x from lower
@@ -99,11 +99,11 @@ pub next_sooner : (ws : List ℕ) (place later : ℕ) (r : Option ℕ) → place
     → IfSome r (IsNextBit ws later) → IfSome r (IsNextBit ws place)
 next_sooner ws place later r le none next = IfSome_then r next (
     λ y found. record {
-      behind = omega (arith, found.behind);
+      not_before = omega (arith, found.not_before);
       is_set = found.is_set;
       none_before = λ x from before. elim (cases_lt x later) [
         | inl sooner ↦ none x from sooner
-        | inr behind ↦ found.none_before x behind before
+        | inr not_before ↦ found.none_before x not_before before
       ];
     }
     )
@@ -113,7 +113,7 @@ pub next_is_least : (n : ℕ) (ws : List ℕ) (x : ℕ) (r : Option ℕ) → Are
     → (r ≡ None → (y : ℕ) → x ≤ y → has_bit ws y ≡ false) → IfSome r (IsNextBit ws x) → r ≡ least_from (set_in n ws) x
 next_is_least n ws x None keeps none some = sym (least_none (set_in n ws) x (λ y from. in_has_all n ws keeps y ∙ none refl y from))
 next_is_least n ws x (Some y) keeps none some =
-    sym (least_some (set_in n ws) x y some.behind (in_has_all n ws keeps y ∙ some.is_set) (λ z from before. in_has_all n ws keeps z ∙ some.none_before z from before))
+    sym (least_some (set_in n ws) x y some.not_before (in_has_all n ws keeps y ∙ some.is_set) (λ z from before. in_has_all n ws keeps z ∙ some.none_before z from before))
 
 -- ---- the first bits
 

@@ -31,7 +31,7 @@ ones_half n =
 size_more : (ws : List ℕ) (n : ℕ) → size (set_in (n + 1) ws) ≡ size (set_in n ws) + cond (has_bit ws n) 1 0
 size_more ws n = sum_by-map-range_with_len_more (λ b. cond b 1 0) (has_bit ws) 0 n n (omega arith)
 
--- the tracks of a word up to one of its bits, and the ones that are left behind it
+-- the tracks of a word up to one of its bits, and the ones that are left after it
 size_in_word : (ws : List ℕ) (k w : ℕ) → w ≡ get_or ws k 0 → (i : ℕ) → i ≤ 64
     → size (set_in (64 * k + i) ws) + count_ones (w / 2 ^ i) ≡ size (set_in (64 * k) ws) + count_ones w
 size_in_word ws k w is zero within =

@@ -34,7 +34,7 @@ least_none tracks x none = first_none x (drop x tracks) (λ i. get_or-drop x tra
 
 pub least_some : (tracks : List Bool) (x y : ℕ) → x ≤ y → has_track tracks y ≡ true → ((z : ℕ) → x ≤ z → z < y → has_track tracks z ≡ false)
     → least_from tracks x ≡ Some y
-least_some tracks x y behind here none =
+least_some tracks x y beyond here none =
     let at : x + (y - x) ≡ y = omega arith in
     first_some x (drop x tracks) (y - x) (get_or-drop x tracks (y - x) false ∙ ap (has_track tracks) at ∙ here)
     (λ j before. get_or-drop x tracks j false ∙ none (x + j) (omega arith) (omega arith))
@@ -72,7 +72,7 @@ pub least_is_some : (tracks : List Bool) (x y : ℕ) → least_from tracks x ≡
 least_is_some tracks x y some =
     let found = first_is_some x (drop x tracks) y some in
     record {
-      behind = omega (arith, found.1);
+      not_before = omega (arith, found.1);
       within = had_within tracks y (ap (has_track tracks) (sym found.1) ∙ sym (get_or-drop x tracks found.0 false) ∙ found.2);
       is_had = ap (has_track tracks) (sym found.1) ∙ sym (get_or-drop x tracks found.0 false) ∙ found.2;
       none_before = λ z from before.
@@ -95,18 +95,18 @@ module _ (tracks : List Bool) (first later : ℕ) (le : first ≤ later) (none :
       least_none tracks first (
       λ y from. elim (cases_lt y later) [
         | inl sooner ↦ none y from sooner
-        | inr behind ↦ least_is_none tracks later nowhere y behind
+        | inr beyond ↦ least_is_none tracks later nowhere y beyond
       ]
       )
       )
   skipped (Some y) there =
       let found = least_is_some tracks later y there in
-      let from : first ≤ y = omega (arith, found.behind) in
+      let from : first ≤ y = omega (arith, found.not_before) in
       sym (
       least_some tracks first y from found.is_had (
       λ z after before. elim (cases_lt z later) [
         | inl sooner ↦ none z after sooner
-        | inr behind ↦ found.none_before z behind before
+        | inr beyond ↦ found.none_before z beyond before
       ]
       )
       )

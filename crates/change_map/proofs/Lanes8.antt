@@ -41,7 +41,7 @@ ones_of_words : (ws : List ℕ) → ((k : ℕ) → Fits w64 (get_or ws k 0)) →
 ones_of_words ws fits =
     sum_by-le count_ones 64 ws (All-from_get_or (λ w. count_ones w ≤ 64) ws 0 (λ k _. ones_few (get_or ws k 0) (fits k).fits))
 
--- Eight words are counted lane by lane, behind those that are counted already.
+-- Eight words are counted lane by lane, after those that are counted already.
 module _ (ws counts : List ℕ) (k : ℕ) (fits : (i : ℕ) → Fits w64 (get_or ws i 0)) (few : length ws < 2 ^ 32) (within : k < length ws / 8) (lanes : length counts ≡ 8) (counted : sum_l counts ≡ sum_by count_ones (take (k * 8) ws)) where
   eight_long : length (map (λ (x : ℕ). x) (map count_ones (chunk (k * 8) 8 ws))) ≡ 8
   eight_long = length_of_counts (chunk (k * 8) 8 ws) ∙ length-chunk (k * 8) 8 ws (omega arith)
@@ -88,7 +88,7 @@ module _ (ws counts : List ℕ) (k : ℕ) (fits : (i : ℕ) → Fits w64 (get_or
 
 -- ---- those of either
 
--- Eight words are put in place, behind those that are done.
+-- Eight words are put in place, after those that are done.
 module _ (us vs ws : List ℕ) (k : ℕ) (same : length vs ≡ length us) (within : k < length us / 8) (long : length ws ≡ length us) (done : (j : ℕ) → j < k * 8 → get_or ws j 0 ≡ bit_or (get_or us j 0) (get_or vs j 0)) (left : (j : ℕ) → k * 8 ≤ j → get_or ws j 0 ≡ get_or us j 0) where
   eight : List ℕ
   eight = zip2 bit_or (chunk (k * 8) 8 ws) (chunk (k * 8) 8 vs)
@@ -128,9 +128,9 @@ module _ (us vs ws : List ℕ) (k : ℕ) (same : length vs ≡ length us) (withi
 
   pub put_left : (j : ℕ) → (k + 1) * 8 ≤ j → get_or (put_chunk (k * 8) ws (zip2 bit_or (chunk (k * 8) 8 ws) (chunk (k * 8) 8 vs))) j 0 ≡ get_or us j 0
   unfolding eight
-  put_left j behind = get_or-put_chunk_above (k * 8) ws eight j 0 (omega (arith, eight_are)) ∙ left j (omega arith)
+  put_left j after = get_or-put_chunk_above (k * 8) ws eight j 0 (omega (arith, eight_are)) ∙ left j (omega arith)
 
--- The words behind the last eight are put in place too.
+-- The words after the last eight are put in place too.
 module _ (us vs ws ys : List ℕ) (k : ℕ) (same : length vs ≡ length us) (end : k ≡ length us / 8) (long : length ws ≡ length us) (done : (j : ℕ) → j < k * 8 → get_or ws j 0 ≡ bit_or (get_or us j 0) (get_or vs j 0)) (left : (j : ℕ) → k * 8 ≤ j → get_or ws j 0 ≡ get_or us j 0) where
   module _ (a n m : ℕ) (at : a ≡ k * 8) (ours : n ≡ length ws - a) (theirs : m ≡ length vs - a) (are : ys ≡ zip2 bit_or (take n (drop a ws)) (take m (drop a vs))) where
     n_long : length (take n (drop a ws)) ≡ n
@@ -163,9 +163,9 @@ module _ (us vs ws ys : List ℕ) (k : ℕ) (same : length vs ≡ length us) (en
               get_or_append_left (take a ws) (ys ++ drop n (drop a ws)) 0 j (omega (arith, front_long))
               ∙ get_or-take a ws j 0 lower
               ∙ done j (omega arith)
-          | inr behind ↦
+          | inr after ↦
               let place : a + (j - a) ≡ j = omega arith in
-              get_or-append_right (take a ws) (ys ++ drop n (drop a ws)) a j 0 front_long behind
+              get_or-append_right (take a ws) (ys ++ drop n (drop a ws)) a j 0 front_long after
               ∙ get_or_append_left ys (drop n (drop a ws)) 0 (j - a) (omega (arith, rest_long))
               ∙ rest_here (j - a) (omega arith)
               ∙ ap (λ i. bit_or (get_or us i 0) (get_or vs i 0)) place

@@ -40,7 +40,7 @@ least_from set x = first_from x (drop x set)
 
 -- What the least track of a set from a track on is.
 pub record IsLeastFrom (tracks : List Bool) (first least : ℕ) : Type 0 where
-  pub behind : first ≤ least
+  pub not_before : first ≤ least
   pub within : least < length tracks
   pub is_had : has_track tracks least ≡ true
   pub none_before : (x : ℕ) → first ≤ x → x < least → has_track tracks x ≡ false

@@ -18,6 +18,6 @@ pub record AreWordsSound (tracks : ℕ) (words : List ℕ) : Type 0 where
 
 -- a bit that is set, and the first such from a place on
 pub record IsNextBit (words : List ℕ) (place : ℕ) (next : ℕ) : Type 0 where
-  pub behind : place ≤ next
+  pub not_before : place ≤ next
   pub is_set : has_bit words next ≡ true
   pub none_before : (x : ℕ) → place ≤ x → x < next → has_bit words x ≡ false

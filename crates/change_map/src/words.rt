@@ -16,7 +16,7 @@ pub fn clear_words(words: &mut [u64])
     words.fill(0);
 }
 
-/// Sets the first bits, so many, and clears those behind them.
+/// Sets the first bits, so many, and clears those after them.
 pub fn set_first(words: &mut [u64], bits: u32)
     requires { length words.old ≡ (bits + 63) / 64 }
     ensures len { length words.new ≡ length words.old }

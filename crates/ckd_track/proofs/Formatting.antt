@@ -19,7 +19,7 @@ use Rattle.ckd_track.specs.Places.{no_front, front_up_to, front_fitting}
 use Rattle.ckd_track.specs.Slots.{IsImage, HoldsImage, track_of_image, slot_size, with_bytes}
 use Rattle.ckd_track.proofs.Parts.{image_is_image, track_of-image, length-image}
 use Rattle.ckd_track.proofs.RowLaws.{track_rises, last_up_to}
-use Rattle.ckd_track.proofs.FrontLaws.{IsFront, up_to_is, last_found, fitting_is, rises_fitting, rises_behind, rises_lower}
+use Rattle.ckd_track.proofs.FrontLaws.{IsFront, up_to_is, last_found, fitting_is, rises_fitting, rises_after, rises_lower}
 
 turned : (after : ℕ) → (0 == after) ≡ (after == 0)
 turned after = choose (after == 0) refl
@@ -34,7 +34,7 @@ found_is after track is =
     let parts = both_true (rises_above 0 track) (nat_le (track_size track) capacity) is in
     last_found after 0 (no_front 2 capacity) track parts.0 refl (omega arith) ∙ ap (λ (t : Bool). t || has_record after track) (turned after)
 
--- the front that is kept, and the track that it makes with what fits behind it
+-- the front that is kept, and the track that it makes with what fits after it
 record Made (after : ℕ) (given track : List Rec) (kept : Front) : Type 0 where
   pub first : IsFront (no_front 2 capacity) kept (up_to after track) track
   pub room : kept.room ≡ capacity - track_size (up_to after track)
@@ -53,7 +53,7 @@ made after given track kept is above kept_is =
       first = first;
       room = omega (arith, first.room);
       is_track = and_true (rises_above 0 (up_to after track ++ fits)) (nat_le (track_size (up_to after track ++ fits)) capacity)
-          (rises_behind 0 after track fits (omega arith) parts.0 rises)
+          (rises_after 0 after track fits (omega arith) parts.0 rises)
           (le-leb (track_size (up_to after track ++ fits)) capacity (omega (arith, sum_by-append record_size (up_to after track) fits, first.room, second.room)));
       taken = and_true (rises_above 0 fits) (nat_le (track_size fits) capacity) (rises_lower 0 after fits (omega arith) rises) (le-leb (track_size fits) capacity (omega (arith, first.room, second.room)));
     }
@@ -78,24 +78,24 @@ made_short after given track kept m =
       from = omega (arith, m.first.end);
     }
 
--- the bytes that are kept, behind the count
-kept_bytes : (old : List ℕ) (used : ℕ) (xs behind : List Rec) (end : ℕ) → HoldsImage used old → track_of_image (take used old) ≡ xs ++ behind → end ≡ 2 + length (flat_map record_spelling xs)
+-- the bytes that are kept, after the count
+kept_bytes : (old : List ℕ) (used : ℕ) (xs others : List Rec) (end : ℕ) → HoldsImage used old → track_of_image (take used old) ≡ xs ++ others → end ≡ 2 + length (flat_map record_spelling xs)
     → take (end - 2) (drop 2 old) ≡ flat_map record_spelling xs
-kept_bytes old used xs behind end holds split end_is =
+kept_bytes old used xs others end holds split end_is =
     let tail = drop used old in
     let X = flat_map record_spelling xs in
-    let Y = flat_map record_spelling behind in
-    let two = to_be_bytes w16 (length (xs ++ behind)) in
-    let spelled : take used old ≡ two ++ (X ++ Y) = holds.begins.spelled ∙ ap image split ∙ ap (λ (t : List ℕ). two ++ t) (flat_map-append record_spelling xs behind) in
+    let Y = flat_map record_spelling others in
+    let two = to_be_bytes w16 (length (xs ++ others)) in
+    let spelled : take used old ≡ two ++ (X ++ Y) = holds.begins.spelled ∙ ap image split ∙ ap (λ (t : List ℕ). two ++ t) (flat_map-append record_spelling xs others) in
     let all : old ≡ two ++ ((X ++ Y) ++ tail) = sym (take-append-drop used old) ∙ ap (λ (t : List ℕ). t ++ tail) spelled ∙ append_assoc two (X ++ Y) tail in
     let rest : drop 2 old ≡ X ++ (Y ++ tail) = ap (drop 2) all ∙ append_assoc X Y tail in
     ap (take (end - 2)) rest ∙ take_at X (Y ++ tail) (end - 2) (omega (arith, end_is))
 
-given_bytes : (given : List ℕ) (recs taken behind : List Rec) (end : ℕ) → given ≡ flat_map record_spelling recs → recs ≡ taken ++ behind → end ≡ length (flat_map record_spelling taken)
+given_bytes : (given : List ℕ) (recs taken others : List Rec) (end : ℕ) → given ≡ flat_map record_spelling recs → recs ≡ taken ++ others → end ≡ length (flat_map record_spelling taken)
     → take end given ≡ flat_map record_spelling taken
-given_bytes given recs taken behind end spelled split end_is =
-    let all : given ≡ flat_map record_spelling taken ++ flat_map record_spelling behind = spelled ∙ ap (flat_map record_spelling) split ∙ flat_map-append record_spelling taken behind in
-    ap (take end) all ∙ take_at (flat_map record_spelling taken) (flat_map record_spelling behind) end (sym end_is)
+given_bytes given recs taken others end spelled split end_is =
+    let all : given ≡ flat_map record_spelling taken ++ flat_map record_spelling others = spelled ∙ ap (flat_map record_spelling) split ∙ flat_map-append record_spelling taken others in
+    ap (take end) all ∙ take_at (flat_map record_spelling taken) (flat_map record_spelling others) end (sym end_is)
 
 -- what is taken of spelled records
 pub record Taken (recs : List Rec) (given : List ℕ) (room : ℕ) (taken : Front) : Type 0 where
@@ -107,7 +107,7 @@ pub taken_is : (recs : List Rec) (given : List ℕ) (room : ℕ) (taken : Front)
 taken_is recs given room taken spelled is =
     let front : IsFront (no_front 0 room) taken (fitting room recs) recs = subst (λ (f : Front). IsFront (no_front 0 room) f (fitting room recs) recs) (sym is) (fitting_is (no_front 0 room) recs) in
     let end : taken.end ≡ length (flat_map record_spelling (fitting room recs)) = omega (arith, front.end) in
-    record { bytes = given_bytes given recs (fitting room recs) front.behind taken.end spelled front.split end; end = end; count = omega (arith, front.count) }
+    record { bytes = given_bytes given recs (fitting room recs) front.after taken.end spelled front.split end; end = end; count = omega (arith, front.count) }
 
 -- count and two fronts are an image
 joined : (new rest : List ℕ) (count end : ℕ) (xs ys : List Rec) → new ≡ to_be_bytes w16 count ++ (flat_map record_spelling xs ++ (flat_map record_spelling ys ++ rest)) → count ≡ length (xs ++ ys)
@@ -118,15 +118,15 @@ joined new rest count end xs ys is count_is end_is =
     let whole : new ≡ image (xs ++ ys) ++ rest = is ∙ rw (count_is, flat_map-append record_spelling xs ys, append_assoc X Y rest) refl in
     ap (take end) whole ∙ take_at (image (xs ++ ys)) rest end (sym end_is)
 
--- what of the given records fits behind the front that is kept
-pub record Behind (given : List Rec) (kept : Front) : Type 0 where
+-- what of the given records fits after the front that is kept
+pub record After (given : List Rec) (kept : Front) : Type 0 where
   pub is_track : IsTrack (fitting kept.room given)
   pub short : kept.end + length (flat_map record_spelling (fitting kept.room given)) ≤ longest_image
   pub few : kept.count + length (fitting kept.room given) ≤ 255
 
-pub behind : (after used : ℕ) (given : List Rec) (old : List ℕ) (kept : Front) → HoldsImage used old → rises_above after given ≡ true
-    → kept ≡ front_up_to after (no_front 2 capacity) (track_of_image (take used old)) → Behind given kept
-behind after used given old kept holds above kept_is =
+pub fits_after_kept : (after used : ℕ) (given : List Rec) (old : List ℕ) (kept : Front) → HoldsImage used old → rises_above after given ≡ true
+    → kept ≡ front_up_to after (no_front 2 capacity) (track_of_image (take used old)) → After given kept
+fits_after_kept after used given old kept holds above kept_is =
     let m = made after given (track_of_image (take used old)) kept holds.begins.is_track above kept_is in
     let s = made_short after given (track_of_image (take used old)) kept m in
     record { is_track = m.taken; short = s.short; few = s.few }
@@ -148,9 +148,9 @@ pub record Formatted (after used end : ℕ) (given : List Rec) (old new : List �
   pub holds : HoldsImage end new
   pub seen : track_of_image (take end new) ≡ formatted after given (track_of_image (take used old))
 
--- the buffer with bytes behind the kept front
-put_behind : (X Y rest put old : List ℕ) (end : ℕ) → put ≡ with_bytes end Y old → take (end - 2) (drop 2 old) ≡ X → 2 ≤ end → end ≤ length old → drop 2 put ≡ X ++ (Y ++ drop (end + length Y) old)
-put_behind X Y rest put old end is kept from within =
+-- the buffer with bytes after the kept front
+put_after : (X Y rest put old : List ℕ) (end : ℕ) → put ≡ with_bytes end Y old → take (end - 2) (drop 2 old) ≡ X → 2 ≤ end → end ≤ length old → drop 2 put ≡ X ++ (Y ++ drop (end + length Y) old)
+put_after X Y rest put old end is kept from within =
     let two : length (take 2 old) ≡ 2 = omega (arith, length-take 2 old) in
     let split : old ≡ take 2 old ++ drop 2 old = sym (take-append-drop 2 old) in
     let tail = Y ++ drop (end + length Y) old in
@@ -176,9 +176,9 @@ format_holds after used count end given old put new kept holds above kept_is las
     let Y = flat_map record_spelling ys in
     let short = made_short after given track kept m in
     let rest = drop (kept.end + length Y) old in
-    let same = kept_bytes old used xs m.first.behind kept.end holds m.first.split m.first.end in
-    let behind = put_behind X Y rest put old kept.end put_is same short.from (omega (arith, short.short, holds.sized)) in
-    let whole : new ≡ to_be_bytes w16 count ++ (X ++ (Y ++ rest)) = new_is ∙ ap (λ (t : List ℕ). to_be_bytes w16 count ++ t) behind in
+    let same = kept_bytes old used xs m.first.after kept.end holds m.first.split m.first.end in
+    let others = put_after X Y rest put old kept.end put_is same short.from (omega (arith, short.short, holds.sized)) in
+    let whole : new ≡ to_be_bytes w16 count ++ (X ++ (Y ++ rest)) = new_is ∙ ap (λ (t : List ℕ). to_be_bytes w16 count ++ t) others in
     let joined_is : image (xs ++ ys) ≡ to_be_bytes w16 (length (xs ++ ys)) ++ (X ++ Y) = ap (λ (t : List ℕ). to_be_bytes w16 (length (xs ++ ys)) ++ t) (flat_map-append record_spelling xs ys) in
     let counted : count ≡ length (xs ++ ys) = omega (arith, count_is, m.first.count, length-append xs ys) in
     let long : end ≡ length (image (xs ++ ys)) = omega (arith, end_is, ap length joined_is, length-append X Y, m.first.end) in
@@ -200,7 +200,7 @@ listed_lost after last given track front is front_is last_is other =
     let test : ((after == 0) || has_record after track) ≡ false = sym (listed_is after track is) ∙ ne_eqb _ after (λ e. other (last_is ∙ ap (last_number 0) front_is ∙ e)) in
     rw test refl
 
--- the records up to `after`, and what fits behind them
+-- the records up to `after`, and what fits after them
 pub record Listed (after : ℕ) (given track front : List Rec) : Type 0 where
   pub front_is_track : IsTrack front
   pub front_size : track_size front ≤ capacity

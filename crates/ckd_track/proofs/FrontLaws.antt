@@ -16,20 +16,20 @@ use Rattle.ckd_track.specs.Places.{front_up_to, front_fitting, front_with}
 use Rattle.ckd_track.proofs.Walks.{rises_first}
 use Rattle.ckd_track.proofs.Parts.{length-spelling}
 
--- From a front on, a pass over records has taken some of them, and others stand behind.
+-- From a front on, a pass over records has taken some of them, and others stand after them.
 pub record IsFront (front done : Front) (taken all : List Rec) : Type 0 where
-  pub behind : List Rec
-  pub split : all ≡ taken ++ behind
+  pub after : List Rec
+  pub split : all ≡ taken ++ after
   pub end : done.end ≡ front.end + length (flat_map record_spelling taken)
   pub count : done.count ≡ front.count + length taken
   pub room : done.room + track_size taken ≡ front.room
 
 none_taken : (front : Front) (all : List Rec) → IsFront front front [] all
-none_taken front all = record { behind = all; split = refl; end = omega arith; count = omega arith; room = omega arith }
+none_taken front all = record { after = all; split = refl; end = omega arith; count = omega arith; room = omega arith }
 
 one_more : (front done : Front) (r : Rec) (taken all : List Rec) → record_size r ≤ front.room → IsFront (front_with front r) done taken all → IsFront front done (r ∷ taken) (r ∷ all)
 one_more front done r taken all fits is = record {
-  behind = is.behind;
+  after = is.after;
   split = ap (λ (t : List Rec). r ∷ t) is.split;
   end = omega (arith, is.end, length-append (record_spelling r) (flat_map record_spelling taken), length-spelling r);
   count = omega (arith, is.count);
@@ -142,11 +142,11 @@ rises_fitting low room (r ∷ recs) rises =
     choose true h = h
     choose false h = refl
 
-pub rises_behind : (low after : ℕ) (recs others : List Rec) → low ≤ after → rises_above low recs ≡ true → rises_above after others ≡ true → rises_above low (up_to after recs ++ others) ≡ true
-rises_behind low after [] others le rises more = rises_lower low after others le more
-rises_behind low after (r ∷ recs) others le rises more =
+pub rises_after : (low after : ℕ) (recs others : List Rec) → low ≤ after → rises_above low recs ≡ true → rises_above after others ≡ true → rises_above low (up_to after recs ++ others) ≡ true
+rises_after low after [] others le rises more = rises_lower low after others le more
+rises_after low after (r ∷ recs) others le rises more =
     let first = rises_first low r recs rises in
-    choose (nat_le r.number after) refl first.2 (λ up. rises_behind r.number after recs others up first.2 more)
+    choose (nat_le r.number after) refl first.2 (λ up. rises_after r.number after recs others up first.2 more)
   where
     choose : (t : Bool) → nat_le r.number after ≡ t → rises_above r.number recs ≡ true → (r.number ≤ after → rises_above r.number (up_to after recs ++ others) ≡ true)
         → rises_above low (cond t (r ∷ up_to after recs) (up_to after recs) ++ others) ≡ true

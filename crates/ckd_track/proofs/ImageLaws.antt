@@ -150,8 +150,8 @@ pub record ManyTaken (last room count : ℕ) (bytes : List ℕ) (recs : List Rec
   pub fits : track_size recs ≤ room
   pub number : length recs ≡ count
 
-behind_first : (first others rest behind bytes : List ℕ) → bytes ≡ first ++ behind → behind ≡ others ++ rest → bytes ≡ (first ++ others) ++ rest
-behind_first first others rest behind bytes e f = e ∙ ap (λ (t : List ℕ). first ++ t) f ∙ sym (append_assoc first others rest)
+after_first : (first others rest after bytes : List ℕ) → bytes ≡ first ++ after → after ≡ others ++ rest → bytes ≡ (first ++ others) ++ rest
+after_first first others rest after bytes e f = e ∙ ap (λ (t : List ℕ). first ++ t) f ∙ sym (append_assoc first others rest)
 
 many_ok : (a b : List Rec × List ℕ) → (let x : Result (List Rec × List ℕ) ImageError = Ok a in let y : Result (List Rec × List ℕ) ImageError = Ok b in x ≡ y) → a ≡ b
 many_ok a b e = cc
@@ -170,7 +170,7 @@ records_take (suc count) place last room bytes recs rest fits e =
     let first_rises : (within (last + 1) 255 r.number && nat_le (length r.key) 255) ≡ true =
     all_true (nat_le (last + 1) r.number) (nat_le r.number 255) (nat_le (length r.key) 255) (le-leb (last + 1) r.number (omega (arith, taken.above))) (le-leb r.number 255 (omega (arith, taken.number))) (le-leb (length r.key) 255 (omega (arith, taken.key))) in
     subst (λ (p : List Rec × List ℕ). ManyTaken last room (suc count) bytes p.0 p.1) {x = (r ∷ more.0.0, more.0.1)} {y = (recs, rest)} (many_ok (r ∷ more.0.0, more.0.1) (recs, rest) more.2) (record {
-      parts = behind_first (record_spelling r) (flat_map record_spelling more.0.0) more.0.1 first.0.1 bytes taken.parts others.parts;
+      parts = after_first (record_spelling r) (flat_map record_spelling more.0.0) more.0.1 first.0.1 bytes taken.parts others.parts;
       rises = two_true (within (last + 1) 255 r.number && nat_le (length r.key) 255) (rises_above r.number more.0.0) first_rises others.rises;
       fits = omega (arith, sizes, others.fits, taken.fits);
       number = ap suc others.number;

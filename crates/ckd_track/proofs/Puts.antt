@@ -1,4 +1,4 @@
--- Bytes that are put one after another, into a buffer or behind other bytes.
+-- Bytes that are put one after another, into a buffer or after other bytes.
 use Rattle.std.proofs.Common.{◌≡◌, ℕ, zero, suc, ◌+◌, ◌<◌, ◌≤◌, nat_le, ◌&&◌, true, List, [], ◌∷◌, ◌++◌, refl, sym, ap, subst, ◌∙◌, append_assoc, length, take, drop, get_or, arith, length-append, length-take}
 use Rattle.std.specs.Int.{w16, to_be_bytes}
 use Rattle.std.specs.List.{flat_map}
@@ -15,7 +15,7 @@ use Rattle.ckd_track.specs.Heads.{FitsHead}
 use Rattle.ckd_track.specs.Slots.{with_bytes}
 use Rattle.ckd_track.proofs.ImageLaws.{both_true, count_of}
 
--- bytes put behind those that were put before
+-- bytes put after those that were put before
 pub put_next : (place end : ℕ) (x y buffer : List ℕ) → end ≡ place + length x → end ≤ length buffer → with_bytes end y (with_bytes place x buffer) ≡ with_bytes place (x ++ y) buffer
 put_next place end x y buffer is room =
     let front = take place buffer in
@@ -24,9 +24,9 @@ put_next place end x y buffer is room =
     let before : take end (front ++ (x ++ rest)) ≡ front ++ x = rw (← append_assoc front x rest) (take_at (front ++ x) rest end long) in
     let middle : drop end (front ++ (x ++ rest)) ≡ rest = rw (← append_assoc front x rest) (drop_at (front ++ x) rest end long) in
     let there : place + length x + length y ≡ place + length (x ++ y) = omega (arith, length-append x y) in
-    let behind : drop (end + length y) (front ++ (x ++ rest)) ≡ drop (place + length (x ++ y)) buffer =
+    let after : drop (end + length y) (front ++ (x ++ rest)) ≡ drop (place + length (x ++ y)) buffer =
     sym (drop-drop (length y) end (front ++ (x ++ rest))) ∙ ap (drop (length y)) middle ∙ drop-drop (length y) (place + length x) buffer ∙ ap (λ n. drop n buffer) there in
-    rw (before, behind) (append_assoc front x (y ++ drop (place + length (x ++ y)) buffer) ∙ ap (λ (t : List ℕ). front ++ t) (sym (append_assoc x y (drop (place + length (x ++ y)) buffer))))
+    rw (before, after) (append_assoc front x (y ++ drop (place + length (x ++ y)) buffer) ∙ ap (λ (t : List ℕ). front ++ t) (sym (append_assoc x y (drop (place + length (x ++ y)) buffer))))
 
 -- two of them
 pub put_two : (place second : ℕ) (x y buffer one two : List ℕ) → second ≡ place + length x → second ≤ length buffer → one ≡ with_bytes place x buffer → two ≡ with_bytes second y one → two ≡ with_bytes place (x ++ y) buffer

@@ -74,14 +74,14 @@ all_fit recs i room left le so_far =
 
 -- ---- the records up to a number
 
-rises_behind_first : (low i : ℕ) (recs others : List Rec) (rec : Rec) → rises_above low recs ≡ true → drop i recs ≡ rec ∷ others → rises_above rec.number others ≡ true
-rises_behind_first low i [] others rec rises is =
+rises_after_first : (low i : ℕ) (recs others : List Rec) (rec : Rec) → rises_above low recs ≡ true → drop i recs ≡ rec ∷ others → rises_above rec.number others ≡ true
+rises_after_first low i [] others rec rises is =
     let none : List Rec = [] in
     absurd (none_left (sym (drop_all i none (omega arith)) ∙ is))
   where
     none_left : (let none : List Rec = [] in none ≡ rec ∷ others) → ⊥
     none_left e = cc
-rises_behind_first low zero (first ∷ recs) others rec rises is =
+rises_after_first low zero (first ∷ recs) others rec rises is =
     subst (λ (r : Rec). rises_above r.number others ≡ true) (same_first is) (subst (λ (t : List Rec). rises_above first.number t ≡ true) (same_rest is) (rises_first low first recs rises).2)
   where
     same_first : first ∷ recs ≡ rec ∷ others → first ≡ rec
@@ -89,13 +89,13 @@ rises_behind_first low zero (first ∷ recs) others rec rises is =
 
     same_rest : first ∷ recs ≡ rec ∷ others → recs ≡ others
     same_rest e = cc
-rises_behind_first low (suc i) (first ∷ recs) others rec rises is = rises_behind_first first.number i recs others rec (rises_first low first recs rises).2 is
+rises_after_first low (suc i) (first ∷ recs) others rec rises is = rises_after_first first.number i recs others rec (rises_first low first recs rises).2 is
 
 pub up_to_no_more : (recs : List Rec) (i after : ℕ) (rec : Rec) → IsTrack recs → i < length recs → rec ≡ get_or recs i rec → up_to after recs ≡ take i recs ++ up_to after (drop i recs) → after < rec.number
     → take i recs ≡ up_to after recs
 up_to_no_more recs i after rec is lt at so_far above =
     let here = left_at recs i rec lt at in
-    let rises = rises_behind_first 0 i recs (drop (i + 1) recs) rec (track_rises recs is) here in
+    let rises = rises_after_first 0 i recs (drop (i + 1) recs) rec (track_rises recs is) here in
     let test : nat_le rec.number after ≡ false = lt-leb rec.number after above in
     let later_none : up_to after (drop (i + 1) recs) ≡ [] = none_up_to after rec.number (drop (i + 1) recs) (omega (arith, above)) rises in
     let none : up_to after (drop i recs) ≡ [] = ap (up_to after) here ∙ rw test later_none in
@@ -166,7 +166,7 @@ updated_none number bytes (first ∷ recs) each =
     let other : (first.number == number) ≡ false = each 0 first (omega arith) in
     rw other (ap (λ (t : List Rec). first ∷ t) (updated_none number bytes recs (λ k none less. each (suc k) none (omega (arith, less)))))
 
--- A record that keeps the rules leaves the same to be decided of those behind it.
+-- A record that keeps the rules leaves the same to be decided of those after it.
 pub rises_next : (last : ℕ) (recs : List Rec) (i : ℕ) (rec : Rec) → i < length recs → rec ≡ get_or recs i rec → last < rec.number → rec.number ≤ 255 → length rec.key ≤ 255
     → rises_above rec.number (drop (i + 1) recs) ≡ rises_above last (drop i recs)
 rises_next last recs i rec lt at above number key =

@@ -1,4 +1,4 @@
--- The track that bytes begin with, whatever stands behind the longest image.
+-- The track that bytes begin with, whatever stands after the longest image.
 use Rattle.std.proofs.Common.{◌≡◌, ◌⊎◌, inl, inr, ℕ, zero, suc, ◌+◌, ◌-◌, ◌≤◌, Bool, true, false, nat_lt, nat_le, List, [], ◌∷◌, ◌++◌, length, take, drop, Option, Some, None, Result, Ok, Err, refl, sym, ap, ◌∙◌, arith, length-append, length-take, length-drop}
 use Rattle.std.specs.Prelude.{slice_range}
 use Rattle.std.specs.Int.{w16, from_be_bytes}
@@ -12,7 +12,7 @@ use Rattle.ckd_track.specs.Tracks.{record_size, capacity}
 use Rattle.ckd_track.specs.Images.{record_spelling, record_after_head, record_at, records_at, image_at}
 use Rattle.ckd_track.specs.SlotPlaces.{track_read}
 
--- a record that is refused, or taken, whatever stands behind
+-- a record that is refused, or taken, whatever stands after
 pub record Refused (f : List ℕ → Result (Rec × List ℕ) ImageError) (t : List ℕ) : Type 0 where
   pub error : ImageError
   pub is : (more : List ℕ) → f (t ++ more) ≡ Err error
@@ -108,6 +108,6 @@ image_same (a ∷ b ∷ t) more other long = by_count (nat_lt 255 (from_be_bytes
     by_count true many = rw (there more, there other, many) refl
     by_count false few = rw (there more, there other, few) (records_same (from_be_bytes w16 (a ∷ b ∷ [])) 2 0 capacity t more other (omega (arith, long)))
 
--- bytes behind a place, as a range and what follows
-pub behind_is : (p q : ℕ) (b : List ℕ) → drop p b ≡ slice_range b p q ++ drop (q - p) (drop p b)
-behind_is p q b = sym (take-append-drop (q - p) (drop p b))
+-- bytes after a place, as a range and what follows
+pub after_is : (p q : ℕ) (b : List ℕ) → drop p b ≡ slice_range b p q ++ drop (q - p) (drop p b)
+after_is p q b = sym (take-append-drop (q - p) (drop p b))

@@ -44,7 +44,7 @@ not_found number at bytes (r ∷ recs) e = choose (r.number == number) refl (not
 
 -- ---- the record that is found
 
--- What stands before the content, the content, and what stands behind; with the bytes in its place it spells the updated records.
+-- What stands before the content, the content, and what stands after it; with the bytes in its place it spells the updated records.
 pub record Parts (number at : ℕ) (bytes : List ℕ) (recs : List Rec) (p : Place) : Type 0 where
   pub front : List ℕ
   pub content : List ℕ
@@ -73,10 +73,10 @@ parts_first number at bytes r recs is others =
       len = refl;
     }
 
--- a record behind the first is found
-parts_behind : (number at : ℕ) (bytes : List ℕ) (r : Rec) (recs : List Rec) (p : Place) → (r.number == number) ≡ false
+-- a record after the first is found
+parts_after : (number at : ℕ) (bytes : List ℕ) (r : Rec) (recs : List Rec) (p : Place) → (r.number == number) ≡ false
     → Parts number (at + (4 + length r.key + length r.content)) bytes recs p → Parts number at bytes (r ∷ recs) p
-parts_behind number at bytes r recs p is others =
+parts_after number at bytes r recs p is others =
     record {
       front = record_spelling r ++ others.front;
       content = others.content;
@@ -101,7 +101,7 @@ parts_of number at low bytes (r ∷ recs) p rises e =
         let same : number ≤ r.number = omega (arith, eqb-true r.number number is) in
         subst (λ (q : Place). Parts number at bytes (r ∷ recs) q) (some_is (record { from = at + 4 + length r.key; len = length r.content }) p e)
         (parts_first number at bytes r recs is (none_found number r.number bytes recs same rises))
-    choose false is rises others e = parts_behind number at bytes r recs p is (others e)
+    choose false is rises others e = parts_after number at bytes r recs p is (others e)
 
 -- ---- an updated track is a track
 
@@ -136,9 +136,9 @@ splice x content y back tail old new from len used is from_is len_is same used_i
     let all = length-append x (content ++ back) in
     let both = length-append content back in
     let lead : old ≡ x ++ ((content ++ back) ++ tail) = is ∙ append_assoc x (content ++ back) tail in
-    let behind : old ≡ (x ++ content) ++ (back ++ tail) = is ∙ simp append_assoc in
+    let after : old ≡ (x ++ content) ++ (back ++ tail) = is ∙ simp append_assoc in
     let front : take from old ≡ x = ap (take from) lead ∙ take_at x ((content ++ back) ++ tail) from from_is in
-    let rest : drop (from + len) old ≡ back ++ tail = ap (drop (from + len)) behind ∙ drop_at (x ++ content) (back ++ tail) (from + len) (omega (arith, length-append x content)) in
+    let rest : drop (from + len) old ≡ back ++ tail = ap (drop (from + len)) after ∙ drop_at (x ++ content) (back ++ tail) (from + len) (omega (arith, length-append x content)) in
     let whole : new ≡ (x ++ (y ++ back)) ++ tail = e ∙ rw (front, rest) (simp append_assoc) in
     let size : length (x ++ (y ++ back)) ≡ used = omega (arith, length-append x (y ++ back), length-append y back) in
     (ap (take used) whole ∙ take_at (x ++ (y ++ back)) tail used size, omega (arith, ap length whole, ap length is, length-append (x ++ (y ++ back)) tail, length-append (x ++ (content ++ back)) tail))

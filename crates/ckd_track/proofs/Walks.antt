@@ -27,7 +27,7 @@ pub record Walks (rest : List ℕ) (recs : List Rec) : Type 0 where
   pub rises : rises_above low recs ≡ true
   pub fits : track_size recs ≤ capacity
 
--- the record at the front, and the walk behind it
+-- the record at the front, and the walk after it
 pub record FirstOf (rest : List ℕ) (recs : List Rec) : Type 0 where
   pub first : Rec
   pub others : List Rec
@@ -72,7 +72,7 @@ first_of rest (r ∷ recs) walks some =
       above = refl;
     }
 
--- where a walk begins: behind the count
+-- where a walk begins: after the count
 pub record Begins (bytes : List ℕ) (track : List Rec) : Type 0 where
   pub count : slice_index bytes 0 * 256 + slice_index bytes 1 ≡ length track
   pub few : length track ≤ 255
@@ -95,7 +95,7 @@ walk_begins bytes is = subst (λ (b : List ℕ). Begins b (track_of_image bytes)
           from_start = refl;
         }
 
--- the records that are left behind the first
+-- the records that are left after the first
 pub others_are : (i : ℕ) (track : List Rec) (r : Rec) (others : List Rec) → drop i track ≡ r ∷ others → drop (i + 1) track ≡ others
 others_are i track r others e = sym (drop-drop 1 i track) ∙ ap (drop 1) e
 
@@ -156,7 +156,7 @@ fitting_goes i front track rest head f is le =
     let test : nat_lt front.room (record_size f.first) ≡ false = le-ltb front.room (record_size f.first) (subst (λ (h : Head). head_size h ≤ front.room) h le) in
     rw (others_are i track f.first f.others f.is, f.is, test) (ap (λ (h : Head). front_fitting (front_after front h) f.others) h)
 
--- the sizes that are left behind the first
+-- the sizes that are left after the first
 pub sizes_left : (i : ℕ) (track : List Rec) (rest : List ℕ) (head : Head) → FirstOf rest (drop i track) → head ≡ head_at rest → head_size head + track_size (drop (i + 1) track) ≡ track_size (drop i track)
 sizes_left i track rest head f is =
     let h : head ≡ head_of f.first = is ∙ f.head in

@@ -29,7 +29,7 @@ cylinder_of track = track / TRACKS_OF_CYLINDER
 abbrev pub head_of_track : (track : ℕ) → ℕ
 head_of_track track = track % TRACKS_OF_CYLINDER
 
--- The entry: tag, stamp, volume, cylinder, head, and the fields of the kind. Its cylinder has two bytes, so a track behind
+-- The entry: tag, stamp, volume, cylinder, head, and the fields of the kind. Its cylinder has two bytes, so a track after
 -- 65,536 cylinders has none.
 abbrev pub write_spelling : Write → List ℕ
 write_spelling write =
@@ -49,7 +49,7 @@ changes_part (Update number bytes) = true
 changes_part (Format after recs) = true
 changes_part (Whole track) = false
 
--- A delta's fields behind the track: the tag of an update or a format, and its fields.
+-- A delta's fields after the track: the tag of an update or a format, and its fields.
 abbrev pub delta_spelling : Kind → List ℕ
 delta_spelling kind = tag_of kind ∷ kind_spelling kind
 
@@ -76,7 +76,7 @@ pub record IsQueueForm (entry : List ℕ) : Type 0 where
 abbrev pub AppliesEntry : List ℕ → (old new : List Rec) → Type 0
 AppliesEntry entry old new = (write : Write) → IsTrue (is_kind write.kind) → entry ≡ queue_form write → new ≡ apply old write.kind
 
--- The bytes are a delta's fields behind the track.
+-- The bytes are a delta's fields after the track.
 pub record IsDelta (bytes : List ℕ) : Type 0 where
   pub kind : Kind
   pub part : IsTrue (changes_part kind)

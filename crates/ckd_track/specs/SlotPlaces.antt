@@ -5,7 +5,7 @@ use Rattle.ckd_track.specs.declared.fault.ImageError.{ImageError}
 use Rattle.ckd_track.specs.declared.rec.Rec.{Rec}
 use Rattle.ckd_track.specs.Images.{image_at}
 
--- the place of a track's slot, behind the label's block
+-- the place of a track's slot, after the label's block
 abbrev pub slot_place : (track : ℕ) → ℕ
 slot_place track = FIRST_SLOT + track * SLOT_LENGTH
 

@@ -21,8 +21,8 @@ fn decoded_record(alloc: Global, head: Head, bytes: &[u8]) -> Result<Rec, NoMemo
     ensures { IfOk result (λ rec. rec ≡ record_of head bytes.now) }
 {
     let (_, parts) = bytes.split_at(4);
-    let (key, behind_key) = parts.split_at(head.key_length as usize);
-    let (content, _) = behind_key.split_at(head.content_length as usize);
+    let (key, after_key) = parts.split_at(head.key_length as usize);
+    let (content, _) = after_key.split_at(head.content_length as usize);
     Ok(Rec {
         number: head.number,
         key: copied_bytes(alloc, key)?,
@@ -30,7 +30,7 @@ fn decoded_record(alloc: Global, head: Head, bytes: &[u8]) -> Result<Rec, NoMemo
     })
 }
 
-/// That many records above `low`, of which the first stands at a place, and the bytes behind them.
+/// That many records above `low`, of which the first stands at a place, and the bytes after them.
 fn decoded_records(
     alloc: Global,
     bytes: &[u8],
@@ -57,7 +57,7 @@ fn decoded_records(
     Ok((recs, rest))
 }
 
-/// The records of the image that the bytes begin with, and the bytes behind it.
+/// The records of the image that the bytes begin with, and the bytes after it.
 pub fn decoded(alloc: Global, bytes: &[u8]) -> Result<(RecList, &[u8]), ImageError>
     ensures { GivesOrWants (λ x. (x.0, x.1.now)) result (image_at bytes.now) }
 {

@@ -61,7 +61,7 @@ fn update_head(number: u8, count: usize) -> [u8; 3]
     head
 }
 
-/// Puts the fields of a kind behind other bytes. Want of memory may leave a part of them there.
+/// Puts the fields of a kind after other bytes. Want of memory may leave a part of them there.
 fn append_fields(alloc: Global, out: &mut Bytes, kind: &Kind) -> Result<(), NoMemory>
     requires rules { IsTrue (keeps_rules kind.now) }
     ensures ok { OnOk result (out.new ≡ out.old ++ kind_spelling kind.now) }
@@ -92,7 +92,7 @@ impl Kind {
         }
     }
 
-    /// Puts the fields of the kind, as they follow the track in an entry, behind the bytes of `out`.
+    /// Puts the fields of the kind, as they follow the track in an entry, after the bytes of `out`.
     pub fn encode_fields(&self, alloc: Global, out: &mut Bytes) -> Result<(), NoMemory>
         requires rules { IsTrue (keeps_rules self.now) }
         ensures ok { OnOk result (out.new ≡ out.old ++ kind_spelling self.now) }
@@ -107,7 +107,7 @@ impl Kind {
     }
 }
 
-/// Puts the fields of a kind at a place, and gives the place behind them.
+/// Puts the fields of a kind at a place, and gives the place after them.
 fn put_fields(out: &mut [u8], place: usize, kind: &Kind) -> usize
     requires rules { IsTrue (keeps_rules kind.now) }
     requires room { place + length (kind_spelling kind.now) ≤ length out.old }
@@ -117,12 +117,12 @@ fn put_fields(out: &mut [u8], place: usize, kind: &Kind) -> usize
 {
     match kind {
         Kind::Update { number, bytes } => {
-            let behind = put_bytes(out, place, &update_head(*number, bytes.len()));
-            put_bytes(out, behind, bytes.as_slice())
+            let next = put_bytes(out, place, &update_head(*number, bytes.len()));
+            put_bytes(out, next, bytes.as_slice())
         }
         Kind::Format { after, recs } => {
-            let behind = put_bytes(out, place, &[*after, recs.len() as u8]);
-            put_records(out, behind, recs.as_slice())
+            let next = put_bytes(out, place, &[*after, recs.len() as u8]);
+            put_records(out, next, recs.as_slice())
         }
         Kind::Whole { track } => put_image(out, place, track.recs()),
     }

@@ -10,7 +10,7 @@ use crate::head::Head;
 use crate::layout::CAPACITY;
 use crate::places::count;
 
-/// Some records in a row: where their spelling ends, how many they are, the room behind them, and the last number (0 for none).
+/// Some records in a row: where their spelling ends, how many they are, the room after them, and the last number (0 for none).
 #[derive(Clone, Copy, Debug)]
 pub struct Front {
     pub end: usize,
@@ -20,7 +20,7 @@ pub struct Front {
 }
 
 impl Front {
-    /// No record yet, at a place with room behind it.
+    /// No record yet, at a place with room after it.
     fn none(end: usize, room: usize) -> Front
         ensures { result ≡ no_front end room }
     {
@@ -61,8 +61,8 @@ pub fn kept(image: &[u8], after: u8) -> Front
         if after < head.number {
             return front;
         }
-        let (_, behind) = rest.split_at(head.spelled_length());
-        rest = behind;
+        let (_, following) = rest.split_at(head.spelled_length());
+        rest = following;
         front = front.with(head);
     }
     front
@@ -80,8 +80,8 @@ pub fn fitting_front(given: &[u8], count: u8, room: usize) -> Front
         if front.room < head.size() {
             return front;
         }
-        let (_, behind) = rest.split_at(head.spelled_length());
-        rest = behind;
+        let (_, following) = rest.split_at(head.spelled_length());
+        rest = following;
         front = front.with(head);
     }
     front

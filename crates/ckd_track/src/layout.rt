@@ -20,17 +20,17 @@ pub const LONGEST_ENTRY: usize = BEFORE_IMAGE + LONGEST_IMAGE;
 /// The length of a slot.
 pub const SLOT_LENGTH: usize = 57_344;
 
-/// The place of a volume's first slot, behind the label.
+/// The place of a volume's first slot, after the label.
 pub const FIRST_SLOT: u64 = 512;
 
 /// The bytes of a cylinder's slots.
 pub const CYLINDER_LENGTH: u64 = TRACKS_OF_CYLINDER as u64 * SLOT_LENGTH as u64;
 
-/// A run has at most this many writes, and a control at most this many entries that wait.
+/// A run has at most this many writes, and a controller at most this many entries that wait.
 pub const WRITES_OF_RUN: usize = 32;
 
 /// The blocks of the longest entry.
 pub const BLOCKS_OF_ENTRY: usize = (LONGEST_ENTRY + BLOCK - 1) / BLOCK;
 
-/// The blocks of a control's longest entries that wait.
+/// The blocks of a controller's longest entries that wait.
 pub const BLOCKS_OF_QUEUE: usize = WRITES_OF_RUN * BLOCKS_OF_ENTRY;

@@ -46,7 +46,7 @@ pub fn content_place(image: &[u8], number: u8) -> Option<Place>
     None
 }
 
-/// Fills a content with bytes, and with zeros behind them. What has no room is left out.
+/// Fills a content with bytes, and with zeros after them. What has no room is left out.
 pub fn fill_content(content: &mut [u8], bytes: &[u8])
     ensures { content.new ≡ fitted (length content.old) bytes.now }
 {

@@ -27,7 +27,7 @@ pub fn copied_bytes(alloc: Global, bytes: &[u8]) -> Result<Bytes, NoMemory>
     Ok(copy)
 }
 
-/// Fills a content with bytes, and with zeros behind them, in its own memory. What has no room is left out.
+/// Fills a content with bytes, and with zeros after them, in its own memory. What has no room is left out.
 pub fn refilled(content: Bytes, bytes: &[u8]) -> Bytes
     ensures { result ≡ fitted (length content) bytes.now }
 {

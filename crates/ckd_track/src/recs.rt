@@ -106,17 +106,13 @@ pub fn count_up_to(recs: &[Rec], after: u8) -> usize
     recs.len()
 }
 
-/// Puts other records behind the first `kept` ones.
-pub fn replace_behind(
-    recs: &mut Vec<Rec>,
-    kept: usize,
-    mut behind: Vec<Rec>,
-) -> Result<(), NoMemory>
-    ensures ok { OnOk result (recs.new.items ≡ take kept recs.old.items ++ behind.items) }
+/// Puts other records after the first `kept` ones.
+pub fn replace_after(recs: &mut Vec<Rec>, kept: usize, mut after: Vec<Rec>) -> Result<(), NoMemory>
+    ensures ok { OnOk result (recs.new.items ≡ take kept recs.old.items ++ after.items) }
     ensures err { OnErr result (recs.new.items ≡ recs.old.items) }
 {
-    recs.reserve(behind.len())?;
+    recs.reserve(after.len())?;
     recs.truncate(kept);
-    recs.append(&mut behind)?;
+    recs.append(&mut after)?;
     Ok(())
 }

@@ -1,4 +1,4 @@
-//! The image of a track, put behind other bytes or at the front of a buffer.
+//! The image of a track, put after other bytes or at the front of a buffer.
 
 ghost use Rattle.std.specs.Prelude.{◌≡◌, ◌≤◌, ◌+◌, ◌∷◌, ◌++◌, length, take, drop, OnOk};
 ghost use Rattle.std.specs.Int.{w16, to_be_bytes};
@@ -43,7 +43,7 @@ fn append_record(alloc: Global, out: &mut Bytes, rec: &Rec) -> Result<(), NoMemo
     out.extend_from_slice(alloc, rec.content.as_slice())
 }
 
-/// Puts the spellings of records behind other bytes. Want of memory may leave a part of them there.
+/// Puts the spellings of records after other bytes. Want of memory may leave a part of them there.
 pub fn append_records(alloc: Global, out: &mut Bytes, recs: &[Rec]) -> Result<(), NoMemory>
     requires track { IsTrack recs.now }
     ensures ok { OnOk result (out.new ≡ out.old ++ flat_map record_spelling recs.now) }
@@ -55,7 +55,7 @@ pub fn append_records(alloc: Global, out: &mut Bytes, recs: &[Rec]) -> Result<()
     Ok(())
 }
 
-/// Puts the image of a track behind other bytes. Want of memory may leave a part of it there.
+/// Puts the image of a track after other bytes. Want of memory may leave a part of it there.
 pub fn append_image(alloc: Global, out: &mut Bytes, recs: &[Rec]) -> Result<(), NoMemory>
     requires track { IsTrack recs.now }
     ensures ok { OnOk result (out.new ≡ out.old ++ image recs.now) }
@@ -65,7 +65,7 @@ pub fn append_image(alloc: Global, out: &mut Bytes, recs: &[Rec]) -> Result<(), 
     append_records(alloc, out, recs)
 }
 
-/// Writes bytes at a place of a buffer, and gives the place behind them.
+/// Writes bytes at a place of a buffer, and gives the place after them.
 pub fn put_bytes(buffer: &mut [u8], place: usize, bytes: &[u8]) -> usize
     requires { place + length bytes.now ≤ length buffer.old }
     ensures bytes { buffer.new ≡ with_bytes place bytes.now buffer.old }
@@ -87,7 +87,7 @@ fn put_record(buffer: &mut [u8], place: usize, rec: &Rec) -> usize
     put_bytes(buffer, content_place, rec.content.as_slice())
 }
 
-/// Writes the spellings of records at a place of a buffer, and gives the place behind them.
+/// Writes the spellings of records at a place of a buffer, and gives the place after them.
 pub fn put_records(buffer: &mut [u8], place: usize, recs: &[Rec]) -> usize
     requires track { IsTrack recs.now }
     requires room { place + length (flat_map record_spelling recs.now) ≤ length buffer.old }
@@ -101,7 +101,7 @@ pub fn put_records(buffer: &mut [u8], place: usize, recs: &[Rec]) -> usize
     end
 }
 
-/// Writes the image of a track at a place of a buffer, and gives the place behind it.
+/// Writes the image of a track at a place of a buffer, and gives the place after it.
 pub fn put_image(buffer: &mut [u8], place: usize, recs: &[Rec]) -> usize
     requires track { IsTrack recs.now }
     requires room { place + length (image recs.now) ≤ length buffer.old }

@@ -7,7 +7,7 @@ use crate::fault::ImageError;
 use crate::layout::CAPACITY;
 use crate::rec::{Rec, copied_records, refilled};
 use crate::recs::{
-    count_up_to, fitting_records, last_number, record_place, replace_behind, track_size,
+    count_up_to, fitting_records, last_number, record_place, replace_after, track_size,
 };
 use crate::spelling::append_image;
 use crate::write::{Kind, Write};
@@ -81,7 +81,7 @@ impl Track {
         CAPACITY - self.used as usize
     }
 
-    /// Whether the record may stand behind those of the track: its number is above theirs, its key has at most 255
+    /// Whether the record may stand after those of the track: its number is above theirs, its key has at most 255
     /// bytes, and there is room for it.
     pub fn fits(&self, rec: &Rec) -> bool
         ensures { IsTrue result ↔ IsTrack (self.now ++ rec.now ∷ []) }
@@ -93,7 +93,7 @@ impl Track {
         size <= self.room()
     }
 
-    /// Puts a record behind those of the track.
+    /// Puts a record after those of the track.
     pub fn push(&mut self, _alloc: Global, rec: Rec) -> Result<(), NoMemory>
         requires { IsTrack (self.old ++ rec ∷ []) }
         ensures ok { OnOk result (self.new ≡ self.old ++ rec ∷ []) }
@@ -139,7 +139,7 @@ impl Track {
         let front_size = track_size(front);
         let taken = fitting_records(given, CAPACITY - front_size);
         let used = front_size + track_size(taken);
-        replace_behind(&mut self.recs, kept, copied_records(alloc, taken)?)?;
+        replace_after(&mut self.recs, kept, copied_records(alloc, taken)?)?;
         self.used = used as u32;
         Ok(())
     }
@@ -163,7 +163,7 @@ impl Track {
         }
     }
 
-    /// Puts the track's image behind the bytes of `out`.
+    /// Puts the track's image after the bytes of `out`.
     pub fn encode_image(&self, alloc: Global, out: &mut Bytes) -> Result<(), NoMemory>
         ensures ok { OnOk result (out.new ≡ out.old ++ image self.now) }
         ensures err { OnErr result (out.new ≡ out.old) }

@@ -14,7 +14,7 @@ pub enum Kind {
     /// has the number the track stays.
     Update { number: u8, bytes: Bytes },
 
-    /// Records above `after` are erased, and of these the ones before the first that doesn't fit are put behind it. 0 stands
+    /// Records above `after` are erased, and of these the ones before the first that doesn't fit are put after it. 0 stands
     /// for the track's start. Where another `after` isn't found the track stays.
     Format { after: u8, recs: RecList },
 
@@ -39,7 +39,7 @@ impl Kind {
     }
 }
 
-/// A write: the volume of its control, the number of its track there, the host's stamp, and what it does.
+/// A write: the volume of its controller, the number of its track there, the host's stamp, and what it does.
 #[derive(Debug, Drop)]
 pub struct Write {
     pub volume: u16,
@@ -51,7 +51,7 @@ pub struct Write {
 /// Writes in order.
 pub type WriteList = List<Write>;
 
-/// The next writes of a control, in order. Every later one has a stamp above `upto`.
+/// The next writes of a controller, in order. Every later one has a stamp above `upto`.
 #[derive(Debug, Drop)]
 pub struct Batch {
     pub control: u16,
@@ -59,7 +59,7 @@ pub struct Batch {
     pub upto: Stamp,
 }
 
-/// Why a control's trace was given up.
+/// Why a controller's trace was given up.
 #[derive(Clone, Copy, Debug, PartialEq, Eq)]
 pub enum Cause {
     /// The source failed.

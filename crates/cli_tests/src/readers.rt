@@ -74,7 +74,7 @@ fn meet(own: &AtomicBool, other: &AtomicBool) -> bool {
     false
 }
 
-/// How many bytes stand between a place and the next end. Behind the last end there is no bound.
+/// How many bytes stand between a place and the next end. After the last end there is no bound.
 fn room_at(place: usize) -> usize
     ensures { 0 < result }
 {

@@ -50,7 +50,7 @@ content_as_accepted run s first points number text reply line changes hits =
     by_refusal change None = refl
     by_refusal change (Some why) = refl
 
--- The points behind a line's command, or behind the mark that its record needed first, tell the reply nothing.
+-- The points after a line's command, or after the mark that its record needed first, tell the reply nothing.
 points_cut : (number : ℕ) (xs ys : List PassedPoint) (n : PassedPoint) → is_command_of number n.way ≡ true → points_before number (xs ++ n ∷ ys) ≡ points_before number xs
 points_cut number [] ys n is = ap (λ (b : Bool). if b then [] else n ∷ points_before number ys) is
 points_cut number (m ∷ xs) ys n is = ap (λ (l : List PassedPoint). if is_command_of number m.way then [] else m ∷ l) (points_cut number xs ys n is)
@@ -157,21 +157,21 @@ inactive_is_answered run s text reply line off counted level said = record {
     differ true on is_off = cc
     differ false on is_off = cc
 
--- ---- legs behind a line
+-- ---- legs after a line
 
 module _ (run : ScriptRun) (s : Stage) (goes : s.table.is_ended ≡ false) (l : Leg) (leg : IsLegOf run s l) (q : Point) (hits : List Timed) (c : IsCommanding run s.next l q hits) (text reply : List ℕ) where
   pub command_is_answered : AreCounted run.rises (s.past ++ l.changes ++ hits) → IsReply (accepts run (table_at run l.point) c.line) c.line reply → IsAnswered run s (answered_by run s text reply c.line l.changes hits)
   command_is_answered = line_is_answered run s goes l leg c.line q hits (c.active (leg_goes run s goes l leg)) text reply
 
-  pub leg_behind_command : (number : ℕ) → accepts_end run (table_at run l.point) s.next ≡ false → IsLegOf run (stage_after s (answered_by run s text reply c.line l.changes hits)) (leg_by l q (Commanded number hits))
-  leg_behind_command number none =
+  pub leg_after_command : (number : ℕ) → accepts_end run (table_at run l.point) s.next ≡ false → IsLegOf run (stage_after s (answered_by run s text reply c.line l.changes hits)) (leg_by l q (Commanded number hits))
+  leg_after_command number none =
       let effect = c.active (leg_goes run s goes l leg) in
       next_leg run s goes l leg c.line q hits effect text reply (suc l.answered) (hits_through l hits) q.is_ended (counted_through run s l leg hits)
       (goes_still run s goes l leg c.line q hits effect text reply (subst (λ (o : Option Line). accepts_end run (table_at run l.point) o ≡ false) c.heard none))
 
-  pub leg_behind_end : (r : Point) (more : List Timed) (number : ℕ) → IsEnding run s.next q r more
+  pub leg_after_end : (r : Point) (more : List Timed) (number : ℕ) → IsEnding run s.next q r more
       → IsLegOf run (stage_after s (answered_by run s text reply c.line l.changes (hits ++ more))) (leg_by (leg_by l q (Commanded number hits)) r (Ending number more))
-  leg_behind_end r more number ending =
+  leg_after_end r more number ending =
       let effect = c.active (leg_goes run s goes l leg) in
       let whole = effect_is_hit run s goes c.line l q (going_on r) hits more effect ending.leads in
       let alike = ends_alike run q l.point (Some c.line) effect.leads.leads.goes_on (subst (λ (o : Option Line). accepts_end run (table_at run q) o ≡ true) c.heard ending.accepted) in

@@ -32,7 +32,7 @@ use Rattle.consistency.proofs.Lines.{asked_more, at_or_last, course_more, next_n
 use Rattle.consistency.proofs.Pieces.{times_append}
 use Rattle.consistency.proofs.Standing.{bears_on, console_choice}
 use Rattle.consistency.specs.Bearing.{GoesThroughPoints, MayBeMeant, ShowsPoint}
-use Rattle.consistency.specs.Pauses.{AreToldOf, HadExactReplies, HadExactReply, HasPassed, MayReply, RunGoesOn, ShowsMeant, asked_in}
+use Rattle.consistency.specs.Pauses.{AreSaidOf, HadExactReplies, HadExactReply, HasPassed, MayReply, RunGoesOn, ShowsMeant, asked_in}
 use Rattle.consistency.specs.Leads.{Point}
 use Rattle.consistency.specs.Ways.{Leg, PassedPoint, Way, stage_point}
 use Rattle.consistency.proofs.Bearing.{points_bear}
@@ -63,7 +63,7 @@ runs_begin plant run =
       keeps = λ up. begun;
     }
 
--- What isn't behind a time isn't behind a later one.
+-- What isn't after a time isn't after a later one.
 up_to_later : (early late : ℕ) (times : List ℕ) → early ≤ late → AreUpTo early times → AreUpTo late times
 up_to_later early late times le all = All-weaker (λ z. z ≤ early) (λ z. z ≤ late) (λ z at. omega (arith, le, at)) times all
 
@@ -84,7 +84,7 @@ module _ (old new : PlantState) (site : SameSite old new) (elapses : Elapses old
         from_before : passed.from ≤ old.clock
         from_before = omega (arith, le, moments_rise Point Way Choice (IsChoice old) (ShowsPoint run (shape_of old)) passed.from to first.point points None passed.goes)
 
-    told_stay : (s : Stage) (before : List Answered) (first : Leg) (points : List PassedPoint) (a : Answered) (to : ℕ) → to ≤ old.clock → AreToldOf run s before first points a old to → AreToldOf run s before first points a new to
+    told_stay : (s : Stage) (before : List Answered) (first : Leg) (points : List PassedPoint) (a : Answered) (to : ℕ) → to ≤ old.clock → AreSaidOf run s before first points a old to → AreSaidOf run s before first points a new to
     told_stay s before first points a to le told = record { passed = passed_stay (asked_in (before ++ a ∷ [])) first points to le told.passed; answered = told.answered; changes = told.changes; rows = told.rows }
 
   -- A reply stays exact.
@@ -189,14 +189,14 @@ module _ (run : ScriptRun) (lines : List Answered) (from : Leg) (points : List P
   abbrev before : Stage
   before = stage_at run lines (length lines)
 
-  abbrev behind : Stage
-  behind = stage_after before a
+  abbrev next_stage : Stage
+  next_stage = stage_after before a
 
   answered : IsAnswered run before a
   answered = record { step = reply.answered.step; counted = reply.answered.counted; level = reply.answered.level; is_reply = reply.answered.is_reply }
 
   -- The time of the session doesn't fall.
-  rises : before.replied ≤ behind.replied
+  rises : before.replied ≤ next_stage.replied
   rises =
       let later = next_not_before (length lines) (last_line_time lines (length lines)) (length (texts_of lines ++ a.text) == length first.script) a.text a.line reply.asks in
       let last = replied_by_last run first.script lines (length lines) goes.now.asked (omega arith) in
@@ -206,18 +206,18 @@ module _ (run : ScriptRun) (lines : List Answered) (from : Leg) (points : List P
       by_end true le = omega arith
       by_end false le = le
 
-  short_behind : behind.replied < 2 ^ 64
-  short_behind = by_end before.table.is_ended
+  short_after : next_stage.replied < 2 ^ 64
+  short_after = by_end before.table.is_ended
     where
       by_end : (e : Bool) → (if e then before.replied else a.line.time.0) < 2 ^ 64
       by_end true = goes.now.short
       by_end false = reply.short
 
-  -- No time that was said is behind it.
-  said_up_to : AreUpTo behind.replied (times_said (replies_of lines ++ a.reply))
+  -- No time that was said is after it.
+  said_up_to : AreUpTo next_stage.replied (times_said (replies_of lines ++ a.reply))
   said_up_to =
-      subst (λ (l : List ℕ). AreUpTo behind.replied l) (sym (times_append (replies_of lines) a.reply (replies_whole run lines goes.now.course)))
-      (All-append (λ z. z ≤ behind.replied) (times_said (replies_of lines)) (times_said a.reply) (up_to_later before.replied behind.replied (times_said (replies_of lines)) rises goes.now.times)
+      subst (λ (l : List ℕ). AreUpTo next_stage.replied l) (sym (times_append (replies_of lines) a.reply (replies_whole run lines goes.now.course)))
+      (All-append (λ z. z ≤ next_stage.replied) (times_said (replies_of lines)) (times_said a.reply) (up_to_later before.replied next_stage.replied (times_said (replies_of lines)) rises goes.now.times)
       (exact_says_up_to run s from.point points (length lines) a reply.names goes.now.short reply.short reply.exact))
 
   -- A started session stays started.
@@ -231,17 +231,17 @@ module _ (run : ScriptRun) (lines : List Answered) (from : Leg) (points : List P
       by_refusal true x y one two = one
       by_refusal false x y one two = two
 
-  -- The point behind the line bears the time of the reply, before and behind it.
-  bears_at : (stage : Stage) → MayBeMeant run stage (stage_point behind) → (c : Choice) → ShowsPoint run (shape_of old) (stage_point behind) c → BearsTime run stage (replies_of lines ++ a.reply) old c
-  bears_at stage may c shown = record { time = behind.replied; bears = points_bear run stage (shape_of old) (stage_point behind) c shown may; not_earlier = said_up_to }
+  -- The point after the line bears the time of the reply, before and after it.
+  bears_at : (stage : Stage) → MayBeMeant run stage (stage_point next_stage) → (c : Choice) → ShowsPoint run (shape_of old) (stage_point next_stage) c → BearsTime run stage (replies_of lines ++ a.reply) old c
+  bears_at stage may c shown = record { time = next_stage.replied; bears = points_bear run stage (shape_of old) (stage_point next_stage) c shown may; not_earlier = said_up_to }
 
   during : s.table.is_started ≡ true → (c : Choice) → IsChoice old old.clock c → BearsTime run s (replies_of lines ++ a.reply) old c
   during started c is = bears_at s (reply.may started) c (reply.shows (stays_started started) c is)
 
-  after : a.table.is_started ≡ true → (c : Choice) → IsChoice old old.clock c → BearsTime run behind (replies_of lines ++ a.reply) old c
-  after started c is = bears_at behind (stages_are_points run behind refl answered.counted) c (reply.shows started c is)
+  after : a.table.is_started ≡ true → (c : Choice) → IsChoice old old.clock c → BearsTime run next_stage (replies_of lines ++ a.reply) old c
+  after started c is = bears_at next_stage (stages_are_points run next_stage refl answered.counted) c (reply.shows started c is)
 
-  mean : a.table.is_started ≡ true → (c : Choice) → IsChoice old old.clock c → (means : Means) × (means_of old c ≡ Some means) × MeansTable behind means
+  mean : a.table.is_started ≡ true → (c : Choice) → IsChoice old old.clock c → (means : Means) × (means_of old c ≡ Some means) × MeansTable next_stage means
   mean started c is = let shown = reply.shows started c is in (shown.means, shown.defined, record { rows = shown.rows; time = shown.at; ended = shown.ended })
 
   -- The reply was exact, and those before it.
@@ -272,14 +272,14 @@ module _ (run : ScriptRun) (lines : List Answered) (from : Leg) (points : List P
   texts_all : texts_of lines ++ a.text ≡ texts_of all ++ []
   texts_all = sym (texts_more lines a) ∙ sym (append-nil (texts_of all))
 
-  -- Behind the reply each choice bears a time at the stage behind the line.
+  -- After the reply each choice bears a time at the stage after the line.
   bears_now : (stage_now run first.script all []).table.is_started ≡ true → (c : Choice) → IsChoice new new.clock c → BearsTime run (stage_now run first.script all []) (replies_of all) new c
   bears_now started c is =
       let next_is = stage_answered run first.script lines a in
       let left = console_choice tells told old new new.clock c works reaches (omega arith) is in
       bears_on run (stage_now run first.script all []) (replies_of all) old new c works.site
       (subst (λ (x : Stage). BearsTime run x (replies_of all) old c) (sym next_is)
-      (subst (λ (l : List ℕ). BearsTime run behind l old c) (sym (replies_more lines a)) (after (subst (λ (x : Stage). x.table.is_started ≡ true) next_is started) c left)))
+      (subst (λ (l : List ℕ). BearsTime run next_stage l old c) (sym (replies_more lines a)) (after (subst (λ (x : Stage). x.table.is_started ≡ true) next_is started) c left)))
 
   -- Once it was said whole, the run goes on with one line more.
   pub replies_go_on : new.said new.clock ≡ old.said old.clock ++ a.reply → RunGoesOn run all [] first new
@@ -294,8 +294,8 @@ module _ (run : ScriptRun) (lines : List Answered) (from : Leg) (points : List P
       said = whole ∙ ap (λ (l : List ℕ). l ++ a.reply) goes.now.said ∙ append_assoc (first.said first.clock) (replies_of lines) a.reply ∙ ap (λ (l : List ℕ). first.said first.clock ++ l) (sym (replies_more lines a));
       one_line = omega arith;
       bears = bears_now;
-      times = subst (λ (x : Stage). AreUpTo x.replied (times_said (replies_of all))) (sym (stage_more run lines a)) (subst (λ (l : List ℕ). AreUpTo behind.replied (times_said l)) (sym (replies_more lines a)) said_up_to);
-      short = subst (λ (x : Stage). x.replied < 2 ^ 64) (sym (stage_more run lines a)) short_behind;
+      times = subst (λ (x : Stage). AreUpTo x.replied (times_said (replies_of all))) (sym (stage_more run lines a)) (subst (λ (l : List ℕ). AreUpTo next_stage.replied (times_said l)) (sym (replies_more lines a)) said_up_to);
+      short = subst (λ (x : Stage). x.replied < 2 ^ 64) (sym (stage_more run lines a)) short_after;
     };
     exact = exact_all;
     keeps = λ up. keeps_says run lines a.text first old new up (goes.keeps up) tells told works a says refl answered reply.asks during after mean whole;

@@ -26,7 +26,7 @@ hits_stay run asked l q (MarkedFor line more) device next = omega (arith, ap (hi
 hits_stay run asked l q (Commanded line more) device next = omega (arith, le-max_left (hit_count device l.marked) (hit_count device more))
 hits_stay run asked l q (Ending line more) device next = omega (arith, le-max_left (hit_count device l.marked) (hit_count device more))
 
--- A mark's hits are counted behind the command too, and once.
+-- A mark's hits are counted after the command too, and once.
 pub marked_hits_counted : (run : ScriptRun) (asked : ℕ → Option Line) (l : Leg) (p q : Point) (number : ℕ) (marked more : List Timed) (device : ℕ) → ComesBy run asked l p (MarkedFor number marked)
     → hits_of_leg (leg_by (leg_by l p (MarkedFor number marked)) q (Commanded number more)) device ≡ hits_of_leg l device + max (hit_count device marked) (hit_count device more)
 marked_hits_counted run asked l p q number marked more device next = omega (arith, ap (hit_count device) next.1.none_marked)
@@ -34,21 +34,21 @@ marked_hits_counted run asked l p q number marked more device next = omega (arit
 -- ---- a stage
 
 module _ (run : ScriptRun) (s : Stage) (l : Leg) (leg : IsLegOf run s l) where
-  -- What is counted through hits behind a command holds those of the lines before, of the way and of the hits.
-  pub counted_through : (behind : List Timed) (device : ℕ) → hit_count device (s.past ++ l.changes ++ behind) ≤ hits_through l behind device
-  counted_through behind device = omega (arith, count_three device s.past l.changes behind, leg.counted device, le-max_right (hit_count device l.marked) (hit_count device behind))
+  -- What is counted through hits after a command holds those of the lines before, of the way and of the hits.
+  pub counted_through : (after : List Timed) (device : ℕ) → hit_count device (s.past ++ l.changes ++ after) ≤ hits_through l after device
+  counted_through after device = omega (arith, count_three device s.past l.changes after, leg.counted device, le-max_right (hit_count device l.marked) (hit_count device after))
 
-  pub counted_to_end : (behind more : List Timed) (q : Point) (number device : ℕ) → hit_count device (s.past ++ l.changes ++ (behind ++ more)) ≤ hits_through (leg_by l q (Commanded number behind)) more device
-  counted_to_end behind more q number device = omega (arith, count_three device s.past l.changes (behind ++ more), count_both device behind more, leg.counted device, le-max_right (hit_count device l.marked) (hit_count device behind), le-max_right 0 (hit_count device more))
+  pub counted_to_end : (after more : List Timed) (q : Point) (number device : ℕ) → hit_count device (s.past ++ l.changes ++ (after ++ more)) ≤ hits_through (leg_by l q (Commanded number after)) more device
+  counted_to_end after more q number device = omega (arith, count_three device s.past l.changes (after ++ more), count_both device after more, leg.counted device, le-max_right (hit_count device l.marked) (hit_count device after), le-max_right 0 (hit_count device more))
 
   pub leg_is_counted : HasCountedHits run l → AreCounted run.rises (s.past ++ l.changes)
   leg_is_counted has device = omega (arith, count_both device s.past l.changes, leg.counted device, has device)
 
-  pub command_is_counted : (q : Point) (number : ℕ) (behind : List Timed) → HasCountedHits run (leg_by l q (Commanded number behind)) → AreCounted run.rises (s.past ++ l.changes ++ behind)
-  command_is_counted q number behind has device = omega (arith, counted_through behind device, has device)
+  pub command_is_counted : (q : Point) (number : ℕ) (after : List Timed) → HasCountedHits run (leg_by l q (Commanded number after)) → AreCounted run.rises (s.past ++ l.changes ++ after)
+  command_is_counted q number after has device = omega (arith, counted_through after device, has device)
 
-  pub end_is_counted : (q r : Point) (number : ℕ) (behind more : List Timed) → HasCountedHits run (leg_by (leg_by l q (Commanded number behind)) r (Ending number more)) → AreCounted run.rises (s.past ++ l.changes ++ (behind ++ more))
-  end_is_counted q r number behind more has device = omega (arith, counted_to_end behind more q number device, has device)
+  pub end_is_counted : (q r : Point) (number : ℕ) (after more : List Timed) → HasCountedHits run (leg_by (leg_by l q (Commanded number after)) r (Ending number more)) → AreCounted run.rises (s.past ++ l.changes ++ (after ++ more))
+  end_is_counted q r number after more has device = omega (arith, counted_to_end after more q number device, has device)
 
   pub mark_is_counted : (q : Point) (number : ℕ) (marked : List Timed) → HasCountedHits run (leg_by l q (MarkedFor number marked)) → AreCounted run.rises (s.past ++ l.changes ++ marked)
   mark_is_counted q number marked has device = omega (arith, count_three device s.past l.changes marked, leg.counted device, has device)

@@ -25,14 +25,14 @@ hit_leaves_none level due time at (Reached devices) none is = absurd (no_other (
 hit_leaves_none level due time at (Mature device state) none is = absurd (no_other (at == time) is)
 hit_leaves_none level due time at (Break control) none is = absurd (no_other (at == time) is)
 
--- Nothing is due behind hits where nothing was due before them.
+-- Nothing is due after hits where nothing was due before them.
 pub hits_leave_none : (level : Level) (breaks : List (Option ℕ)) (due last : Due) (time from to : ℕ) (rows : List PairRow) (hits : List Timed) → due ≡ NoneDue → list_all (is_hit_at time) hits ≡ true → Comes level breaks due from to rows hits last → last ≡ NoneDue
 hits_leave_none level breaks due last time from to rows [] none are c = sym c.1 ∙ none
 hits_leave_none level breaks due last time from to rows (t ∷ hits) none are c =
     let parts = and_parts (is_hit_at time t) (list_all (is_hit_at time) hits) are in
     hits_leave_none level breaks (due_after level due t) last time t.time to (after_change level t rows) hits (hit_leaves_none level due time t.time t.change none parts.0) parts.1 c.3
 
--- Hits at a point's time and others behind them are hits in a row.
+-- Hits at a point's time and others after them are hits in a row.
 pub hits_on : (level : Level) (breaks : List (Option ℕ)) (p q r : Point) (xs ys : List Timed) → HitsLead level breaks p q xs → HitsLead level breaks q r ys → HitsLead level breaks p r (xs ++ ys)
 hits_on level breaks p q r xs ys first then = record {
   are_hits = list_all-append (is_hit_at p.time) xs ys ∙ and_from (list_all (is_hit_at p.time) xs) (list_all (is_hit_at p.time) ys) first.are_hits (subst (λ (n : ℕ). list_all (is_hit_at n) ys ≡ true) first.at then.are_hits);
@@ -56,7 +56,7 @@ mark_leaves level due time at (Reached devices) is = absurd (no_other (at == tim
 mark_leaves level due time at (Mature device state) is = absurd (no_other (at == time) is)
 mark_leaves level due time at (Break control) is = absurd (no_other (at == time) is)
 
--- So what is due behind hits in a mark may be due while a line is heard, where nothing was due before them.
+-- So what is due after hits in a mark may be due while a line is heard, where nothing was due before them.
 marks_may_rest : (level : Level) (breaks : List (Option ℕ)) (due last : Due) (time from to : ℕ) (rows : List PairRow) (hits : List Timed) → may_end true time due ≡ true → list_all (is_marked_at time) hits ≡ true → Comes level breaks due from to rows hits last → may_end true time last ≡ true
 marks_may_rest level breaks due last time from to rows [] rests are c = subst (λ (d : Due). may_end true time d ≡ true) c.1 rests
 marks_may_rest level breaks due last time from to rows (t ∷ hits) rests are c =

@@ -25,7 +25,7 @@ use Rattle.consistency.proofs.Lines.{asked_more, course_more, last_at, next_not_
 use Rattle.consistency.proofs.Pieces.{times_append, times_front}
 use Rattle.consistency.proofs.Replies.{reply_front, reply_some, take_none}
 use Rattle.consistency.proofs.Resting.{bears_time_heard}
-use Rattle.consistency.proofs.Standing.{MayBePart, bears_on, console_choice, front_all, front_more, means_on, moment_behind, moment_longer, moment_still, table_behind, table_longer, table_still}
+use Rattle.consistency.proofs.Standing.{MayBePart, bears_on, console_choice, front_all, front_more, means_on, moment_after, moment_longer, moment_still, table_longer, table_meant_there, table_still}
 
 -- ---- the beginning and the end
 
@@ -91,7 +91,7 @@ module _ (run : ScriptRun) (lines : List Answered) (text : List ℕ) (old new : 
       subst (λ (l : List ℕ). BearsTime run (stage_now run old.script lines text) l new c) said_now
       (subst (λ (s : Stage). BearsTime run s moment_now.said new c) stage_is (moment_now.bears (subst (λ (s : Stage). IsTrue s.table.is_started) (sym stage_is) started) c is))
 
--- Nothing may always be said behind the replies to all lines.
+-- Nothing may always be said after the replies to all lines.
 nothing_more : (lines : List Answered) → MayBePart lines lines []
 nothing_more lines = record { not_whole = λ a at. absurd (omega (arith, slice_get_within lines (length lines) a at)); none_more = refl }
 
@@ -102,7 +102,7 @@ none_begun = omega arith
 lt_le : (m n : ℕ) → m < n → m ≤ n
 lt_le m n below = omega (arith, below)
 
--- ---- calls behind which the same lines are answered
+-- ---- calls after which the same lines are answered
 
 module _ (run : ScriptRun) (lines : List Answered) (text : List ℕ) (old mid new : PlantState) (up : 0 < old.clock) (kept : Keeps run lines text old mid) (site : SameSite mid new) (elapses : Elapses mid new) where
   later : mid.clock ≤ new.clock
@@ -147,13 +147,13 @@ module _ (run : ScriptRun) (lines : List Answered) (text : List ℕ) (old mid ne
       same_clock : new.clock ≡ mid.clock → (from : old.clock ≤ new.clock) (before : new.clock ≤ mid.clock) → (kept.each new.clock from before).at.answered ≡ length lines
       same_clock is = subst (λ (n : ℕ). (from : old.clock ≤ n) (before : n ≤ mid.clock) → (kept.each n from before).at.answered ≡ length lines) (sym is) (λ from before. kept.now from before)
 
-  -- What was said behind the replies is nothing.
+  -- What was said after the replies is nothing.
   nothing_said : (t : ℕ) → new.said t ≡ mid.said mid.clock → new.said t ≡ old.said old.clock ++ (replies_of lines ++ [])
   nothing_said t is = is ∙ kept.said ∙ ap (λ (l : List ℕ). old.said old.clock ++ l) (sym (append-nil (replies_of lines)))
 
   abbrev moment_on : (next : List ℕ) → lines_begun next ≤ 1 → (t : ℕ) → new.heard t ≡ old.heard old.clock ++ (texts_of lines ++ next) → new.said t ≡ mid.said mid.clock
       → (IsTrue (stage_now run old.script lines next).table.is_started → (c : Choice) → IsChoice new t c → BearsTime run (stage_now run old.script lines next) (replies_of lines) new c) → MomentBears run lines old new t
-  moment_on next one t heard said bears = moment_behind run lines lines next [] (front_all lines) (nothing_more lines) one old new t heard (nothing_said t said)
+  moment_on next one t heard said bears = moment_after run lines lines next [] (front_all lines) (nothing_more lines) one old new t heard (nothing_said t said)
       (λ started c is. subst (λ (l : List ℕ). BearsTime run (stage_now run old.script lines next) l new c) (sym (append-nil (replies_of lines))) (bears started c is))
 
   module _ (silent : Silent mid new)
@@ -251,9 +251,9 @@ stage_answered run script lines a =
     ap (λ (n : Option Line). record s { next = n }) (none_heard (length all) (last_line_time all (length all)) at_end [] (and_right at_end false refl)) ∙ ap (λ (r : Stage). record r { next = None }) (stage_more run lines a)
 
 module _ (run : ScriptRun) (lines : List Answered) (text : List ℕ) (old mid new : PlantState) (up : 0 < old.clock) (kept : Keeps run lines text old mid) (tells : Type 0) (told : tells) (works : WorksOnConsole tells mid new) where
-  -- A front of a text is said behind the replies.
-  said_behind : (t k : ℕ) (bytes : List ℕ) → new.said t ≡ mid.said mid.clock ++ take k bytes → new.said t ≡ old.said old.clock ++ (replies_of lines ++ take k bytes)
-  said_behind t k bytes is = is ∙ ap (λ (l : List ℕ). l ++ take k bytes) kept.said ∙ append_assoc (old.said old.clock) (replies_of lines) (take k bytes)
+  -- A front of a text is said after the replies.
+  said_after : (t k : ℕ) (bytes : List ℕ) → new.said t ≡ mid.said mid.clock ++ take k bytes → new.said t ≡ old.said old.clock ++ (replies_of lines ++ take k bytes)
+  said_after t k bytes is = is ∙ ap (λ (l : List ℕ). l ++ take k bytes) kept.said ∙ append_assoc (old.said old.clock) (replies_of lines) (take k bytes)
 
   -- What bears a time not before those in a whole text bears one not before those in its front.
   bears_front : (t k : ℕ) (bytes : List ℕ) → mid.clock ≤ t → t ≤ new.clock → (s : Stage) → ((c : Choice) → IsChoice mid mid.clock c → BearsTime run s (replies_of lines ++ bytes) mid c) → (c : Choice) → IsChoice new t c → BearsTime run s (replies_of lines ++ take k bytes) new c
@@ -277,10 +277,10 @@ module _ (run : ScriptRun) (lines : List Answered) (text : List ℕ) (old mid ne
     line_late t from after to =
         let since : mid.clock ≤ t = lt_le mid.clock t after in
         let front = says.front t since to in
-        moment_behind run lines lines text (take front.0 bytes) (front_all lines) (may_say front.0) kept.one_line old new t (says.heard t since to ∙ kept.heard) (said_behind t front.0 bytes front.2)
+        moment_after run lines lines text (take front.0 bytes) (front_all lines) (may_say front.0) kept.one_line old new t (says.heard t since to ∙ kept.heard) (said_after t front.0 bytes front.2)
         (λ started c is. bears_front t front.0 bytes since to (stage_now run old.script lines text) (during started) c is)
 
-    -- The call that says a line behind the replies, as that of a status, is the last: the run bears throughout, whether it failed or not.
+    -- The call that says a line after the replies, as that of a status, is the last: the run bears throughout, whether it failed or not.
     pub keeps_says_line : BearsThroughout run lines old new
     keeps_says_line = record {
       course = kept.course;
@@ -300,7 +300,7 @@ module _ (run : ScriptRun) (lines : List Answered) (text : List ℕ) (old mid ne
 
   module _ (a : Answered) (says : Says a.reply mid new) (is_text : a.text ≡ text) (answered : IsAnswered run (stage_at run lines (length lines)) a) (asks : (stage_now run old.script lines text).next ≡ Some a.line)
       (during : IsTrue (stage_now run old.script lines text).table.is_started → (c : Choice) → IsChoice mid mid.clock c → BearsTime run (stage_now run old.script lines text) (replies_of lines ++ a.reply) mid c)
-      (behind : IsTrue a.table.is_started → (c : Choice) → IsChoice mid mid.clock c → BearsTime run (stage_after (stage_at run lines (length lines)) a) (replies_of lines ++ a.reply) mid c)
+      (after : IsTrue a.table.is_started → (c : Choice) → IsChoice mid mid.clock c → BearsTime run (stage_after (stage_at run lines (length lines)) a) (replies_of lines ++ a.reply) mid c)
       (mean : IsTrue a.table.is_started → (c : Choice) → IsChoice mid mid.clock c → (means : Means) × (means_of mid c ≡ Some means) × MeansTable (stage_after (stage_at run lines (length lines)) a) means) where
     abbrev all : List Answered
     all = lines ++ a ∷ []
@@ -325,17 +325,17 @@ module _ (run : ScriptRun) (lines : List Answered) (text : List ℕ) (old mid ne
 
     said_all : (t k : ℕ) → length a.reply ≤ k → new.said t ≡ mid.said mid.clock ++ take k a.reply → new.said t ≡ old.said old.clock ++ (replies_of all ++ [])
     said_all t k whole is =
-        said_behind t k a.reply is
+        said_after t k a.reply is
         ∙ ap (λ (l : List ℕ). old.said old.clock ++ l) (ap (λ (l : List ℕ). replies_of lines ++ l) (take_all k a.reply whole) ∙ sym (replies_more lines a) ∙ sym (append-nil (replies_of all)))
 
-    -- Once it is whole each choice bears at the stage behind the line.
+    -- Once it is whole each choice bears at the stage after the line.
     bears_all : (t : ℕ) → mid.clock ≤ t → t ≤ new.clock → IsTrue (stage_now run old.script all []).table.is_started → (c : Choice) → IsChoice new t c → BearsTime run (stage_now run old.script all []) (replies_of all ++ []) new c
     bears_all t since to started c is =
         let left = console_choice tells told mid new t c works since to is in
         bears_on run (stage_now run old.script all []) (replies_of all ++ []) mid new c works.site
         (subst (λ (s : Stage). BearsTime run s (replies_of all ++ []) mid c) (sym next_is)
         (subst (λ (l : List ℕ). BearsTime run (stage_after (stage_at run lines (length lines)) a) l mid c) (sym (append-nil (replies_of all) ∙ replies_more lines a))
-        (behind (subst (λ (s : Stage). IsTrue s.table.is_started) next_is started) c left)))
+        (after (subst (λ (s : Stage). IsTrue s.table.is_started) next_is started) c left)))
 
     mean_all : (t : ℕ) → mid.clock ≤ t → t ≤ new.clock → IsTrue (stage_now run old.script all []).table.is_started → (c : Choice) → IsChoice new t c → (means : Means) × (means_of new c ≡ Some means) × MeansTable (stage_now run old.script all []) means
     mean_all t since to started c is =
@@ -345,11 +345,11 @@ module _ (run : ScriptRun) (lines : List Answered) (text : List ℕ) (old mid ne
     abbrev reply_at : (t : ℕ) → mid.clock < t → t ≤ new.clock → (k : ℕ) → new.said t ≡ mid.said mid.clock ++ take k a.reply → (k < length a.reply) ⊎ (length a.reply ≤ k) → MomentBears run all old new t
     reply_at t after to k said (inl below) =
         let since : mid.clock ≤ t = lt_le mid.clock t after in
-        moment_behind run all lines text (take k a.reply) (front_more lines a) (may_front k below) kept.one_line old new t (says.heard t since to ∙ kept.heard) (said_behind t k a.reply said)
+        moment_after run all lines text (take k a.reply) (front_more lines a) (may_front k below) kept.one_line old new t (says.heard t since to ∙ kept.heard) (said_after t k a.reply said)
         (λ started c is. bears_front t k a.reply since to (stage_now run old.script lines text) (during started) c is)
     reply_at t after to k said (inr whole) =
         let since : mid.clock ≤ t = lt_le mid.clock t after in
-        moment_behind run all all [] [] (front_all all) (nothing_more all) none_begun old new t (heard_all t (says.heard t since to)) (said_all t k whole said) (λ started c is. bears_all t since to started c is)
+        moment_after run all all [] [] (front_all all) (nothing_more all) none_begun old new t (heard_all t (says.heard t since to)) (said_all t k whole said) (λ started c is. bears_all t since to started c is)
 
     abbrev reply_late : (t : ℕ) → old.clock ≤ t → mid.clock < t → t ≤ new.clock → MomentBears run all old new t
     reply_late t from after to =
@@ -374,7 +374,7 @@ module _ (run : ScriptRun) (lines : List Answered) (text : List ℕ) (old mid ne
     table_at t after to k said (inl below) more = absurd (omega (arith, more))
     table_at t after to k said (inr whole) more =
         let since : mid.clock ≤ t = lt_le mid.clock t after in
-        table_behind run all all [] [] (front_all all) (nothing_more all) none_begun old new t (heard_all t (says.heard t since to)) (said_all t k whole said) (λ started c is. bears_all t since to started c is)
+        table_meant_there run all all [] [] (front_all all) (nothing_more all) none_begun old new t (heard_all t (says.heard t since to)) (said_all t k whole said) (λ started c is. bears_all t since to started c is)
         (λ started c is. mean_all t since to started c is)
 
     replies_replied : FirstMeans run all old new each_replied

@@ -17,7 +17,7 @@ module _ (level : Level) (breaks : List (Option ℕ)) where
   comes_from due last early from to rows [] le c = (omega (arith, le, c.0), c.1)
   comes_from due last early from to rows (t ∷ changes) le c = (omega (arith, le, c.0), c.1, c.2, c.3)
 
-  -- What comes up to a time and what comes behind it comes in a row.
+  -- What comes up to a time and what comes after it comes in a row.
   pub comes_on : (due mid last : Due) (from here to : ℕ) (rows : List PairRow) (xs ys : List Timed) → here ≤ to → Comes level breaks due from here rows xs mid → Comes level breaks mid here to (after_changes level xs rows) ys last → Comes level breaks due from to rows (xs ++ ys) last
   comes_on due mid last from here to rows [] ys le first then = comes_from due last from here to rows ys first.0 (subst (λ (d : Due). Comes level breaks d here to rows ys last) (sym first.1) then)
   comes_on due mid last from here to rows (t ∷ xs) ys le first then = (first.0, omega (arith, first.1, le), first.2, comes_on (due_after level due t) mid last t.time here to (after_change level t rows) xs ys le first.3 then)
@@ -85,7 +85,7 @@ whole_itself level breaks p = record { leads = leads_itself level breaks p; brok
 any_left : (k : ℕ) (xs ys : List Timed) → list_any (breaks_control k) xs ≡ true → list_any (breaks_control k) (xs ++ ys) ≡ true
 any_left k xs ys e = list_any-append (breaks_control k) xs ys ∙ or_left (list_any (breaks_control k) xs) (list_any (breaks_control k) ys) e
 
--- Who broke by changes broke by them with others behind.
+-- Who broke by changes broke by them with others after them.
 pub broke_still : (from to k : ℕ) (breaks : List (Option ℕ)) (xs ys : List Timed) → all_broke from to k breaks xs ≡ true → all_broke from to k breaks (xs ++ ys) ≡ true
 broke_still from to k [] xs ys broke = refl
 broke_still from to k (b ∷ breaks) xs ys broke =

@@ -43,7 +43,7 @@ leg_goes_on run s l q changes leg way = record {
 pub leg_is_hit : (run : ScriptRun) (s : Stage) (l : Leg) (q : Point) (hits : List Timed) → IsLegOf run s l → HitsLead run.level (breaks_of run) l.point q hits → IsLegOf run s (leg_to l q hits)
 leg_is_hit run s l q hits leg hit = record { table = leg.table; replied = leg.replied; whole = hits_whole run.level (breaks_of run) (stage_point s) l.point q l.changes hits leg.whole hit.at hit.leads; counted = leg.counted }
 
--- So it does behind a mark that a command's record needs first.
+-- So it does after a mark that a command's record needs first.
 pub leg_is_marked : (run : ScriptRun) (s : Stage) (l : Leg) (q : Point) (number : ℕ) (hits : List Timed) → IsLegOf run s l → IsLegOf run s (leg_by l q (MarkedFor number hits))
 leg_is_marked run s l q number hits leg = record { table = leg.table; replied = leg.replied; whole = leg.whole; counted = leg.counted }
 
@@ -193,14 +193,14 @@ module _ (run : ScriptRun) (s : Stage) (goes : s.table.is_ended ≡ false) where
 
   -- ---- the end
 
-  -- Hits behind a command's point are hits behind the command.
+  -- Hits after a command's point are hits after the command.
   pub effect_is_hit : (line : Line) (l : Leg) (q r : Point) (hits more : List Timed) → TakesEffect run line l q hits → HitsLead run.level (breaks_of run) q r more → TakesEffect run line l r (hits ++ more)
   effect_is_hit line l q r hits more effect hit = record {
     may = effect.may;
     leads = hits_on run.level (breaks_of run) (commanded_point run line l.point) q r hits more effect.leads hit;
   }
 
-  -- The end behind the command's point may be meant.
+  -- The end after the command's point may be meant.
   pub ending_may_be_meant : (l : Leg) (q r : Point) (hits more : List Timed) → IsLegOf run s l → IsCommanding run s.next l q hits → IsEnding run s.next q r more → AreCounted run.rises (s.past ++ l.changes ++ (hits ++ more)) → MayBeMeant run s r
   ending_may_be_meant l q r hits more leg commanding ending counted =
       let effect = commanding.active (leg_goes l leg) in

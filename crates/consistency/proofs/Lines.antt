@@ -1,4 +1,4 @@
--- The lines of a run, one more of them, and the stages behind them.
+-- The lines of a run, one more of them, and the stages after them.
 use Rattle.std.proofs.Common.{◌≡◌, ◌⊎◌, inl, inr, ℕ, zero, suc, ◌+◌, ◌<◌, ◌≤◌, Bool, true, false, cond, nat_eq, List, [], ◌∷◌, ◌++◌, length, take, Option, Some, None, refl, sym, ap, subst, ◌∙◌, append-nil, arith, length-append, slice_get}
 use Rattle.std.specs.Prelude.{◌==◌, ◌||◌, ◌&&◌, fold, nat_le, nat_lt}
 use Rattle.std.specs.List.{list_any}
@@ -38,11 +38,11 @@ fold_more f s (x ∷ lines) (suc n) a at = fold_more f (f s x) lines n a at
 
 -- ---- stages
 
--- The stage behind one line more.
+-- The stage after one line more.
 pub stage_then : (run : ScriptRun) (lines : List Answered) (n : ℕ) (a : Answered) → slice_get lines n ≡ Some a → stage_at run lines (suc n) ≡ stage_after (stage_at run lines n) a
 stage_then run lines n a at = fold_more stage_after (first_stage run) lines n a at
 
--- Lines behind don't change the stages of those before.
+-- Lines that follow don't change the stages of those before.
 pub stage_front : (run : ScriptRun) (lines more : List Answered) (n : ℕ) → n ≤ length lines → stage_at run (lines ++ more) n ≡ stage_at run lines n
 stage_front run lines more n within = ap (λ (l : List Answered). fold stage_after (first_stage run) l) (take-append-le n lines more within)
 
@@ -50,7 +50,7 @@ stage_front run lines more n within = ap (λ (l : List Answered). fold stage_aft
 pub last_front : (lines more : List Answered) (n : ℕ) → n ≤ length lines → last_line_time (lines ++ more) n ≡ last_line_time lines n
 last_front lines more n within = ap (λ (l : List Answered). fold (λ (before : ℕ) (a : Answered). a.line.time.0) 0 l) (take-append-le n lines more within)
 
--- The stage behind all lines and one more.
+-- The stage after all lines and one more.
 pub stage_more : (run : ScriptRun) (lines : List Answered) (a : Answered) → stage_at run (lines ++ a ∷ []) (length (lines ++ a ∷ [])) ≡ stage_after (stage_at run lines (length lines)) a
 stage_more run lines a =
     let one : length (lines ++ a ∷ []) ≡ suc (length lines) = omega (arith, length_push lines a) in
@@ -75,7 +75,7 @@ course_more run lines a course answered n b at = elim (at_or_last lines a n b at
       subst (λ (s : Stage). IsAnswered run s b) (sym (stage_front run lines (a ∷ []) n within ∙ ap (stage_at run lines) last.0)) (subst (λ (x : Answered). IsAnswered run (stage_at run lines (length lines)) x) last.1 answered)
 ]
 
--- a line that was asked behind a time, with the texts up to it
+-- a line that was asked after a time, with the texts up to it
 abbrev AskedAt : (script : List ℕ) → (n before : ℕ) → (texts : List ℕ) → Answered → Type 0
 AskedAt script n before texts a = IsAsked n before (length texts == length script) a
 
@@ -123,7 +123,7 @@ next_not_before answered before at_end text line is = whole (is_whole_line at_en
     whole true o is = later o is
     whole false o is = absurd cc
 
--- The stamp of a reply isn't behind the line that it answers, also where it is that of the session's end.
+-- The stamp of a reply isn't after the line that it answers, also where it is that of the session's end.
 pub replied_by_last : (run : ScriptRun) (script : List ℕ) (lines : List Answered) (n : ℕ) → AreAsked script lines → n ≤ length lines → (stage_at run lines n).replied ≤ last_line_time lines n
 replied_by_last run script lines zero are within = omega arith
 replied_by_last run script lines (suc n) are within = elim (slice_get_cases lines n).1 [
@@ -190,7 +190,7 @@ no_feed_before text b one = choose (list_any (λ x. nat_eq x 10) text) refl
     choose true any = let two : 2 ≤ 0 + lines_begun_from false (text ++ b ∷ []) = feed_then false text b any in absurd (omega (arith, one, two))
     choose false none = refl
 
--- A byte behind a text without a line feed begins no second line.
+-- A byte after a text without a line feed begins no second line.
 pub one_line_more : (text : List ℕ) (b : ℕ) → list_any (λ x. nat_eq x 10) text ≡ false → lines_begun (text ++ b ∷ []) ≤ 1
 one_line_more [] b none = omega arith
 one_line_more (x ∷ text) b none =

@@ -1,4 +1,4 @@
--- Rows whose devices a mark for a command's record hit stand behind the command as the hits left them.
+-- Rows whose devices a mark for a command's record hit stand after the command as the hits left them.
 use Rattle.std.proofs.Common.{◌≡◌, ◌⊎◌, inl, inr, ℕ, ◌<◌, Bool, true, false, cond, ◌&&◌, List, [], ◌∷◌, map, refl, sym, ap, subst, ◌∙◌, arith}
 use Rattle.std.specs.Prelude.{◌==◌, Option, nat_le, if◌then◌else◌}
 use Rattle.std.specs.List.{All, list_all}
@@ -62,52 +62,52 @@ module _ (reach : FaultReach) (time : ℕ) where
   hit_stands at (Break control) r is = absurd (no_other (at == time) is)
 
   -- Hits that stand, where each of these rows comes from the one before.
-  abbrev AllStand : (behind : List Timed) (r : PairRow) → Type 0
-  AllStand behind r = ((row_after reach behind r).device ≡ r.device) × ((r.state ≡ Struck) ⊎ (0 < hit_count r.device behind) → (row_after reach behind r).state ≡ Struck)
+  abbrev AllStand : (after : List Timed) (r : PairRow) → Type 0
+  AllStand after r = ((row_after reach after r).device ≡ r.device) × ((r.state ≡ Struck) ⊎ (0 < hit_count r.device after) → (row_after reach after r).state ≡ Struck)
 
-  one_then : (t : Timed) (behind : List Timed) (r : PairRow) → Stands t r → AllStand behind (row_after_change reach t r) → AllStand (t ∷ behind) r
-  one_then t behind r one rest = (rest.0 ∙ one.0, struck_then)
+  one_then : (t : Timed) (after : List Timed) (r : PairRow) → Stands t r → AllStand after (row_after_change reach t r) → AllStand (t ∷ after) r
+  one_then t after r one rest = (rest.0 ∙ one.0, struck_then)
     where
-      by_hit : (b : Bool) → hits r.device t ≡ b → 0 < hit_count r.device (t ∷ behind) → (row_after reach (t ∷ behind) r).state ≡ Struck
+      by_hit : (b : Bool) → hits r.device t ≡ b → 0 < hit_count r.device (t ∷ after) → (row_after reach (t ∷ after) r).state ≡ Struck
       by_hit true is some = rest.1 (inl (one.1 (inr is)))
-      by_hit false is some = rest.1 (inr (subst (λ (n : ℕ). 0 < hit_count n behind) (sym one.0) (omega (arith, some, sum_by-cons (λ x. cond (hits r.device x) 1 0) t behind, ap {B = ℕ} (λ (b : Bool). cond b 1 0) is))))
+      by_hit false is some = rest.1 (inr (subst (λ (n : ℕ). 0 < hit_count n after) (sym one.0) (omega (arith, some, sum_by-cons (λ x. cond (hits r.device x) 1 0) t after, ap {B = ℕ} (λ (b : Bool). cond b 1 0) is))))
 
-      struck_then : (r.state ≡ Struck) ⊎ (0 < hit_count r.device (t ∷ behind)) → (row_after reach (t ∷ behind) r).state ≡ Struck
+      struck_then : (r.state ≡ Struck) ⊎ (0 < hit_count r.device (t ∷ after)) → (row_after reach (t ∷ after) r).state ≡ Struck
       struck_then (inl struck) = rest.1 (inl (one.1 (inl struck)))
       struck_then (inr some) = by_hit (hits r.device t) refl some
 
-  all_stand : (behind : List Timed) (r : PairRow) → list_all (is_hit_at time) behind ≡ true → AllStand behind r
+  all_stand : (after : List Timed) (r : PairRow) → list_all (is_hit_at time) after ≡ true → AllStand after r
   all_stand [] r are = (refl, done)
     where
       done : (r.state ≡ Struck) ⊎ (0 < hit_count r.device []) → r.state ≡ Struck
       done (inl struck) = struck
       done (inr some) = absurd (omega (arith, some))
-  all_stand (t ∷ behind) r are =
-      let parts = and_parts (is_hit_at time t) (list_all (is_hit_at time) behind) are in
-      one_then t behind r (hit_stands t.time t.change r parts.0) (all_stand behind (row_after_change reach t r) parts.1)
+  all_stand (t ∷ after) r are =
+      let parts = and_parts (is_hit_at time t) (list_all (is_hit_at time) after) are in
+      one_then t after r (hit_stands t.time t.change r parts.0) (all_stand after (row_after_change reach t r) parts.1)
 
-  -- Of rows behind hits, those are struck that the hits hold as often as a mark does, where the mark holds them.
-  pub rows_stand : (marked behind : List Timed) (rows : List PairRow) → list_all (is_hit_at time) behind ≡ true → hits_stand marked behind (map (row_after reach behind) rows) ≡ true
-      → All (λ r. 0 < hit_count r.device marked → r.state ≡ Struck) (map (row_after reach behind) rows)
-  rows_stand marked behind [] are stand = All-nil (λ (r : PairRow). 0 < hit_count r.device marked → r.state ≡ Struck)
-  rows_stand marked behind (r ∷ rows) are stand =
-      All-cons (λ (x : PairRow). 0 < hit_count x.device marked → x.state ≡ Struck) (row_after reach behind r) (map (row_after reach behind) rows) here (rows_stand marked behind rows are parts.1)
+  -- Of rows after hits, those are struck that the hits hold as often as a mark does, where the mark holds them.
+  pub rows_stand : (marked after : List Timed) (rows : List PairRow) → list_all (is_hit_at time) after ≡ true → hits_stand marked after (map (row_after reach after) rows) ≡ true
+      → All (λ r. 0 < hit_count r.device marked → r.state ≡ Struck) (map (row_after reach after) rows)
+  rows_stand marked after [] are stand = All-nil (λ (r : PairRow). 0 < hit_count r.device marked → r.state ≡ Struck)
+  rows_stand marked after (r ∷ rows) are stand =
+      All-cons (λ (x : PairRow). 0 < hit_count x.device marked → x.state ≡ Struck) (row_after reach after r) (map (row_after reach after) rows) here (rows_stand marked after rows are parts.1)
     where
-      parts : (let new = row_after reach behind r in (nat_le (hit_count new.device marked) (hit_count new.device behind) ≡ true) × (hits_stand marked behind (map (row_after reach behind) rows) ≡ true))
-      parts = let new = row_after reach behind r in and_parts (nat_le (hit_count new.device marked) (hit_count new.device behind)) (hits_stand marked behind (map (row_after reach behind) rows)) stand
+      parts : (let new = row_after reach after r in (nat_le (hit_count new.device marked) (hit_count new.device after) ≡ true) × (hits_stand marked after (map (row_after reach after) rows) ≡ true))
+      parts = let new = row_after reach after r in and_parts (nat_le (hit_count new.device marked) (hit_count new.device after)) (hits_stand marked after (map (row_after reach after) rows)) stand
 
-      here : 0 < hit_count (row_after reach behind r).device marked → (row_after reach behind r).state ≡ Struck
+      here : 0 < hit_count (row_after reach after r).device marked → (row_after reach after r).state ≡ Struck
       here some =
-          let one = all_stand behind r are in
-          let as_often = leb-true (hit_count (row_after reach behind r).device marked) (hit_count (row_after reach behind r).device behind) parts.0 in
-          one.1 (inr (subst (λ (n : ℕ). 0 < hit_count n behind) one.0 (omega (arith, some, as_often))))
+          let one = all_stand after r are in
+          let as_often = leb-true (hit_count (row_after reach after r).device marked) (hit_count (row_after reach after r).device after) parts.0 in
+          one.1 (inr (subst (λ (n : ℕ). 0 < hit_count n after) one.0 (omega (arith, some, as_often))))
 
--- Behind the command each row whose device the mark hit is suspended by its device.
-pub marked_rows_stand : (run : ScriptRun) (asked : Option Line) (l : Leg) (q : Point) (behind : List Timed) → l.point.is_ended ≡ false → IsCommanding run asked l q behind
+-- After the command each row whose device the mark hit is suspended by its device.
+pub marked_rows_stand : (run : ScriptRun) (asked : Option Line) (l : Leg) (q : Point) (after : List Timed) → l.point.is_ended ≡ false → IsCommanding run asked l q after
     → All (λ r. 0 < hit_count r.device l.marked → r.state ≡ since ByDevice l.point.time) q.rows
-marked_rows_stand run asked l q behind goes commanding =
+marked_rows_stand run asked l q after goes commanding =
     let effect = commanding.active goes in
     let start = (commanded_point run commanding.line l.point).rows in
-    let rows_are = effect.leads.leads.rows ∙ after_rows run.level behind start in
+    let rows_are = effect.leads.leads.rows ∙ after_rows run.level after start in
     subst (λ (rows : List PairRow). All (λ r. 0 < hit_count r.device l.marked → r.state ≡ since ByDevice l.point.time) rows) (sym rows_are)
-    (rows_stand (reach_of run.level start) l.point.time l.marked behind start effect.leads.are_hits (subst (λ (rows : List PairRow). hits_stand l.marked behind rows ≡ true) rows_are commanding.stand))
+    (rows_stand (reach_of run.level start) l.point.time l.marked after start effect.leads.are_hits (subst (λ (rows : List PairRow). hits_stand l.marked after rows ≡ true) rows_are commanding.stand))

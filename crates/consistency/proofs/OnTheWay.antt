@@ -1,4 +1,4 @@
--- Points on the way, one behind another.
+-- Points on the way, one after another.
 use Rattle.std.proofs.Common.{◌≡◌, ℕ, ◌≤◌, Bool, true, false, true≢false, not, List, [], ◌∷◌, Option, Some, None, refl, sym, ap, subst, ◌∙◌, arith}
 use Rattle.std.specs.Prelude.{fold, is_none}
 use Rattle.std.specs.List.{All, list_all}
@@ -23,9 +23,9 @@ leg_after_way run s asked l n leg on next = by_way n.way on next.0
   where
     by_way : (w : Way) → is_on_the_way (record n { way = w }) ≡ true → ComesBy run asked l n.point w → IsLegOf run s (leg_after l (record n { way = w }))
     by_way (OnTheWay changes) on way = leg_goes_on run s l n.point changes leg way.1
-    by_way (Commanded line behind) on way = absurd cc
-    by_way (Ending line behind) on way = absurd cc
-    by_way (MarkedFor line behind) on way = absurd cc
+    by_way (Commanded line following) on way = absurd cc
+    by_way (Ending line following) on way = absurd cc
+    by_way (MarkedFor line following) on way = absurd cc
 
 pub legs_go_on : (run : ScriptRun) (s : Stage) (asked : ℕ → Option Line) (l : Leg) (points : List PassedPoint) → IsLegOf run s l → list_all is_on_the_way points ≡ true → AreLinked (ComesNext run asked) leg_after l points → IsLegOf run s (fold leg_after l points)
 legs_go_on run s asked l [] leg on linked = leg
@@ -35,16 +35,16 @@ legs_go_on run s asked l (n ∷ points) leg on linked =
 
 -- ---- times
 
--- Times don't fall from a leg to the next point, nor to the leg behind it.
+-- Times don't fall from a leg to the next point, nor to the leg after it.
 next_rises : (run : ScriptRun) (asked : ℕ → Option Line) (l : Leg) (q : Point) (w : Way) → ComesBy run asked l q w → (l.point.time ≤ q.time) × (l.point.time ≤ (leg_by l q w).point.time)
 next_rises run asked l q (OnTheWay changes) way = (leads_rise run.level (breaks_of run) l.point q changes way.1.leads, leads_rise run.level (breaks_of run) l.point q changes way.1.leads)
-next_rises run asked l q (Commanded line behind) way = by_end l.point.is_ended refl
+next_rises run asked l q (Commanded line following) way = by_end l.point.is_ended refl
   where
     by_end : (e : Bool) → l.point.is_ended ≡ e → (l.point.time ≤ q.time) × (l.point.time ≤ q.time)
     by_end true is = let same = ap (λ (p : Point). p.time) (way.2.ended is).0 in (omega (arith, same), omega (arith, same))
     by_end false is = let same = (way.2.active is).leads.at in (omega (arith, same), omega (arith, same))
-next_rises run asked l q (Ending line behind) way = (omega (arith, way.1.leads.at), omega (arith, way.1.leads.at))
-next_rises run asked l q (MarkedFor line behind) way = (omega (arith, way.2.leads.at), omega arith)
+next_rises run asked l q (Ending line following) way = (omega (arith, way.1.leads.at), omega (arith, way.1.leads.at))
+next_rises run asked l q (MarkedFor line following) way = (omega (arith, way.2.leads.at), omega arith)
 
 pub points_rise : (run : ScriptRun) (asked : ℕ → Option Line) (l : Leg) (points : List PassedPoint) → AreLinked (ComesNext run asked) leg_after l points → All (λ n. l.point.time ≤ n.point.time) points
 points_rise run asked l [] linked = All-nil (λ (n : PassedPoint). l.point.time ≤ n.point.time)
@@ -63,9 +63,9 @@ point_after l n on = by_way n.way on
   where
     by_way : (w : Way) → is_on_the_way (record n { way = w }) ≡ true → (leg_after l (record n { way = w })).point ≡ n.point
     by_way (OnTheWay changes) on = refl
-    by_way (Commanded line behind) on = refl
-    by_way (Ending line behind) on = refl
-    by_way (MarkedFor line behind) on = absurd cc
+    by_way (Commanded line following) on = refl
+    by_way (Ending line following) on = refl
+    by_way (MarkedFor line following) on = absurd cc
 
 -- Each point on the way to the time of the next line may be meant.
 pub ways_may_be_meant : (run : ScriptRun) (s : Stage) (asked : ℕ → Option Line) (line : Line) (l : Leg) (points : List PassedPoint) → s.table.is_ended ≡ false → s.next ≡ Some line → IsLegOf run s l
@@ -113,7 +113,7 @@ marks_next run asked l q r line marked (MarkedFor other hits) number some way = 
 marks_next run asked l q r line marked (Commanded other more) number some way = (more, ap (λ (n : ℕ). Commanded n more) (way.0 ∙ sym number))
 marks_next run asked l q r line marked (Ending other hits) number some way = absurd (some way.0.none_marked)
 
--- Behind such a mark comes its command.
+-- After such a mark comes its command.
 pub marks_are_commanded : (run : ScriptRun) (asked : ℕ → Option Line) (l : Leg) (n m : PassedPoint) (line : ℕ) (marked : List Timed) → n.way ≡ MarkedFor line marked → ComesNext run asked l n → ComesNext run asked (leg_after l n) m
     → (more : List Timed) × (m.way ≡ Commanded line more)
 marks_are_commanded run asked l n m line marked is next then =
@@ -139,12 +139,12 @@ differ : (b : Bool) → b ≡ true → b ≡ false → ⊥
 differ true on off = cc
 differ false on off = cc
 
--- Behind a point at which the session has ended comes the same point.
+-- After a point at which the session has ended comes the same point.
 ended_next : (run : ScriptRun) (asked : ℕ → Option Line) (l : Leg) (q : Point) (w : Way) → l.point.is_ended ≡ true → ComesBy run asked l q w → (q ≡ l.point) × ((leg_by l q w).point ≡ l.point)
 ended_next run asked l q (OnTheWay changes) ended way = absurd (true≢false (sym ended ∙ way.0.goes_on))
-ended_next run asked l q (MarkedFor line behind) ended way = absurd (true≢false (sym ended ∙ way.1.goes_on))
-ended_next run asked l q (Commanded line behind) ended way = ((way.2.ended ended).0, (way.2.ended ended).0)
-ended_next run asked l q (Ending line behind) ended way = absurd (never_twice_ended run l.point (asked line) ended way.1.accepted)
+ended_next run asked l q (MarkedFor line following) ended way = absurd (true≢false (sym ended ∙ way.1.goes_on))
+ended_next run asked l q (Commanded line following) ended way = ((way.2.ended ended).0, (way.2.ended ended).0)
+ended_next run asked l q (Ending line following) ended way = absurd (never_twice_ended run l.point (asked line) ended way.1.accepted)
 
 pub ended_points_stay : (run : ScriptRun) (asked : ℕ → Option Line) (l : Leg) (points : List PassedPoint) → l.point.is_ended ≡ true → AreLinked (ComesNext run asked) leg_after l points → All (λ n. n.point ≡ l.point) points
 ended_points_stay run asked l [] ended linked = All-nil (λ (n : PassedPoint). n.point ≡ l.point)
@@ -153,31 +153,31 @@ ended_points_stay run asked l (n ∷ points) ended linked =
     All-cons (λ (m : PassedPoint). m.point ≡ l.point) n points here.0
     (All-weaker (λ m. m.point ≡ (leg_after l n).point) (λ m. m.point ≡ l.point) (λ m same. same ∙ here.1) points (ended_points_stay run asked (leg_after l n) points (ap (λ (p : Point). p.is_ended) here.1 ∙ ended) linked.1))
 
--- Behind the command of an accepted end only its ending point comes.
-ends_next : (run : ScriptRun) (asked : ℕ → Option Line) (l : Leg) (q r : Point) (line : ℕ) (behind : List Timed) (w : Way) → line ≡ l.answered → accepts_end run (table_at run q) (asked line) ≡ true → ComesBy run asked (leg_by l q (Commanded line behind)) r w
+-- After the command of an accepted end only its ending point comes.
+ends_next : (run : ScriptRun) (asked : ℕ → Option Line) (l : Leg) (q r : Point) (line : ℕ) (following : List Timed) (w : Way) → line ≡ l.answered → accepts_end run (table_at run q) (asked line) ≡ true → ComesBy run asked (leg_by l q (Commanded line following)) r w
     → (more : List Timed) × (w ≡ Ending line more)
-ends_next run asked l q r line behind (OnTheWay changes) number accepted way = absurd (differ (accepts_end run (table_at run q) (asked line)) accepted (subst (λ (n : ℕ). accepts_end run (table_at run q) (asked n) ≡ false) (sym number) way.0.not_ending))
-ends_next run asked l q r line behind (MarkedFor other hits) number accepted way = absurd (differ (accepts_end run (table_at run q) (asked line)) accepted (subst (λ (n : ℕ). accepts_end run (table_at run q) (asked n) ≡ false) (sym number) way.1.not_ending))
-ends_next run asked l q r line behind (Commanded other hits) number accepted way = absurd (differ (accepts_end run (table_at run q) (asked line)) accepted (subst (λ (n : ℕ). accepts_end run (table_at run q) (asked n) ≡ false) (sym number) way.1))
-ends_next run asked l q r line behind (Ending other more) number accepted way = (more, ap (λ (n : ℕ). Ending n more) (omega (arith, number, way.0.last)))
+ends_next run asked l q r line following (OnTheWay changes) number accepted way = absurd (differ (accepts_end run (table_at run q) (asked line)) accepted (subst (λ (n : ℕ). accepts_end run (table_at run q) (asked n) ≡ false) (sym number) way.0.not_ending))
+ends_next run asked l q r line following (MarkedFor other hits) number accepted way = absurd (differ (accepts_end run (table_at run q) (asked line)) accepted (subst (λ (n : ℕ). accepts_end run (table_at run q) (asked n) ≡ false) (sym number) way.1.not_ending))
+ends_next run asked l q r line following (Commanded other hits) number accepted way = absurd (differ (accepts_end run (table_at run q) (asked line)) accepted (subst (λ (n : ℕ). accepts_end run (table_at run q) (asked n) ≡ false) (sym number) way.1))
+ends_next run asked l q r line following (Ending other more) number accepted way = (more, ap (λ (n : ℕ). Ending n more) (omega (arith, number, way.0.last)))
 
-pub ends_are_ended : (run : ScriptRun) (asked : ℕ → Option Line) (l : Leg) (n m : PassedPoint) (line : ℕ) (behind : List Timed) → n.way ≡ Commanded line behind → ComesNext run asked l n → accepts_end run (table_at run n.point) (asked line) ≡ true
+pub ends_are_ended : (run : ScriptRun) (asked : ℕ → Option Line) (l : Leg) (n m : PassedPoint) (line : ℕ) (following : List Timed) → n.way ≡ Commanded line following → ComesNext run asked l n → accepts_end run (table_at run n.point) (asked line) ≡ true
     → ComesNext run asked (leg_after l n) m → (more : List Timed) × (m.way ≡ Ending line more)
-ends_are_ended run asked l n m line behind is next accepted then =
+ends_are_ended run asked l n m line following is next accepted then =
     let come = subst (λ (w : Way). ComesBy run asked l n.point w) is next.0 in
     let after = subst (λ (w : Way). ComesBy run asked (leg_by l n.point w) m.point m.way) is then.0 in
-    ends_next run asked l n.point m.point line behind m.way come.0 accepted after
+    ends_next run asked l n.point m.point line following m.way come.0 accepted after
 
 -- Before an ending point comes the command of its line.
-ends_before : (run : ScriptRun) (asked : ℕ → Option Line) (l : Leg) (q r : Point) (w : Way) (line : ℕ) (more : List Timed) → ComesBy run asked l q w → ComesBy run asked (leg_by l q w) r (Ending line more) → (behind : List Timed) × (w ≡ Commanded line behind)
+ends_before : (run : ScriptRun) (asked : ℕ → Option Line) (l : Leg) (q r : Point) (w : Way) (line : ℕ) (more : List Timed) → ComesBy run asked l q w → ComesBy run asked (leg_by l q w) r (Ending line more) → (following : List Timed) × (w ≡ Commanded line following)
 ends_before run asked l q r (OnTheWay changes) line more way ending =
     absurd (differ (accepts_end run (table_at run l.point) (asked line)) (ends_alike run q l.point (asked line) way.1.leads.goes_on ending.1.accepted)
     (subst (λ (n : ℕ). accepts_end run (table_at run l.point) (last_answered asked n) ≡ false) ending.0.last way.0.not_ending))
 ends_before run asked l q r (MarkedFor other hits) line more way ending =
     absurd (differ (accepts_end run (table_at run l.point) (asked line)) ending.1.accepted (subst (λ (n : ℕ). accepts_end run (table_at run l.point) (last_answered asked n) ≡ false) ending.0.last way.1.not_ending))
-ends_before run asked l q r (Commanded other behind) line more way ending = (behind, ap (λ (n : ℕ). Commanded n behind) (omega (arith, way.0, ending.0.last)))
+ends_before run asked l q r (Commanded other following) line more way ending = (following, ap (λ (n : ℕ). Commanded n following) (omega (arith, way.0, ending.0.last)))
 ends_before run asked l q r (Ending other hits) line more way ending = absurd (never_twice_ended run q (asked line) way.1.ended ending.1.accepted)
 
 pub ends_are_commanded : (run : ScriptRun) (asked : ℕ → Option Line) (l : Leg) (n m : PassedPoint) (line : ℕ) (more : List Timed) → ComesNext run asked l n → m.way ≡ Ending line more → ComesNext run asked (leg_after l n) m
-    → (behind : List Timed) × (n.way ≡ Commanded line behind)
+    → (following : List Timed) × (n.way ≡ Commanded line following)
 ends_are_commanded run asked l n m line more next is then = ends_before run asked l n.point m.point n.way line more next.0 (subst (λ (w : Way). ComesBy run asked (leg_after l n) m.point w) is then.0)

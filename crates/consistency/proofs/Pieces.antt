@@ -1,4 +1,4 @@
--- The lines and times of texts that stand one behind another.
+-- The lines and times of texts that stand one after another.
 use Rattle.std.proofs.Common.{◌≡◌, ℕ, ◌≤◌, Bool, true, false, cond, nat_eq, List, [], ◌∷◌, ◌++◌, length, refl, sym, ap, subst, ◌∙◌, append_assoc, append-nil}
 use Rattle.std.specs.Prelude.{All}
 use Rattle.std.specs.List.{flat_map, list_any}
@@ -9,7 +9,7 @@ use Rattle.std.proofs.lemmas.List.Elements.{All-take}
 use Rattle.consistency.specs.Moments.{AreUpTo}
 use Rattle.consistency.specs.Times.{AreWhole, ended_pieces, times_in_line, times_said, unended, whole_lines}
 
--- The pieces of two texts are those of the first, and of the second behind what the first leaves.
+-- The pieces of two texts are those of the first, and of the second after what the first leaves.
 pub pieces_append : (s : ℕ) (read a b : List ℕ) → ended_pieces s read (a ++ b) ≡ ended_pieces s read a ++ ended_pieces s (unended s read a) b
 pieces_append s read [] b = refl
 pieces_append s read (x ∷ a) b = choose (nat_eq x s) (pieces_append s [] a b) (pieces_append s (read ++ x ∷ []) a b)
@@ -40,11 +40,11 @@ no_pieces s read (x ∷ text) none =
 
 -- ---- whole lines
 
--- Behind whole lines a text has its own lines.
+-- After whole lines a text has its own lines.
 pub lines_append : (a b : List ℕ) → AreWhole a → whole_lines (a ++ b) ≡ whole_lines a ++ whole_lines b
 lines_append a b whole = pieces_append 10 [] a b ∙ ap (λ (r : List ℕ). ended_pieces 10 [] a ++ ended_pieces 10 r b) whole
 
--- Whole lines behind whole lines are whole.
+-- Whole lines after whole lines are whole.
 pub whole_append : (a b : List ℕ) → AreWhole a → AreWhole b → AreWhole (a ++ b)
 whole_append a b whole then = unended_append 10 [] a b ∙ ap (λ (r : List ℕ). unended 10 r b) whole ∙ then
 
@@ -52,7 +52,7 @@ whole_append a b whole then = unended_append 10 [] a b ∙ ap (λ (r : List ℕ)
 pub feed_whole : (a : List ℕ) → AreWhole (a ++ 10 ∷ [])
 feed_whole a = unended_append 10 [] a (10 ∷ [])
 
--- The line that a line feed ends, behind whole lines.
+-- The line that a line feed ends, after whole lines.
 pub line_ended : (a line : List ℕ) → AreWhole a → list_any (λ b. nat_eq b 10) line ≡ false → whole_lines (a ++ line ++ 10 ∷ []) ≡ whole_lines a ++ line ∷ []
 line_ended a line whole none =
     let own = no_pieces 10 [] line none in
@@ -61,7 +61,7 @@ line_ended a line whole none =
 
 -- ---- times
 
--- The times that whole lines say, and then those that a text says behind them.
+-- The times that whole lines say, and then those that a text says after them.
 pub times_append : (a b : List ℕ) → AreWhole a → times_said (a ++ b) ≡ times_said a ++ times_said b
 times_append a b whole = ap (flat_map times_in_line) (lines_append a b whole) ∙ flat_map-append times_in_line (whole_lines a) (whole_lines b)
 

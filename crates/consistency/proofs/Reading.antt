@@ -24,9 +24,9 @@ use Rattle.consistency.proofs.Spelled.{AreWords, no_feed_spelled, spelled, stamp
 use Rattle.consistency.proofs.Spelled.AreWords.{one_more}
 use Rattle.consistency.specs.Answering.{ReplyContent, reply_content}
 use Rattle.consistency.specs.Leads.{Point}
-use Rattle.consistency.specs.Replying.{HasNames, HasShortNumbers, IsExact, TellsTheSame, told_number, own_line, told_refusal, report_before, told_tracks}
+use Rattle.consistency.specs.Replying.{HasNames, HasShortNumbers, IsExact, SaysTheSame, said_number, own_line, said_refusal, report_before, said_tracks}
 use Rattle.consistency.specs.Ways.{PassedPoint}
-use Rattle.consistency.proofs.Replying.{answer_is, answer_words, command_is, line_is, others, others_are, refusal_words, report_there, told_words, tracks_words, value_words}
+use Rattle.consistency.proofs.Replying.{answer_is, answer_words, command_is, line_is, others, others_are, refusal_words, report_there, said_words, tracks_words, value_words}
 use Rattle.consistency.proofs.Words.{time_word}
 
 -- ---- words
@@ -44,7 +44,7 @@ stamp_read s t short brief same =
     let back : s ∷ [] ≡ t ∷ [] = sym (ap times_of (texts_back (record { 0 = s }) short)) ∙ ap (λ (l : List ℕ). times_of (stamp_of_digits l)) same ∙ ap times_of (texts_back (record { 0 = t }) brief) in
     head_same s t [] [] back
 
-told_same : (o p : Option ℕ) → IfSome o (λ t. t < 2 ^ 64) → IfSome p (λ t. t < 2 ^ 64) → told_words (option_map stamp o) ≡ told_words (option_map stamp p) → o ≡ p
+told_same : (o p : Option ℕ) → IfSome o (λ t. t < 2 ^ 64) → IfSome p (λ t. t < 2 ^ 64) → said_words (option_map stamp o) ≡ said_words (option_map stamp p) → o ≡ p
 told_same None None short brief same = refl
 told_same None (Some t) short brief same = absurd cc
 told_same (Some s) None short brief same = absurd cc
@@ -82,7 +82,7 @@ add_words (Suspend choice) tracks = refl
 add_words Query tracks = refl
 add_words End tracks = refl
 
-add_tracks : (command : Command) (change : Change) (tracks : ℕ) → told_tracks command (Ok change) tracks ≡ tracks_of_add (is_add command) tracks
+add_tracks : (command : Command) (change : Change) (tracks : ℕ) → said_tracks command (Ok change) tracks ≡ tracks_of_add (is_add command) tracks
 add_tracks (AddPair primary secondary) change tracks = refl
 add_tracks (Start level) change tracks = refl
 add_tracks (DelPair choice) change tracks = refl
@@ -90,7 +90,7 @@ add_tracks (Suspend choice) change tracks = refl
 add_tracks Query change tracks = refl
 add_tracks End change tracks = refl
 
-refused_tracks : (command : Command) (why : Refusal) (tracks : ℕ) → told_tracks command (Err why) tracks ≡ None
+refused_tracks : (command : Command) (why : Refusal) (tracks : ℕ) → said_tracks command (Err why) tracks ≡ None
 refused_tracks (AddPair primary secondary) why tracks = refl
 refused_tracks (Start level) why tracks = refl
 refused_tracks (DelPair choice) why tracks = refl
@@ -98,12 +98,12 @@ refused_tracks (Suspend choice) why tracks = refl
 refused_tracks Query why tracks = refl
 refused_tracks End why tracks = refl
 
--- The words behind OK tell the tracks of an add, and the time.
+-- The words after OK say the tracks of an add, and the time.
 add_read : (is : Bool) (m n : ℕ) (told late : List (List ℕ)) → IfSome (tracks_of_add is m) (λ x. x < 2 ^ 64) → IfSome (tracks_of_add is n) (λ x. x < 2 ^ 64) → words_of_add is m ++ told ≡ words_of_add is n ++ late
     → (tracks_of_add is m ≡ tracks_of_add is n) × (told ≡ late)
 add_read true m n told late short brief same =
-    let behind = tail_same (codes "TRACKS") (codes "TRACKS") (decimal m ∷ told) (decimal n ∷ late) same in
-    (ap Some (decimal_injective m n short brief (head_same (decimal m) (decimal n) told late behind)), tail_same (decimal m) (decimal n) told late behind)
+    let after = tail_same (codes "TRACKS") (codes "TRACKS") (decimal m ∷ told) (decimal n ∷ late) same in
+    (ap Some (decimal_injective m n short brief (head_same (decimal m) (decimal n) told late after)), tail_same (decimal m) (decimal n) told late after)
 add_read false m n told late short brief same = (refl, same)
 
 -- ---- a refusal
@@ -114,7 +114,7 @@ refusal_of number value =
     else if number == 6 then AlreadyPaired else if number == 7 then TooSmall value else if number == 8 then OtherSecondary else if number == 9 then NotPaired else if number == 10 then Ended
     else ControlBroken value
 
-refusal_is : (why : Refusal) → refusal_of (refusal_number why) (told_number why) ≡ why
+refusal_is : (why : Refusal) → refusal_of (refusal_number why) (said_number why) ≡ why
 refusal_is NoSession = refl
 refusal_is SessionExists = refl
 refusal_is NoPrimary = refl
@@ -134,7 +134,7 @@ has_value number = number == 7 || number == 11
 abbrev value_by : Bool → (value : ℕ) → List (List ℕ)
 value_by has value = if has then decimal value ∷ [] else []
 
-value_is : (why : Refusal) → value_words why ≡ value_by (has_value (refusal_number why)) (told_number why)
+value_is : (why : Refusal) → value_words why ≡ value_by (has_value (refusal_number why)) (said_number why)
 value_is NoSession = refl
 value_is SessionExists = refl
 value_is NoPrimary = refl
@@ -147,7 +147,7 @@ value_is NotPaired = refl
 value_is Ended = refl
 value_is (ControlBroken control) = refl
 
-no_value : (why : Refusal) → has_value (refusal_number why) ≡ false → told_number why ≡ 0
+no_value : (why : Refusal) → has_value (refusal_number why) ≡ false → said_number why ≡ 0
 no_value NoSession is = refl
 no_value SessionExists is = refl
 no_value NoPrimary is = refl
@@ -177,9 +177,9 @@ value_read : (has : Bool) (m n : ℕ) (told late : List (List ℕ)) → m < 2 ^ 
 value_read true m n told late short brief none neither same = (decimal_injective m n short brief (head_same (decimal m) (decimal n) told late same), tail_same (decimal m) (decimal n) told late same)
 value_read false m n told late short brief none neither same = (none refl ∙ sym (neither refl), same)
 
--- The words behind REFUSED tell the refusal, and the time.
-refusal_read : (why other : Refusal) (told late : List (List ℕ)) → told_number why < 2 ^ 64 → told_number other < 2 ^ 64 → refusal_words why ++ told ≡ refusal_words other ++ late → (why ≡ other) × (told ≡ late)
-refusal_read why other told late short brief same = (sym (refusal_is why) ∙ ap (λ (n : ℕ). refusal_of n (told_number why)) number ∙ ap (refusal_of (refusal_number other)) values.0 ∙ refusal_is other, values.1)
+-- The words after REFUSED say the refusal, and the time.
+refusal_read : (why other : Refusal) (told late : List (List ℕ)) → said_number why < 2 ^ 64 → said_number other < 2 ^ 64 → refusal_words why ++ told ≡ refusal_words other ++ late → (why ≡ other) × (told ≡ late)
+refusal_read why other told late short brief same = (sym (refusal_is why) ∙ ap (λ (n : ℕ). refusal_of n (said_number why)) number ∙ ap (refusal_of (refusal_number other)) values.0 ∙ refusal_is other, values.1)
   where
     spelling : decimal (refusal_number why) ≡ decimal (refusal_number other)
     spelling = head_same (decimal (refusal_number why)) (decimal (refusal_number other)) (refusal_name why ∷ value_words why ++ told) (refusal_name other ∷ value_words other ++ late) same
@@ -187,18 +187,18 @@ refusal_read why other told late short brief same = (sym (refusal_is why) ∙ ap
     number : refusal_number why ≡ refusal_number other
     number = decimal_injective (refusal_number why) (refusal_number other) (number_short why) (number_short other) spelling
 
-    behind : value_words why ++ told ≡ value_words other ++ late
-    behind =
+    after : value_words why ++ told ≡ value_words other ++ late
+    after =
         tail_same (refusal_name why) (refusal_name other) (value_words why ++ told) (value_words other ++ late)
         (tail_same (decimal (refusal_number why)) (decimal (refusal_number other)) (refusal_name why ∷ value_words why ++ told) (refusal_name other ∷ value_words other ++ late) same)
 
     has_same : has_value (refusal_number why) ≡ has_value (refusal_number other)
     has_same = ap has_value number
 
-    values : (told_number why ≡ told_number other) × (told ≡ late)
+    values : (said_number why ≡ said_number other) × (told ≡ late)
     values =
-        value_read (has_value (refusal_number other)) (told_number why) (told_number other) told late short brief (λ none. no_value why (has_same ∙ none)) (no_value other)
-        (ap (λ (b : Bool). value_by b (told_number why) ++ told) (sym has_same) ∙ ap (λ (l : List (List ℕ)). l ++ told) (sym (value_is why)) ∙ behind ∙ ap (λ (l : List (List ℕ)). l ++ late) (value_is other))
+        value_read (has_value (refusal_number other)) (said_number why) (said_number other) told late short brief (λ none. no_value why (has_same ∙ none)) (no_value other)
+        (ap (λ (b : Bool). value_by b (said_number why) ++ told) (sym has_same) ∙ ap (λ (l : List (List ℕ)). l ++ told) (sym (value_is why)) ∙ after ∙ ap (λ (l : List (List ℕ)). l ++ late) (value_is other))
 
 -- ---- a reply's own line
 
@@ -208,10 +208,10 @@ accepted_alike false false same = refl
 accepted_alike true false same = absurd (true≢false (ap (λ (w : List ℕ). bytes_eq w (codes "OK")) same))
 accepted_alike false true same = absurd (true≢false (sym (ap (λ (w : List ℕ). bytes_eq w (codes "OK")) same)))
 
--- The words behind OK and REFUSED tell what the answer tells.
-answer_read : (c d : Command) (x y : Result Change Refusal) (m n : ℕ) (told late : List (List ℕ)) → is_add c ≡ is_add d → is_ok x ≡ is_ok y → IfSome (told_tracks c x m) (λ k. k < 2 ^ 64) → IfSome (told_tracks d y n) (λ k. k < 2 ^ 64)
-    → IfSome (told_refusal x) (λ r. told_number r < 2 ^ 64) → IfSome (told_refusal y) (λ r. told_number r < 2 ^ 64) → answer_words c x m ++ told ≡ answer_words d y n ++ late
-    → (told_refusal x ≡ told_refusal y) × (told_tracks c x m ≡ told_tracks d y n) × (told ≡ late)
+-- The words after OK and REFUSED say what the answer says.
+answer_read : (c d : Command) (x y : Result Change Refusal) (m n : ℕ) (told late : List (List ℕ)) → is_add c ≡ is_add d → is_ok x ≡ is_ok y → IfSome (said_tracks c x m) (λ k. k < 2 ^ 64) → IfSome (said_tracks d y n) (λ k. k < 2 ^ 64)
+    → IfSome (said_refusal x) (λ r. said_number r < 2 ^ 64) → IfSome (said_refusal y) (λ r. said_number r < 2 ^ 64) → answer_words c x m ++ told ≡ answer_words d y n ++ late
+    → (said_refusal x ≡ said_refusal y) × (said_tracks c x m ≡ said_tracks d y n) × (told ≡ late)
 answer_read c d (Ok change) (Ok other) m n told late add ok tracks more refusal why same = (refl, add_tracks c change m ∙ ap (λ (b : Bool). tracks_of_add b m) add ∙ read.0 ∙ sym (add_tracks d other n), read.1)
   where
     read : (tracks_of_add (is_add d) m ≡ tracks_of_add (is_add d) n) × (told ≡ late)
@@ -227,25 +227,25 @@ answer_read c d (Ok change) (Err other) m n told late add ok tracks more refusal
 answer_read c d (Err one) (Ok change) m n told late add ok tracks more refusal why same = absurd (true≢false (sym ok))
 
 -- a reply's own line, without its line feed
-abbrev words_behind : Line → ReplyContent → List (List ℕ)
-words_behind a x = others a.time.0 a.command x.answer x.tracks (option_map stamp x.time)
+abbrev words_after : Line → ReplyContent → List (List ℕ)
+words_after a x = others a.time.0 a.command x.answer x.tracks (option_map stamp x.time)
 
 abbrev own_words : Line → ReplyContent → List ℕ
-own_words a x = spelled (stamp_text a.time.0) (command_word a.command ∷ answer_word (is_ok x.answer) ∷ words_behind a x)
+own_words a x = spelled (stamp_text a.time.0) (command_word a.command ∷ answer_word (is_ok x.answer) ∷ words_after a x)
 
 own_is : (a : Line) (x : ReplyContent) → own_words a x ++ 10 ∷ [] ≡ own_line a x
 own_is a x = line_is a.time.0 a.command x.answer x.tracks (option_map stamp x.time)
 
-all_words : (a : Line) (x : ReplyContent) → AreWords (command_word a.command ∷ answer_word (is_ok x.answer) ∷ words_behind a x)
+all_words : (a : Line) (x : ReplyContent) → AreWords (command_word a.command ∷ answer_word (is_ok x.answer) ∷ words_after a x)
 all_words a x =
     one_more (command_is a.time.0 a.command x.answer x.tracks (option_map stamp x.time))
     (one_more (answer_is a.time.0 a.command x.answer x.tracks (option_map stamp x.time) (is_ok x.answer)) (others_are a.time.0 a.command x.answer x.tracks (option_map stamp x.time)))
 
-own_read : (a : Line) (x : ReplyContent) → words (own_words a x) ≡ stamp_text a.time.0 ∷ command_word a.command ∷ answer_word (is_ok x.answer) ∷ words_behind a x
-own_read a x = words_spelled (stamp_text a.time.0) (command_word a.command ∷ answer_word (is_ok x.answer) ∷ words_behind a x) (stamp_is_word a.time.0) (all_words a x)
+own_read : (a : Line) (x : ReplyContent) → words (own_words a x) ≡ stamp_text a.time.0 ∷ command_word a.command ∷ answer_word (is_ok x.answer) ∷ words_after a x
+own_read a x = words_spelled (stamp_text a.time.0) (command_word a.command ∷ answer_word (is_ok x.answer) ∷ words_after a x) (stamp_is_word a.time.0) (all_words a x)
 
--- Lines of the same words tell the same.
-pub own_tell_apart : (a b : Line) (x y : ReplyContent) → HasShortNumbers a x → HasShortNumbers b y → own_words a x ≡ own_words b y → TellsTheSame a b x y
+-- Lines of the same words say the same.
+pub own_tell_apart : (a b : Line) (x y : ReplyContent) → HasShortNumbers a x → HasShortNumbers b y → own_words a x ≡ own_words b y → SaysTheSame a b x y
 own_tell_apart a b x y short brief same = record {
   time = stamp_read a.time.0 b.time.0 short.time brief.time first;
   word = second;
@@ -254,33 +254,33 @@ own_tell_apart a b x y short brief same = record {
   replied = told_same x.time y.time short.replied brief.replied read.2;
 }
   where
-    words_same : stamp_text a.time.0 ∷ command_word a.command ∷ answer_word (is_ok x.answer) ∷ words_behind a x ≡ stamp_text b.time.0 ∷ command_word b.command ∷ answer_word (is_ok y.answer) ∷ words_behind b y
+    words_same : stamp_text a.time.0 ∷ command_word a.command ∷ answer_word (is_ok x.answer) ∷ words_after a x ≡ stamp_text b.time.0 ∷ command_word b.command ∷ answer_word (is_ok y.answer) ∷ words_after b y
     words_same = sym (own_read a x) ∙ ap words same ∙ own_read b y
 
     first : stamp_text a.time.0 ≡ stamp_text b.time.0
-    first = head_same (stamp_text a.time.0) (stamp_text b.time.0) (command_word a.command ∷ answer_word (is_ok x.answer) ∷ words_behind a x) (command_word b.command ∷ answer_word (is_ok y.answer) ∷ words_behind b y) words_same
+    first = head_same (stamp_text a.time.0) (stamp_text b.time.0) (command_word a.command ∷ answer_word (is_ok x.answer) ∷ words_after a x) (command_word b.command ∷ answer_word (is_ok y.answer) ∷ words_after b y) words_same
 
-    from_second : command_word a.command ∷ answer_word (is_ok x.answer) ∷ words_behind a x ≡ command_word b.command ∷ answer_word (is_ok y.answer) ∷ words_behind b y
-    from_second = tail_same (stamp_text a.time.0) (stamp_text b.time.0) (command_word a.command ∷ answer_word (is_ok x.answer) ∷ words_behind a x) (command_word b.command ∷ answer_word (is_ok y.answer) ∷ words_behind b y) words_same
+    from_second : command_word a.command ∷ answer_word (is_ok x.answer) ∷ words_after a x ≡ command_word b.command ∷ answer_word (is_ok y.answer) ∷ words_after b y
+    from_second = tail_same (stamp_text a.time.0) (stamp_text b.time.0) (command_word a.command ∷ answer_word (is_ok x.answer) ∷ words_after a x) (command_word b.command ∷ answer_word (is_ok y.answer) ∷ words_after b y) words_same
 
     second : command_word a.command ≡ command_word b.command
-    second = head_same (command_word a.command) (command_word b.command) (answer_word (is_ok x.answer) ∷ words_behind a x) (answer_word (is_ok y.answer) ∷ words_behind b y) from_second
+    second = head_same (command_word a.command) (command_word b.command) (answer_word (is_ok x.answer) ∷ words_after a x) (answer_word (is_ok y.answer) ∷ words_after b y) from_second
 
-    from_third : answer_word (is_ok x.answer) ∷ words_behind a x ≡ answer_word (is_ok y.answer) ∷ words_behind b y
-    from_third = tail_same (command_word a.command) (command_word b.command) (answer_word (is_ok x.answer) ∷ words_behind a x) (answer_word (is_ok y.answer) ∷ words_behind b y) from_second
+    from_third : answer_word (is_ok x.answer) ∷ words_after a x ≡ answer_word (is_ok y.answer) ∷ words_after b y
+    from_third = tail_same (command_word a.command) (command_word b.command) (answer_word (is_ok x.answer) ∷ words_after a x) (answer_word (is_ok y.answer) ∷ words_after b y) from_second
 
     third : answer_word (is_ok x.answer) ≡ answer_word (is_ok y.answer)
-    third = head_same (answer_word (is_ok x.answer)) (answer_word (is_ok y.answer)) (words_behind a x) (words_behind b y) from_third
+    third = head_same (answer_word (is_ok x.answer)) (answer_word (is_ok y.answer)) (words_after a x) (words_after b y) from_third
 
-    behind : words_behind a x ≡ words_behind b y
-    behind = tail_same (answer_word (is_ok x.answer)) (answer_word (is_ok y.answer)) (words_behind a x) (words_behind b y) from_third
+    after : words_after a x ≡ words_after b y
+    after = tail_same (answer_word (is_ok x.answer)) (answer_word (is_ok y.answer)) (words_after a x) (words_after b y) from_third
 
-    read : (told_refusal x.answer ≡ told_refusal y.answer) × (told_tracks a.command x.answer x.tracks ≡ told_tracks b.command y.answer y.tracks) × (told_words (option_map stamp x.time) ≡ told_words (option_map stamp y.time))
+    read : (said_refusal x.answer ≡ said_refusal y.answer) × (said_tracks a.command x.answer x.tracks ≡ said_tracks b.command y.answer y.tracks) × (said_words (option_map stamp x.time) ≡ said_words (option_map stamp y.time))
     read =
-        answer_read a.command b.command x.answer y.answer x.tracks y.tracks (told_words (option_map stamp x.time)) (told_words (option_map stamp y.time))
-        (sym (add_is a.command) ∙ ap (λ (w : List ℕ). bytes_eq w (codes "XADDPAIR")) second ∙ add_is b.command) (accepted_alike (is_ok x.answer) (is_ok y.answer) third) short.tracks brief.tracks short.refusal brief.refusal behind
+        answer_read a.command b.command x.answer y.answer x.tracks y.tracks (said_words (option_map stamp x.time)) (said_words (option_map stamp y.time))
+        (sym (add_is a.command) ∙ ap (λ (w : List ℕ). bytes_eq w (codes "XADDPAIR")) second ∙ add_is b.command) (accepted_alike (is_ok x.answer) (is_ok y.answer) third) short.tracks brief.tracks short.refusal brief.refusal after
 
-pub lines_tell_apart : (a b : Line) (x y : ReplyContent) → HasShortNumbers a x → HasShortNumbers b y → own_line a x ≡ own_line b y → TellsTheSame a b x y
+pub lines_tell_apart : (a b : Line) (x y : ReplyContent) → HasShortNumbers a x → HasShortNumbers b y → own_line a x ≡ own_line b y → SaysTheSame a b x y
 lines_tell_apart a b x y short brief same =
     own_tell_apart a b x y short brief (append_cancel_right (own_words a x) (own_words b y) (10 ∷ []) (own_is a x ∙ same ∙ sym (own_is b y)))
 
@@ -311,14 +311,14 @@ module _ (run other : ScriptRun) (s t : Stage) (first start : Point) (points pas
   lines_of : whole_lines (report ++ own_words a.line x ++ 10 ∷ []) ≡ whole_lines report ++ own_words a.line x ∷ []
   lines_of =
       line_ended report (own_words a.line x) (report_there run s first points number a names).whole
-      (no_feed_spelled (stamp_text a.line.time.0) (command_word a.line.command ∷ answer_word (is_ok x.answer) ∷ words_behind a.line x) (stamp_is_word a.line.time.0) (all_words a.line x))
+      (no_feed_spelled (stamp_text a.line.time.0) (command_word a.line.command ∷ answer_word (is_ok x.answer) ∷ words_after a.line x) (stamp_is_word a.line.time.0) (all_words a.line x))
 
   lines_then : whole_lines (report_then ++ own_words b.line y ++ 10 ∷ []) ≡ whole_lines report_then ++ own_words b.line y ∷ []
   lines_then =
       line_ended report_then (own_words b.line y) (report_there other t start passed place b named).whole
-      (no_feed_spelled (stamp_text b.line.time.0) (command_word b.line.command ∷ answer_word (is_ok y.answer) ∷ words_behind b.line y) (stamp_is_word b.line.time.0) (all_words b.line y))
+      (no_feed_spelled (stamp_text b.line.time.0) (command_word b.line.command ∷ answer_word (is_ok y.answer) ∷ words_after b.line y) (stamp_is_word b.line.time.0) (all_words b.line y))
 
-  pub exact_tell_apart : HasShortNumbers a.line x → HasShortNumbers b.line y → IsExact run s first points number a → IsExact other t start passed place b → a.reply ≡ b.reply → TellsTheSame a.line b.line x y × (report ≡ report_then)
+  pub exact_tell_apart : HasShortNumbers a.line x → HasShortNumbers b.line y → IsExact run s first points number a → IsExact other t start passed place b → a.reply ≡ b.reply → SaysTheSame a.line b.line x y × (report ≡ report_then)
   exact_tell_apart short brief exact precise same = (own_tell_apart a.line b.line x y short brief own, append_cancel_right report report_then (own_line a.line x) reports)
     where
       texts : report ++ own_line a.line x ≡ report_then ++ own_line b.line y

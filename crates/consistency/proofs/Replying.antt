@@ -17,7 +17,7 @@ use Rattle.pair_table.specs.declared.level.Level.{Level}
 use Rattle.pair_table.specs.Tables.{Table}
 use Rattle.row_changes.specs.Changes.{Timed}
 use Rattle.row_changes.specs.Spans.{AreCounted}
-use Rattle.xquery_report.specs.Replies.{answer_part, command_part, refusal_name, refusal_number, refusal_part, reply_line, told_part, tracks_part, value_part}
+use Rattle.xquery_report.specs.Replies.{answer_part, command_part, refusal_name, refusal_number, refusal_part, reply_line, said_part, tracks_part, value_part}
 use Rattle.xquery_report.specs.Reports.{report_text}
 use Rattle.xrc_command.specs.declared.line.Line.{Line}
 use Rattle.consistency.specs.Stages.{ScriptRun, Stage, accepts}
@@ -29,7 +29,7 @@ use Rattle.consistency.specs.Times.{times_in_words, times_said}
 use Rattle.consistency.proofs.Pieces.{times_append}
 use Rattle.consistency.proofs.Spelled.{AreWords, IsWord, reply_spelled, spelled, stamp_is_word}
 use Rattle.consistency.proofs.Spelled.AreWords.{no_word, one_more}
-use Rattle.consistency.proofs.Stamped.{times_behind_answer, times_spelled}
+use Rattle.consistency.proofs.Stamped.{times_after_answer, times_spelled}
 use Rattle.consistency.specs.Answering.{answered_by, reply_content}
 use Rattle.consistency.specs.Leads.{Point}
 use Rattle.consistency.specs.Replying.{HasNames, IsExact, is_query, is_reported, report_before, times_replied}
@@ -37,8 +37,8 @@ use Rattle.consistency.specs.Ways.{IsCommanding, IsLegOf, Leg, PassedPoint}
 use Rattle.consistency.proofs.Answering.{command_is_answered, content_as_accepted, inactive_is_answered}
 use Rattle.consistency.proofs.Legs.{leg_goes, table_there}
 use Rattle.consistency.proofs.Naming.{names_on_the_way}
-use Rattle.consistency.proofs.Telling.{Tells, nothing_tells, report_tells, spaced}
-use Rattle.consistency.proofs.Words.{AreQuiet, quiet_number, time_behind_quiet, time_is_word, time_word, times_quiet}
+use Rattle.consistency.proofs.Telling.{Tells, nothing_tells, report_says, spaced}
+use Rattle.consistency.proofs.Words.{AreQuiet, quiet_number, time_after_quiet, time_is_word, time_word, times_quiet}
 use Rattle.consistency.proofs.Words.AreQuiet.{no_more, quiet_then}
 
 -- ---- the words of a reply
@@ -77,7 +77,7 @@ value_spaced OtherSecondary = refl
 value_spaced NotPaired = refl
 value_spaced Ended = refl
 
--- the words behind a refusal's word
+-- the words after a refusal's word
 abbrev pub refusal_words : Refusal → List (List ℕ)
 refusal_words refusal = decimal (refusal_number refusal) ∷ refusal_name refusal ∷ value_words refusal
 
@@ -126,7 +126,7 @@ tracks_quiet (Suspend choice) tracks = no_more
 tracks_quiet Query tracks = no_more
 tracks_quiet End tracks = no_more
 
--- the words behind the answer's own
+-- the words after the answer's own
 abbrev pub answer_words : Command → Result Change Refusal → (tracks : ℕ) → List (List ℕ)
 answer_words command (Ok change) tracks = tracks_words command tracks
 answer_words command (Err refusal) tracks = refusal_words refusal
@@ -139,11 +139,11 @@ answer_quiet : (command : Command) (answer : Result Change Refusal) (tracks : �
 answer_quiet command (Ok change) tracks = tracks_quiet command tracks
 answer_quiet command (Err refusal) tracks = quiet_number (refusal_number refusal) (name_quiet refusal)
 
-abbrev pub told_words : Option Stamp → List (List ℕ)
-told_words None = []
-told_words (Some time) = time_word time.0 ∷ []
+abbrev pub said_words : Option Stamp → List (List ℕ)
+said_words None = []
+said_words (Some time) = time_word time.0 ∷ []
 
-told_spaced : (told : Option Stamp) → spaced (told_words told) ≡ told_part told
+told_spaced : (told : Option Stamp) → spaced (said_words told) ≡ said_part told
 told_spaced None = refl
 told_spaced (Some time) = append-nil (codes " T=" ++ stamp_text time.0)
 
@@ -153,22 +153,22 @@ abbrev times_told : Option Stamp → List ℕ
 times_told None = []
 times_told (Some t) = t.0 ∷ []
 
-reply_is : (time command answer behind told : List ℕ) → (time ++ (command ++ (answer ++ (behind ++ told)))) ++ 10 ∷ [] ≡ time ++ command ++ (answer ++ behind) ++ told ++ 10 ∷ []
-reply_is time command answer behind told = simp append_assoc
+reply_is : (time command answer after told : List ℕ) → (time ++ (command ++ (answer ++ (after ++ told)))) ++ 10 ∷ [] ≡ time ++ command ++ (answer ++ after) ++ told ++ 10 ∷ []
+reply_is time command answer after told = simp append_assoc
 
 module _ (time : ℕ) (command : Command) (answer : Result Change Refusal) (tracks : ℕ) (told : Option Stamp) where
   abbrev pub others : List (List ℕ)
-  others = answer_words command answer tracks ++ told_words told
+  others = answer_words command answer tracks ++ said_words told
 
   pub line_is : spelled (stamp_text time) (command_word command ∷ answer_word (is_ok answer) ∷ others) ++ 10 ∷ [] ≡ reply_line time command answer tracks told
   line_is =
-      ap (λ (l : List ℕ). (stamp_text time ++ ((32 ∷ command_word command) ++ ((32 ∷ answer_word (is_ok answer)) ++ l))) ++ 10 ∷ []) (flat_map-append (λ w. 32 ∷ w) (answer_words command answer tracks) (told_words told))
-      ∙ reply_is (stamp_text time) (32 ∷ command_word command) (32 ∷ answer_word (is_ok answer)) (spaced (answer_words command answer tracks)) (spaced (told_words told))
-      ∙ ap (λ (l : List ℕ). stamp_text time ++ l ++ ((32 ∷ answer_word (is_ok answer)) ++ spaced (answer_words command answer tracks)) ++ spaced (told_words told) ++ 10 ∷ []) (command_spaced command)
-      ∙ ap (λ (l : List ℕ). stamp_text time ++ command_part command ++ l ++ spaced (told_words told) ++ 10 ∷ []) (answer_spaced command answer tracks)
+      ap (λ (l : List ℕ). (stamp_text time ++ ((32 ∷ command_word command) ++ ((32 ∷ answer_word (is_ok answer)) ++ l))) ++ 10 ∷ []) (flat_map-append (λ w. 32 ∷ w) (answer_words command answer tracks) (said_words told))
+      ∙ reply_is (stamp_text time) (32 ∷ command_word command) (32 ∷ answer_word (is_ok answer)) (spaced (answer_words command answer tracks)) (spaced (said_words told))
+      ∙ ap (λ (l : List ℕ). stamp_text time ++ l ++ ((32 ∷ answer_word (is_ok answer)) ++ spaced (answer_words command answer tracks)) ++ spaced (said_words told) ++ 10 ∷ []) (command_spaced command)
+      ∙ ap (λ (l : List ℕ). stamp_text time ++ command_part command ++ l ++ spaced (said_words told) ++ 10 ∷ []) (answer_spaced command answer tracks)
       ∙ ap (λ (l : List ℕ). stamp_text time ++ command_part command ++ answer_part command answer tracks ++ l ++ 10 ∷ []) (told_spaced told)
 
-  words_then : (first : List (List ℕ)) (o : Option Stamp) → AreQuiet first → AreWords (first ++ told_words o)
+  words_then : (first : List (List ℕ)) (o : Option Stamp) → AreQuiet first → AreWords (first ++ said_words o)
   words_then [] None no_more = no_word
   words_then [] (Some t) no_more = one_more (time_is_word t.0) no_word
   words_then (word ∷ first) o (quiet_then is tells rest) = one_more is (words_then first o rest)
@@ -195,16 +195,16 @@ module _ (time : ℕ) (command : Command) (answer : Result Change Refusal) (trac
   no_journal true = refl
   no_journal false = refl
 
-  told_times : (o : Option Stamp) → ((t : Stamp) → o ≡ Some t → t.0 < 2 ^ 64) → times_in_words (answer_word (is_ok answer)) (answer_words command answer tracks ++ told_words o) ≡ times_told o
+  told_times : (o : Option Stamp) → ((t : Stamp) → o ≡ Some t → t.0 < 2 ^ 64) → times_in_words (answer_word (is_ok answer)) (answer_words command answer tracks ++ said_words o) ≡ times_told o
   told_times None short =
       ap (times_in_words (answer_word (is_ok answer))) (append-nil (answer_words command answer tracks)) ∙ times_quiet (answer_word (is_ok answer)) (answer_words command answer tracks) (no_journal (is_ok answer)) (answer_quiet command answer tracks)
-  told_times (Some t) short = time_behind_quiet (answer_word (is_ok answer)) (answer_words command answer tracks) t.0 (no_journal (is_ok answer)) (answer_quiet command answer tracks) (short t refl)
+  told_times (Some t) short = time_after_quiet (answer_word (is_ok answer)) (answer_words command answer tracks) t.0 (no_journal (is_ok answer)) (answer_quiet command answer tracks) (short t refl)
 
   -- It says the time that it tells, and none else.
   line_says : ((t : Stamp) → told ≡ Some t → t.0 < 2 ^ 64) → times_said (reply_line time command answer tracks told) ≡ times_told told
   line_says short =
       sym (ap times_said line_is) ∙ times_spelled (stamp_text time) (command_word command ∷ answer_word (is_ok answer) ∷ others) (stamp_is_word time) (one_more command_is (one_more (answer_is (is_ok answer)) others_are))
-      ∙ times_behind_answer (is_ok answer) time command others ∙ told_times told short
+      ∙ times_after_answer (is_ok answer) time command others ∙ told_times told short
 
 -- ---- exact replies
 
@@ -216,7 +216,7 @@ module _ (run : ScriptRun) (s : Stage) (first : Point) (points : List PassedPoin
   text_if b = if b then report_text table run.level a.line.time.0 (map (cause_at a.line.time.0) run.traces) else []
 
   report_is : (b : Bool) → Tells a.line.time.0 (if b then a.line.time.0 ∷ [] else []) (text_if b)
-  report_is true = report_tells table run.level a.line.time.0 (map (cause_at a.line.time.0) run.traces) (names_on_the_way run.level a.changes s.table names)
+  report_is true = report_says table run.level a.line.time.0 (map (cause_at a.line.time.0) run.traces) (names_on_the_way run.level a.changes s.table names)
   report_is false = nothing_tells a.line.time.0
 
   pub report_there : Tells a.line.time.0 (if is_reported run table a.line then a.line.time.0 ∷ [] else []) (report_before run table a.line)
@@ -232,12 +232,12 @@ module _ (run : ScriptRun) (s : Stage) (first : Point) (points : List PassedPoin
   exact_is_reply exact =
       let content = reply_content run s first points number a in
       let report = report_before run table a.line in
-      let behind = others a.line.time.0 a.line.command content.answer content.tracks told in
-      let own = spelled (stamp_text a.line.time.0) (command_word a.line.command ∷ answer_word (is_ok content.answer) ∷ behind) in
+      let after = others a.line.time.0 a.line.command content.answer content.tracks told in
+      let own = spelled (stamp_text a.line.time.0) (command_word a.line.command ∷ answer_word (is_ok content.answer) ∷ after) in
       subst (λ (b : Bool). IsReply b a.line a.reply) accepted_as
       (subst (λ (l : List ℕ). IsReply (is_ok content.answer) a.line l)
       (append_assoc report own (10 ∷ []) ∙ ap (λ (l : List ℕ). report ++ l) (line_is a.line.time.0 a.line.command content.answer content.tracks told) ∙ sym exact)
-      (reply_spelled (is_ok content.answer) a.line report behind report_there.whole report_there.none (others_are a.line.time.0 a.line.command content.answer content.tracks told)))
+      (reply_spelled (is_ok content.answer) a.line report after report_there.whole report_there.none (others_are a.line.time.0 a.line.command content.answer content.tracks told)))
 
   abbrev latest : ℕ
   latest = replied_after s a.line

@@ -24,7 +24,7 @@ pub data AreWords : List (List ℕ) → Type 0 where
   no_word : AreWords []
   one_more : {word : List ℕ} {others : List (List ℕ)} → IsWord word → AreWords others → AreWords (word ∷ others)
 
--- a word, and others behind it, each behind a space
+-- a word, and others after it, each after a space
 abbrev pub spelled : (word : List ℕ) → (others : List (List ℕ)) → List ℕ
 spelled word others = word ++ flat_map (λ w. 32 ∷ w) others
 
@@ -36,8 +36,8 @@ has_no_both byte a b first second = list_any-append (λ x. nat_eq x byte) a b �
 word_then : (word rest : List ℕ) → HasNo 32 word → words (word ++ 32 ∷ rest) ≡ word ∷ words rest
 word_then word rest none =
     let own = no_pieces 32 [] word none in
-    let behind = 32 ∷ (rest ++ 32 ∷ []) in
-    ap (ended_pieces 32 []) (append_assoc word (32 ∷ rest) (32 ∷ [])) ∙ pieces_append 32 [] word behind ∙ ap (λ (l : List (List ℕ)). l ++ ended_pieces 32 (unended 32 [] word) behind) own.0 ∙ ap (λ (r : List ℕ). ended_pieces 32 r behind) own.1
+    let after = 32 ∷ (rest ++ 32 ∷ []) in
+    ap (ended_pieces 32 []) (append_assoc word (32 ∷ rest) (32 ∷ [])) ∙ pieces_append 32 [] word after ∙ ap (λ (l : List (List ℕ)). l ++ ended_pieces 32 (unended 32 [] word) after) own.0 ∙ ap (λ (r : List ℕ). ended_pieces 32 r after) own.1
 
 word_alone : (word : List ℕ) → HasNo 32 word → words word ≡ word ∷ []
 word_alone word none =

@@ -1,4 +1,4 @@
--- Moments of a run: one that stays when calls go on, and one that stands behind answered lines.
+-- Moments of a run: one that stays when calls go on, and one that stands after answered lines.
 use Rattle.std.proofs.Common.{◌≡◌, inl, inr, ℕ, ◌<◌, ◌≤◌, false, List, [], ◌∷◌, ◌++◌, length, take, Some, sym, ap, subst, ◌∙◌, arith, slice_get}
 use Rattle.std.specs.Prelude.{◌==◌, fold, IsTrue}
 use Rattle.std.proofs.lemmas.List.{length_push, take-append-le, take_all}
@@ -98,7 +98,7 @@ module _ (run : ScriptRun) (lines : List Answered) (a : Answered) (some : 0 < le
       let meant = mean (subst (λ (s : Stage). IsTrue s.table.is_started) same started) c is in
       (meant.0, meant.1, subst (λ (s : Stage). MeansTable s meant.0) (sym same) meant.2)
 
--- ---- a moment behind answered lines
+-- ---- a moment after answered lines
 
 -- Lines that stand first among all.
 pub record IsFront (lines all : List Answered) : Type 0 where
@@ -111,13 +111,13 @@ front_all lines = record { within = omega arith; front = take_all (length lines)
 pub front_more : (lines : List Answered) (a : Answered) → IsFront lines (lines ++ a ∷ [])
 front_more lines a = record { within = omega (arith, length_push lines a); front = take-append-le (length lines) lines (a ∷ []) (omega arith) ∙ take_all (length lines) lines (omega arith) }
 
--- What may be said behind the replies to the lines: no whole reply, and less than the next one.
+-- What may be said after the replies to the lines: no whole reply, and less than the next one.
 pub record MayBePart (lines all : List Answered) (part : List ℕ) : Type 0 where
   pub not_whole : (a : Answered) → slice_get all (length lines) ≡ Some a → length part < length a.reply
   pub none_more : has_reply part ≡ false
 
-abbrev pub stands_behind : (all lines : List Answered) (text part : List ℕ) → IsFront lines all → MayBePart lines all part → lines_begun text ≤ 1 → StandsAt all (texts_of lines ++ text) (replies_of lines ++ part)
-stands_behind all lines text part front may one = record {
+abbrev pub stands_after : (all lines : List Answered) (text part : List ℕ) → IsFront lines all → MayBePart lines all part → lines_begun text ≤ 1 → StandsAt all (texts_of lines ++ text) (replies_of lines ++ part)
+stands_after all lines text part front may one = record {
   answered = length lines;
   within = front.within;
   text = text;
@@ -131,28 +131,28 @@ stands_behind all lines text part front may one = record {
 
 module _ (run : ScriptRun) (all lines : List Answered) (text part : List ℕ) (front : IsFront lines all) (may : MayBePart lines all part) (one : lines_begun text ≤ 1) (old new : PlantState) where
   -- The stage there is that of the lines and the text.
-  pub stage_behind : stage_there run old.script (stands_behind all lines text part front may one) ≡ stage_now run old.script lines text
-  stage_behind =
+  pub stage_there_is : stage_there run old.script (stands_after all lines text part front may one) ≡ stage_now run old.script lines text
+  stage_there_is =
       ap (λ (l : List Answered). record (fold stage_after (first_stage run) l) { next = next_line (length lines) (fold (λ (before : ℕ) (a : Answered). a.line.time.0) 0 l) (length (texts_of lines ++ text) == length old.script) text })
       (front.front ∙ sym (take_all (length lines) lines (omega arith)))
 
   -- Such a moment bears where each of its choices bears a time at that stage.
-  abbrev pub moment_behind : (t : ℕ) → new.heard t ≡ old.heard old.clock ++ (texts_of lines ++ text) → new.said t ≡ old.said old.clock ++ (replies_of lines ++ part)
+  abbrev pub moment_after : (t : ℕ) → new.heard t ≡ old.heard old.clock ++ (texts_of lines ++ text) → new.said t ≡ old.said old.clock ++ (replies_of lines ++ part)
       → (IsTrue (stage_now run old.script lines text).table.is_started → (c : Choice) → IsChoice new t c → BearsTime run (stage_now run old.script lines text) (replies_of lines ++ part) new c) → MomentBears run all old new t
-  moment_behind t heard said bears = record {
+  moment_after t heard said bears = record {
     heard = texts_of lines ++ text;
     said = replies_of lines ++ part;
     heard_is = heard;
     said_is = said;
-    at = stands_behind all lines text part front may one;
+    at = stands_after all lines text part front may one;
     bears = λ started c is.
-        subst (λ (s : Stage). BearsTime run s (replies_of lines ++ part) new c) (sym stage_behind) (bears (subst (λ (s : Stage). IsTrue s.table.is_started) stage_behind started) c is);
+        subst (λ (s : Stage). BearsTime run s (replies_of lines ++ part) new c) (sym stage_there_is) (bears (subst (λ (s : Stage). IsTrue s.table.is_started) stage_there_is started) c is);
   }
 
-  pub table_behind : (t : ℕ) (heard : new.heard t ≡ old.heard old.clock ++ (texts_of lines ++ text)) (said : new.said t ≡ old.said old.clock ++ (replies_of lines ++ part))
+  pub table_meant_there : (t : ℕ) (heard : new.heard t ≡ old.heard old.clock ++ (texts_of lines ++ text)) (said : new.said t ≡ old.said old.clock ++ (replies_of lines ++ part))
       (bears : IsTrue (stage_now run old.script lines text).table.is_started → (c : Choice) → IsChoice new t c → BearsTime run (stage_now run old.script lines text) (replies_of lines ++ part) new c)
       → (IsTrue (stage_now run old.script lines text).table.is_started → (c : Choice) → IsChoice new t c → (means : Means) × (means_of new c ≡ Some means) × MeansTable (stage_now run old.script lines text) means)
-      → AllMeanTable run all old new t (moment_behind t heard said bears)
-  table_behind t heard said bears mean started c is =
-      let meant = mean (subst (λ (s : Stage). IsTrue s.table.is_started) stage_behind started) c is in
-      (meant.0, meant.1, subst (λ (s : Stage). MeansTable s meant.0) (sym stage_behind) meant.2)
+      → AllMeanTable run all old new t (moment_after t heard said bears)
+  table_meant_there t heard said bears mean started c is =
+      let meant = mean (subst (λ (s : Stage). IsTrue s.table.is_started) stage_there_is started) c is in
+      (meant.0, meant.1, subst (λ (s : Stage). MeansTable s meant.0) (sym stage_there_is) meant.2)

@@ -53,8 +53,8 @@ module _ (time : ℕ) (word : List ℕ) (others : List (List ℕ)) (no_stamp : i
   no_reply (a ∷ b ∷ words) = and_left (is_stamp word) (is_answer b) no_stamp
 
   -- A line of words, of which the first is no stamp.
-  line_tells : (times : List ℕ) → (time < 2 ^ 64 → times_in_words [] (word ∷ others) ≡ times) → Tells time times (spelled word others ++ 10 ∷ [])
-  line_tells times are_times = record {
+  line_says : (times : List ℕ) → (time < 2 ^ 64 → times_in_words [] (word ∷ others) ≡ times) → Tells time times (spelled word others ++ 10 ∷ [])
+  line_says times are_times = record {
     whole = feed_whole (spelled word others);
     none =
         ap (list_any is_reply_line) (line_ended [] (spelled word others) refl (no_feed_spelled word others is are)) ∙ ap (λ (l : List (List ℕ)). are_reply l || false) (words_spelled word others is are)
@@ -62,24 +62,24 @@ module _ (time : ℕ) (word : List ℕ) (others : List (List ℕ)) (no_stamp : i
     said = λ below. times_spelled word others is are ∙ are_times below;
   }
 
-quiet_line_tells : (time : ℕ) (word : List ℕ) (others : List (List ℕ)) → is_stamp word ≡ false → AreQuiet (word ∷ others) → Tells time [] (spelled word others ++ 10 ∷ [])
-quiet_line_tells time word others no_stamp (quiet_then is tells rest) = line_tells time word others no_stamp is (quiet_words rest) [] (λ below. times_quiet [] (word ∷ others) refl (quiet_then is tells rest))
+quiet_line_says : (time : ℕ) (word : List ℕ) (others : List (List ℕ)) → is_stamp word ≡ false → AreQuiet (word ∷ others) → Tells time [] (spelled word others ++ 10 ∷ [])
+quiet_line_says time word others no_stamp (quiet_then is tells rest) = line_says time word others no_stamp is (quiet_words rest) [] (λ below. times_quiet [] (word ∷ others) refl (quiet_then is tells rest))
 
--- words, each behind a space
+-- words, each after a space
 abbrev pub spaced : List (List ℕ) → List ℕ
 spaced words = flat_map (λ w. 32 ∷ w) words
 
 -- ---- the session's line
 
 module _ (table : Table) (time : ℕ) (named : is_session table.session ≡ true) where
-  abbrev words_behind : (level : List ℕ) → List (List ℕ)
-  words_behind level = table.session ∷ codes "LEVEL" ∷ level ∷ codes "JOURNALED" ∷ stamp_text time ∷ codes "PAIRS" ∷ decimal (length table.rows) ∷ []
+  abbrev words_after : (level : List ℕ) → List (List ℕ)
+  words_after level = table.session ∷ codes "LEVEL" ∷ level ∷ codes "JOURNALED" ∷ stamp_text time ∷ codes "PAIRS" ∷ decimal (length table.rows) ∷ []
 
   pairs_quiet : AreQuiet (codes "PAIRS" ∷ decimal (length table.rows) ∷ [])
   pairs_quiet = quiet_then (refl, refl) (refl, refl) (quiet_number (length table.rows) no_more)
 
-  behind_are : (level : List ℕ) → IsWord level → AreWords (words_behind level)
-  behind_are level is =
+  after_are : (level : List ℕ) → IsWord level → AreWords (words_after level)
+  after_are level is =
       let journaled : AreWords (codes "JOURNALED" ∷ stamp_text time ∷ codes "PAIRS" ∷ decimal (length table.rows) ∷ []) = one_more (refl, refl) (one_more (stamp_is_word time) (quiet_words pairs_quiet)) in
       let first = quiet_words (quiet_name 8 table.session (omega arith) named no_more) in
       name_then first (one_more (refl, refl) (one_more is journaled))
@@ -87,7 +87,7 @@ module _ (table : Table) (time : ℕ) (named : is_session table.session ≡ true
       name_then : AreWords (table.session ∷ []) → {others : List (List ℕ)} → AreWords others → AreWords (table.session ∷ others)
       name_then (one_more name none) rest = one_more name rest
 
-  tells_time : (level : List ℕ) → AreQuiet (table.session ∷ codes "LEVEL" ∷ level ∷ []) → time < 2 ^ 64 → times_in_words [] (codes "SESSION" ∷ words_behind level) ≡ time ∷ []
+  tells_time : (level : List ℕ) → AreQuiet (table.session ∷ codes "LEVEL" ∷ level ∷ []) → time < 2 ^ 64 → times_in_words [] (codes "SESSION" ∷ words_after level) ≡ time ∷ []
   tells_time level (quiet_then a name (quiet_then b word (quiet_then c last no_more))) below =
       quiet_on (codes "SESSION") table.session (codes "LEVEL" ∷ level ∷ codes "JOURNALED" ∷ stamp_text time ∷ codes "PAIRS" ∷ decimal (length table.rows) ∷ []) refl name.0
       ∙ quiet_on table.session (codes "LEVEL") (level ∷ codes "JOURNALED" ∷ stamp_text time ∷ codes "PAIRS" ∷ decimal (length table.rows) ∷ []) name.1 refl
@@ -95,8 +95,8 @@ module _ (table : Table) (time : ℕ) (named : is_session table.session ≡ true
       ∙ quiet_on level (codes "JOURNALED") (stamp_text time ∷ codes "PAIRS" ∷ decimal (length table.rows) ∷ []) last.1 refl
       ∙ time_journaled time (codes "PAIRS" ∷ decimal (length table.rows) ∷ []) pairs_quiet below
 
-  level_tells : (level : List ℕ) → IsWord level → AreQuiet (codes "LEVEL" ∷ level ∷ []) → Tells time (time ∷ []) (spelled (codes "SESSION") (words_behind level) ++ 10 ∷ [])
-  level_tells level is quiet = line_tells time (codes "SESSION") (words_behind level) refl (refl, refl) (behind_are level is) (time ∷ []) (tells_time level (quiet_name 8 table.session (omega arith) named quiet))
+  level_says : (level : List ℕ) → IsWord level → AreQuiet (codes "LEVEL" ∷ level ∷ []) → Tells time (time ∷ []) (spelled (codes "SESSION") (words_after level) ++ 10 ∷ [])
+  level_says level is quiet = line_says time (codes "SESSION") (words_after level) refl (refl, refl) (after_are level is) (time ∷ []) (tells_time level (quiet_name 8 table.session (omega arith) named quiet))
 
   texts_are : (first name level journaled stamp pairs count : List ℕ) → (first ++ (name ++ ((level ++ journaled) ++ (stamp ++ (pairs ++ count))))) ++ 10 ∷ [] ≡ first ++ name ++ level ++ journaled ++ stamp ++ pairs ++ count ++ 10 ∷ []
   texts_are first name level journaled stamp pairs count = simp append_assoc
@@ -113,11 +113,11 @@ module _ (table : Table) (time : ℕ) (named : is_session table.session ≡ true
       ap (λ (l : List ℕ). (codes "SESSION " ++ (name ++ (codes " LEVEL SESSION JOURNALED " ++ (stamp ++ (codes " PAIRS " ++ l))))) ++ 10 ∷ []) (append-nil count)
       ∙ texts_are (codes "SESSION ") name (codes " LEVEL SESSION") (codes " JOURNALED ") stamp (codes " PAIRS") (32 ∷ count)
 
-  session_tells : (level : Level) → Tells time (time ∷ []) (session_line table level time)
-  session_tells ByVolume = subst (Tells time (time ∷ [])) (volume_is table.session (stamp_text time) (decimal (length table.rows))) (level_tells (codes "VOLUME") (refl, refl) (quiet_then (refl, refl) (refl, refl) (quiet_then (refl, refl) (refl, refl) no_more)))
-  session_tells BySession = subst (Tells time (time ∷ [])) (session_is table.session (stamp_text time) (decimal (length table.rows))) (level_tells (codes "SESSION") (refl, refl) (quiet_then (refl, refl) (refl, refl) (quiet_then (refl, refl) (refl, refl) no_more)))
+  session_says : (level : Level) → Tells time (time ∷ []) (session_line table level time)
+  session_says ByVolume = subst (Tells time (time ∷ [])) (volume_is table.session (stamp_text time) (decimal (length table.rows))) (level_says (codes "VOLUME") (refl, refl) (quiet_then (refl, refl) (refl, refl) (quiet_then (refl, refl) (refl, refl) no_more)))
+  session_says BySession = subst (Tells time (time ∷ [])) (session_is table.session (stamp_text time) (decimal (length table.rows))) (level_says (codes "SESSION") (refl, refl) (quiet_then (refl, refl) (refl, refl) (quiet_then (refl, refl) (refl, refl) no_more)))
 
--- ---- the lines of controls
+-- ---- the lines of controllers
 
 abbrev control_words : Option Cause → List (List ℕ)
 control_words None = codes "OK" ∷ []
@@ -137,17 +137,17 @@ control_spaced (Some ReadFault) = refl
 control_spaced (Some (BadTrace place)) = ap (λ (l : List ℕ). codes " BROKEN BADTRACE " ++ l) (append-nil (decimal place))
 control_spaced (Some (Crowded stamp)) = ap (λ (l : List ℕ). codes " BROKEN CROWDED " ++ l) (append-nil (stamp_text stamp.0))
 
-control_is : (number behind : List ℕ) → (codes "CONTROL" ++ ((32 ∷ number) ++ behind)) ++ 10 ∷ [] ≡ codes "CONTROL" ++ 32 ∷ number ++ behind ++ 10 ∷ []
-control_is number behind = simp append_assoc
+control_is : (number after : List ℕ) → (codes "CONTROL" ++ ((32 ∷ number) ++ after)) ++ 10 ∷ [] ≡ codes "CONTROL" ++ 32 ∷ number ++ after ++ 10 ∷ []
+control_is number after = simp append_assoc
 
-control_tells : (time number : ℕ) (broken : Option Cause) → Tells time [] (control_line number broken)
-control_tells time number broken =
+control_says : (time number : ℕ) (broken : Option Cause) → Tells time [] (control_line number broken)
+control_says time number broken =
     subst (Tells time []) (ap (λ (l : List ℕ). (codes "CONTROL" ++ ((32 ∷ decimal number) ++ l)) ++ 10 ∷ []) (control_spaced broken) ∙ control_is (decimal number) (control_part broken))
-    (quiet_line_tells time (codes "CONTROL") (decimal number ∷ control_words broken) refl (quiet_then (refl, refl) (refl, refl) (quiet_number number (control_quiet broken))))
+    (quiet_line_says time (codes "CONTROL") (decimal number ∷ control_words broken) refl (quiet_then (refl, refl) (refl, refl) (quiet_number number (control_quiet broken))))
 
-controls_tell : (time number : ℕ) (controls : List (Option Cause)) → Tells time [] (control_lines number controls)
-controls_tell time number [] = nothing_tells time
-controls_tell time number (broken ∷ controls) = both_tell time [] [] (control_line number broken) (control_lines (number + 1) controls) (control_tells time number broken) (controls_tell time (number + 1) controls)
+controls_report : (time number : ℕ) (controls : List (Option Cause)) → Tells time [] (control_lines number controls)
+controls_report time number [] = nothing_tells time
+controls_report time number (broken ∷ controls) = both_tell time [] [] (control_line number broken) (control_lines (number + 1) controls) (control_says time number broken) (controls_report time (number + 1) controls)
 
 -- ---- the lines of pairs
 
@@ -178,26 +178,26 @@ state_spaced Copy = refl
 state_spaced Duplex = refl
 state_spaced (Suspended cause since) = suspended_is (cause_word cause) (stamp_text since.0)
 
-row_is : (primary secondary behind : List ℕ) → (codes "PAIR" ++ ((32 ∷ primary) ++ ((32 ∷ secondary) ++ behind))) ++ 10 ∷ [] ≡ codes "PAIR " ++ primary ++ codes " " ++ secondary ++ behind ++ 10 ∷ []
-row_is primary secondary behind = simp append_assoc
+row_is : (primary secondary after : List ℕ) → (codes "PAIR" ++ ((32 ∷ primary) ++ ((32 ∷ secondary) ++ after))) ++ 10 ∷ [] ≡ codes "PAIR " ++ primary ++ codes " " ++ secondary ++ after ++ 10 ∷ []
+row_is primary secondary after = simp append_assoc
 
-row_tells : (time : ℕ) (row : PairRow) → has_row_serials row ≡ true → Tells time [] (row_line row)
-row_tells time row named =
+row_says : (time : ℕ) (row : PairRow) → has_row_serials row ≡ true → Tells time [] (row_line row)
+row_says time row named =
     let serials = and_parts (is_serial row.primary) (is_serial row.secondary) named in
     subst (Tells time []) (ap (λ (l : List ℕ). (codes "PAIR" ++ ((32 ∷ row.primary) ++ ((32 ∷ row.secondary) ++ l))) ++ 10 ∷ []) (state_spaced row.state) ∙ row_is row.primary row.secondary (state_part row.state))
-    (quiet_line_tells time (codes "PAIR") (row.primary ∷ row.secondary ∷ state_words row.state) refl
+    (quiet_line_says time (codes "PAIR") (row.primary ∷ row.secondary ∷ state_words row.state) refl
     (quiet_then (refl, refl) (refl, refl) (quiet_name 6 row.primary (omega arith) serials.0 (quiet_name 6 row.secondary (omega arith) serials.1 (state_quiet row.state)))))
 
 rows_tell : (time : ℕ) (rows : List PairRow) → list_all has_row_serials rows ≡ true → Tells time [] (flat_map row_line rows)
 rows_tell time [] named = nothing_tells time
 rows_tell time (row ∷ rows) named =
     let parts = and_parts (has_row_serials row) (list_all has_row_serials rows) named in
-    both_tell time [] [] (row_line row) (flat_map row_line rows) (row_tells time row parts.0) (rows_tell time rows parts.1)
+    both_tell time [] [] (row_line row) (flat_map row_line rows) (row_says time row parts.0) (rows_tell time rows parts.1)
 
 -- ---- the report
 
 -- A report says the time of its journal alone, and none of its lines is a reply.
-pub report_tells : (table : Table) (level : Level) (time : ℕ) (controls : List (Option Cause)) → HasNames table → Tells time (time ∷ []) (report_text table level time controls)
-report_tells table level time controls names =
+pub report_says : (table : Table) (level : Level) (time : ℕ) (controls : List (Option Cause)) → HasNames table → Tells time (time ∷ []) (report_text table level time controls)
+report_says table level time controls names =
     both_tell time (time ∷ []) [] (session_line table level time ++ control_lines 0 controls) (flat_map row_line table.rows)
-    (both_tell time (time ∷ []) [] (session_line table level time) (control_lines 0 controls) (session_tells table time names.named level) (controls_tell time 0 controls)) (rows_tell time table.rows names.serials)
+    (both_tell time (time ∷ []) [] (session_line table level time) (control_lines 0 controls) (session_says table time names.named level) (controls_report time 0 controls)) (rows_tell time table.rows names.serials)

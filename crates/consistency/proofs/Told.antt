@@ -27,7 +27,7 @@ module _ (run : ScriptRun) (plant : PlantState) where
       by_way true rest = (from, omega arith, omega (arith, goes.0, rest.1, rest.2), (omega arith, here))
       by_way false rest = (rest.0, omega (arith, goes.0, rest.1), rest.2, (goes.0, goes.1, goes.2, rest.3))
 
--- The points that a reply tells of are a way of the devices.
+-- The points that a reply speaks of are a way of the devices.
 pub told_points_are_walked : (plant : PlantState) (run : ScriptRun) (asked : ℕ → Option Line) (first : Leg) (points : List PassedPoint) (number by : ℕ) (passed : HasPassed run asked first points plant by)
     → ((t : ℕ) → passed.from ≤ t → t ≤ by → (c : Choice) × IsChoice plant t c) → (to : ℕ) × (to ≤ by) × IsWalked run plant passed.from to first.point (points_before number points)
 told_points_are_walked plant run asked first points number by passed some =

@@ -107,7 +107,7 @@ module _ (run : ScriptRun) (s : Stage) (a : Answered) (answered : IsAnswered run
       answered.step.made ∙ ap (λ (h : List Timed). table_on_the_way run.level h (commanded (breaks_of run) (names_of run) (table_on_the_way run.level a.changes s.table) a.line)) none.1
       ∙ ap (λ (x : List Timed). commanded (breaks_of run) (names_of run) (table_on_the_way run.level x s.table) a.line) none.0
 
-  -- The table behind a line is the one that it asks for.
+  -- The table after a line is the one that it asks for.
   pub line_by_text : a.table ≡ commanded (breaks_of run) (names_of run) (table_by run s.replied a.line.time.0 s.table) a.line
   line_by_text = by_activity (is_active s.table) refl
     where
@@ -137,14 +137,14 @@ course_by_lines run lines course never apart (suc n) within =
     let s = stage_at run lines n in
     let u = unhit_stage_at run lines n in
     let before = course_by_lines run lines course never apart n (omega (arith, within)) in
-    let behind : stage_at run lines (suc n) ≡ stage_after s a = stage_then run lines n a one.1 in
+    let after : stage_at run lines (suc n) ≡ stage_after s a = stage_then run lines n a one.1 in
     let asked : unhit_stage_at run lines (suc n) ≡ unhit_after run u a.line = fold_more (λ (x : Stage) (b : Answered). unhit_after run x b.line) (first_stage run) lines n a one.1 in (
-      ap (λ (x : Stage). x.table) behind
+      ap (λ (x : Stage). x.table) after
           ∙ line_by_text run s a (course n a one.1) never (apart n)
           ∙ ap (λ (r : ℕ). commanded (breaks_of run) (names_of run) (table_by run r a.line.time.0 s.table) a.line) before.1
           ∙ ap (λ (x : Table). commanded (breaks_of run) (names_of run) (table_by run u.replied a.line.time.0 x) a.line) before.0
           ∙ sym (ap (λ (x : Stage). x.table) asked),
-      ap (λ (x : Stage). x.replied) behind
+      ap (λ (x : Stage). x.replied) after
           ∙ ap (λ (r : ℕ). if s.table.is_ended then r else a.line.time.0) before.1
           ∙ ap (λ (x : Table). if x.is_ended then u.replied else a.line.time.0) before.0
           ∙ sym (ap (λ (x : Stage). x.replied) asked),

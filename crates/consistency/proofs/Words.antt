@@ -1,4 +1,4 @@
--- Decimal numbers, stamps and names as words of a line, and the words that tell no time.
+-- Decimal numbers, stamps and names as words of a line, and the words that say no time.
 use Rattle.std.proofs.Common.{◌≡◌, ◌⊎◌, inl, inr, ℕ, zero, suc, ◌^◌, ◌/◌, ◌%◌, ◌<◌, ◌≤◌, Bool, true, false, true≢false, cond, nat_eq, ◌&&◌, List, [], ◌∷◌, ◌++◌, length, refl, sym, ap, ◌∙◌, append-nil, arith}
 use Rattle.std.specs.Prelude.{bytes_eq, codes, decimal}
 use Rattle.std.specs.Fmt.{digit_glyph, digits, digits_onto}
@@ -10,7 +10,7 @@ use Rattle.tod_stamp.specs.Fields.{within}
 use Rattle.tod_stamp.specs.Names.{is_name, is_name_char}
 use Rattle.tod_stamp.specs.Stamps.{hex_digit, hex_digits, stamp_of_digits, stamp_text}
 use Rattle.tod_stamp.proofs.TextLaws.{texts_back}
-use Rattle.consistency.specs.Times.{time_behind, time_in_word, times_in_words, times_of}
+use Rattle.consistency.specs.Times.{time_after, time_in_word, times_in_words, times_of}
 use Rattle.consistency.proofs.Spelled.{AreWords, HasNo, IsWord, has_no_both, stamp_is_word}
 use Rattle.consistency.proofs.Spelled.AreWords.{no_word, one_more}
 
@@ -21,15 +21,15 @@ digit_is_not : (d byte : ℕ) → d < 10 → (byte < 48) ⊎ (57 < byte) → nat
 digit_is_not d byte small (inl low) = ne_eqb (digit_glyph false d) byte (grind (arith, nat_tests))
 digit_is_not d byte small (inr high) = ne_eqb (digit_glyph false d) byte (grind (arith, nat_tests))
 
-digits_have_no : (byte : ℕ) → (byte < 48) ⊎ (57 < byte) → (count n : ℕ) (behind : List ℕ) → HasNo byte behind → HasNo byte (digits_onto count 10 false n behind)
-digits_have_no byte no_digit zero n behind none = none
-digits_have_no byte no_digit (suc count) n behind none =
+digits_have_no : (byte : ℕ) → (byte < 48) ⊎ (57 < byte) → (count n : ℕ) (after : List ℕ) → HasNo byte after → HasNo byte (digits_onto count 10 false n after)
+digits_have_no byte no_digit zero n after none = none
+digits_have_no byte no_digit (suc count) n after none =
     let digit = digit_glyph false (n % 10) in
-    let one : HasNo byte (digit ∷ behind) = or_from (nat_eq digit byte) (list_any (λ b. nat_eq b byte) behind) (digit_is_not (n % 10) byte (omega arith) no_digit) none in
-    choose (nat_eq (n / 10) 0) one (digits_have_no byte no_digit count (n / 10) (digit ∷ behind) one)
+    let one : HasNo byte (digit ∷ after) = or_from (nat_eq digit byte) (list_any (λ b. nat_eq b byte) after) (digit_is_not (n % 10) byte (omega arith) no_digit) none in
+    choose (nat_eq (n / 10) 0) one (digits_have_no byte no_digit count (n / 10) (digit ∷ after) one)
   where
-    choose : (t : Bool) → HasNo byte (digit_glyph false (n % 10) ∷ behind) → HasNo byte (digits_onto count 10 false (n / 10) (digit_glyph false (n % 10) ∷ behind))
-        → HasNo byte (cond t (digit_glyph false (n % 10) ∷ behind) (digits_onto count 10 false (n / 10) (digit_glyph false (n % 10) ∷ behind)))
+    choose : (t : Bool) → HasNo byte (digit_glyph false (n % 10) ∷ after) → HasNo byte (digits_onto count 10 false (n / 10) (digit_glyph false (n % 10) ∷ after))
+        → HasNo byte (cond t (digit_glyph false (n % 10) ∷ after) (digits_onto count 10 false (n / 10) (digit_glyph false (n % 10) ∷ after)))
     choose true one more = one
     choose false one more = more
 
@@ -52,11 +52,11 @@ hex_have_no : (count n byte : ℕ) → ((57 < byte) × (byte < 65)) ⊎ (70 < by
 hex_have_no zero n byte none = refl
 hex_have_no (suc count) n byte none = has_no_both byte (hex_digits count (n / 16)) (hex_digit (n % 16) ∷ []) (hex_have_no count (n / 16) byte none) (or_from (nat_eq (hex_digit (n % 16)) byte) false (hex_is_not (n % 16) byte (omega arith) none) refl)
 
--- ---- words that tell no time
+-- ---- words that say no time
 
--- A word that doesn't hold an equals sign, and isn't the word behind which a time stands.
-abbrev pub TellsNone : (word : List ℕ) → Type 0
-TellsNone word = HasNo 61 word × (bytes_eq word (codes "JOURNALED") ≡ false)
+-- A word that doesn't hold an equals sign, and isn't the word after which a time stands.
+abbrev pub SaysNone : (word : List ℕ) → Type 0
+SaysNone word = HasNo 61 word × (bytes_eq word (codes "JOURNALED") ≡ false)
 
 pub none_in : (word : List ℕ) → HasNo 61 word → time_in_word word ≡ []
 none_in [] none = refl
@@ -65,29 +65,29 @@ none_in (x ∷ y ∷ word) none =
     let second = (or_parts (nat_eq y 61) (list_any (λ b. nat_eq b 61) word) (or_parts (nat_eq x 61) (list_any (λ b. nat_eq b 61) (y ∷ word)) none).1).0 in
     rw (and_right (nat_eq x 84) (nat_eq y 61 && true) (and_left (nat_eq y 61) true second)) refl
 
-none_behind : (before word : List ℕ) → bytes_eq before (codes "JOURNALED") ≡ false → time_behind before word ≡ []
-none_behind before word other = rw other refl
+none_after : (before word : List ℕ) → bytes_eq before (codes "JOURNALED") ≡ false → time_after before word ≡ []
+none_after before word other = rw other refl
 
 pub data AreQuiet : List (List ℕ) → Type 0 where
   no_more : AreQuiet []
-  quiet_then : {word : List ℕ} {others : List (List ℕ)} → IsWord word → TellsNone word → AreQuiet others → AreQuiet (word ∷ others)
+  quiet_then : {word : List ℕ} {others : List (List ℕ)} → IsWord word → SaysNone word → AreQuiet others → AreQuiet (word ∷ others)
 
 pub quiet_words : {others : List (List ℕ)} → AreQuiet others → AreWords others
 quiet_words no_more = no_word
 quiet_words (quiet_then is tells rest) = one_more is (quiet_words rest)
 
--- Behind words that tell none there are the times of the rest.
+-- After words that say none there are the times of the rest.
 pub quiet_on : (before word : List ℕ) (others : List (List ℕ)) → bytes_eq before (codes "JOURNALED") ≡ false → HasNo 61 word → times_in_words before (word ∷ others) ≡ times_in_words word others
-quiet_on before word others other none = ap (λ (l : List ℕ). l ++ time_behind before word ++ times_in_words word others) (none_in word none) ∙ ap (λ (l : List ℕ). l ++ times_in_words word others) (none_behind before word other)
+quiet_on before word others other none = ap (λ (l : List ℕ). l ++ time_after before word ++ times_in_words word others) (none_in word none) ∙ ap (λ (l : List ℕ). l ++ times_in_words word others) (none_after before word other)
 
--- Words that tell none tell none together.
+-- Words that say none say none together.
 pub times_quiet : (before : List ℕ) (others : List (List ℕ)) → bytes_eq before (codes "JOURNALED") ≡ false → AreQuiet others → times_in_words before others ≡ []
 times_quiet before [] other no_more = refl
 times_quiet before (word ∷ others) other (quiet_then is tells rest) = quiet_on before word others other tells.0 ∙ times_quiet word others tells.1 rest
 
--- ---- a time behind them
+-- ---- a time after them
 
--- the word that tells a time
+-- the word that says a time
 abbrev pub time_word : (time : ℕ) → List ℕ
 time_word time = codes "T=" ++ stamp_text time
 
@@ -97,36 +97,36 @@ time_is_word time = ((stamp_is_word time).0, (stamp_is_word time).1)
 time_alone : (before : List ℕ) (time : ℕ) → bytes_eq before (codes "JOURNALED") ≡ false → time < 2 ^ 64 → times_in_words before (time_word time ∷ []) ≡ time ∷ []
 time_alone before time other below =
     let own = time_in_word (time_word time) in
-    ap (λ (l : List ℕ). own ++ l ++ []) (none_behind before (time_word time) other) ∙ append-nil (own ++ []) ∙ append-nil own ∙ ap times_of (texts_back (record { 0 = time }) below)
+    ap (λ (l : List ℕ). own ++ l ++ []) (none_after before (time_word time) other) ∙ append-nil (own ++ []) ∙ append-nil own ∙ ap times_of (texts_back (record { 0 = time }) below)
 
--- Behind words that tell none it tells the one time.
-pub time_behind_quiet : (before : List ℕ) (others : List (List ℕ)) (time : ℕ) → bytes_eq before (codes "JOURNALED") ≡ false → AreQuiet others → time < 2 ^ 64 → times_in_words before (others ++ time_word time ∷ []) ≡ time ∷ []
-time_behind_quiet before [] time other no_more below = time_alone before time other below
-time_behind_quiet before (word ∷ others) time other (quiet_then is tells rest) below = quiet_on before word (others ++ time_word time ∷ []) other tells.0 ∙ time_behind_quiet word others time tells.1 rest below
+-- After words that say none it says the one time.
+pub time_after_quiet : (before : List ℕ) (others : List (List ℕ)) (time : ℕ) → bytes_eq before (codes "JOURNALED") ≡ false → AreQuiet others → time < 2 ^ 64 → times_in_words before (others ++ time_word time ∷ []) ≡ time ∷ []
+time_after_quiet before [] time other no_more below = time_alone before time other below
+time_after_quiet before (word ∷ others) time other (quiet_then is tells rest) below = quiet_on before word (others ++ time_word time ∷ []) other tells.0 ∙ time_after_quiet word others time tells.1 rest below
 
--- ---- which words tell none
+-- ---- which words say none
 
 no_first : (word : List ℕ) → HasNo 74 word → bytes_eq word (codes "JOURNALED") ≡ false
 no_first [] none = refl
 no_first (x ∷ word) none = rw (or_parts (nat_eq x 74) (list_any (λ b. nat_eq b 74) word) none).0 refl
 
-stamp_tells_none : (time : ℕ) → TellsNone (stamp_text time)
-stamp_tells_none time = (hex_have_no 16 time 61 (inl (omega arith, omega arith)), no_first (stamp_text time) (hex_have_no 16 time 74 (inr (omega arith))))
+stamp_says_none : (time : ℕ) → SaysNone (stamp_text time)
+stamp_says_none time = (hex_have_no 16 time 61 (inl (omega arith, omega arith)), no_first (stamp_text time) (hex_have_no 16 time 74 (inr (omega arith))))
 
--- A stamp behind the word of a journal's time tells it.
+-- A stamp after the word of a journal's time tells it.
 pub time_journaled : (time : ℕ) (others : List (List ℕ)) → AreQuiet others → time < 2 ^ 64 → times_in_words (codes "JOURNALED") (stamp_text time ∷ others) ≡ time ∷ []
 time_journaled time others quiet below =
-    ap (λ (l : List ℕ). l ++ time_behind (codes "JOURNALED") (stamp_text time) ++ times_in_words (stamp_text time) others) (none_in (stamp_text time) (stamp_tells_none time).0)
-    ∙ ap (λ (l : List ℕ). times_of (stamp_of_digits (stamp_text time)) ++ l) (times_quiet (stamp_text time) others (stamp_tells_none time).1 quiet)
+    ap (λ (l : List ℕ). l ++ time_after (codes "JOURNALED") (stamp_text time) ++ times_in_words (stamp_text time) others) (none_in (stamp_text time) (stamp_says_none time).0)
+    ∙ ap (λ (l : List ℕ). times_of (stamp_of_digits (stamp_text time)) ++ l) (times_quiet (stamp_text time) others (stamp_says_none time).1 quiet)
     ∙ append-nil (times_of (stamp_of_digits (stamp_text time))) ∙ ap times_of (texts_back (record { 0 = time }) below)
 
--- ---- numbers and stamps tell none
+-- ---- numbers and stamps say none
 
 pub quiet_number : (n : ℕ) {others : List (List ℕ)} → AreQuiet others → AreQuiet (decimal n ∷ others)
 quiet_number n rest = quiet_then (decimal_is_word n) (decimal_has_no 61 (inr (omega arith)) n, no_first (decimal n) (decimal_has_no 74 (inr (omega arith)) n)) rest
 
 pub quiet_stamp : (time : ℕ) {others : List (List ℕ)} → AreQuiet others → AreQuiet (stamp_text time ∷ others)
-quiet_stamp time rest = quiet_then (stamp_is_word time) (stamp_tells_none time) rest
+quiet_stamp time rest = quiet_then (stamp_is_word time) (stamp_says_none time) rest
 
 -- ---- names
 

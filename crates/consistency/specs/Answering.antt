@@ -1,4 +1,4 @@
--- How a line is answered at the end of a leg, and what its reply tells.
+-- How a line is answered at the end of a leg, and what its reply says.
 use Rattle.std.specs.Prelude.{ℕ, ◌==◌, List, [], ◌∷◌, Bool, false, Option, Some, None, Result, if◌then◌else◌}
 use Rattle.pair_table.specs.declared.command.Change.{Change}
 use Rattle.pair_table.specs.declared.command.Command.{Command}
@@ -16,7 +16,7 @@ use Rattle.consistency.specs.Owing.{tracks_asked}
 use Rattle.consistency.specs.Ways.{PassedPoint, Way}
 use Rattle.consistency.specs.Ways.Way.{Commanded, Ending, MarkedFor, OnTheWay}
 
--- a line that is answered at a stage, behind changes and before hits
+-- a line that is answered at a stage, after changes and before hits
 abbrev pub answered_by : ScriptRun → Stage → (text reply : List ℕ) → Line → (changes hits : List Timed) → Answered
 answered_by run s text reply line changes hits = record {
   text = text;
@@ -27,7 +27,7 @@ answered_by run s text reply line changes hits = record {
   table = table_after_line run.level (breaks_of run) (names_of run) s.table line changes hits;
 }
 
--- ---- what a reply tells
+-- ---- what a reply says
 
 -- whether a way is the command of the line with a number, or the mark that the command's record needed first
 abbrev pub is_command_of : (line : ℕ) → Way → Bool
@@ -36,12 +36,12 @@ is_command_of line (MarkedFor n hits) = n == line
 is_command_of line (OnTheWay changes) = false
 is_command_of line (Ending n hits) = false
 
--- The points that were passed before the command of the line with a number. A mark that the command's record needed first is behind them.
+-- The points that were passed before the command of the line with a number. A mark that the command's record needed first is after them.
 abbrev pub points_before : (line : ℕ) → List PassedPoint → List PassedPoint
 points_before line [] = []
 points_before line (n ∷ points) = if is_command_of line n.way then [] else n ∷ points_before line points
 
--- What a reply's line tells behind its command's word: the answer, the tracks that an accepted add has to copy, and the stamp behind `T=`,
+-- What a reply's line says after its command's word: the answer, the tracks that an accepted add has to copy, and the stamp after `T=`,
 -- which stands there once the session has started.
 pub record ReplyContent : Type 0 where
   pub answer : Result Change Refusal

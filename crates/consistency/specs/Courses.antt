@@ -86,12 +86,12 @@ most_lines = MOST_LINES
 abbrev pub last_line_time : List Answered → (answered : ℕ) → ℕ
 last_line_time lines n = fold (λ before a. a.line.time.0) 0 (take n lines)
 
--- A line behind so many others counts where it isn't one too many and its time doesn't fall below that of the line before.
+-- A line after so many others counts where it isn't one too many and its time doesn't fall below that of the line before.
 abbrev pub later_line : (lines before : ℕ) → Option Line → Option Line
 later_line lines before None = None
 later_line lines before (Some line) = if nat_lt lines most_lines && nat_le before line.time.0 then Some line else None
 
--- the line that was heard whole behind the answered ones, if one was that counts
+-- the line that was heard whole after the answered ones, if one was that counts
 abbrev pub next_line : (answered before : ℕ) → (at_end : Bool) → (text : List ℕ) → Option Line
 next_line answered before at_end text = if is_whole_line at_end text then later_line answered before (line_spelled (first_line text)) else None
 
@@ -100,13 +100,13 @@ pub record IsAsked (answered before : ℕ) (at_end : Bool) (a : Answered) : Type
   pub asks : next_line answered before at_end a.text ≡ Some a.line
   pub one_line : lines_begun a.text ≤ 1
 
--- Each line was, behind those before it. The script's end is heard with its last byte.
+-- Each line was, after those before it. The script's end is heard with its last byte.
 abbrev pub AreAsked : (script : List ℕ) → List Answered → Type 0
 AreAsked script lines = (n : ℕ) (a : Answered) → slice_get lines n ≡ Some a
     → IsAsked n (last_line_time lines n) (length (texts_of (take (suc n) lines)) == length script) a
 
 -- Where a run stands once so much was heard of its script and so much was said: so many lines are answered, part of the next reply
--- or of a last line was said, in which no whole reply stands, and no byte of a line behind the next was heard.
+-- or of a last line was said, in which no whole reply stands, and no byte of a line after the next was heard.
 pub record StandsAt (lines : List Answered) (heard said : List ℕ) : Type 0 where
   pub answered : ℕ
   pub within : answered ≤ length lines

@@ -6,7 +6,7 @@ use Rattle.consistency.specs.Stages.{ScriptRun, Stage}
 use Rattle.consistency.specs.Courses.{Answered, AreAsked, IsCourse, last_line_time, lines_begun, next_line, replies_of, stage_at, texts_of}
 use Rattle.consistency.specs.Moments.{FirstMeans, MomentBears}
 
--- the stage where these lines are answered and this was heard behind them
+-- the stage where these lines are answered and this was heard after them
 abbrev pub stage_now : ScriptRun → (script : List ℕ) → List Answered → (text : List ℕ) → Stage
 stage_now run script lines text = record (stage_at run lines (length lines)) {
   next = next_line (length lines) (last_line_time lines (length lines)) (length (texts_of lines ++ text) == length script) text;

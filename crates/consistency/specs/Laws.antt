@@ -27,7 +27,7 @@ TimesAreNotLater = (run : ScriptRun) (s : Stage) (shape : Shape) (images : Image
     → Bears run s shape images time → time ≤ line.time.0
 
 -- Without a hit the rows before a line's command are determined: each row that wasn't suspended is duplex, or suspended since its
--- control's break time where that lies between.
+-- controller's break time where that lies between.
 abbrev pub StepsAreFunctions : Type 0
 StepsAreFunctions = (level : Level) (breaks : List (Option ℕ)) (names : Naming) (from : ℕ) (old : Table) (line : Line) (changes hits : List Timed) → IsTrue (none_clash old.rows)
     → IsCommanded level breaks names from old line changes hits → IsTrue (has_no_hit changes)

@@ -26,7 +26,7 @@ pub record Leads (level : Level) (breaks : List (Option ℕ)) (p q : Point) (cha
   pub rows : q.rows ≡ after_changes level changes p.rows
   pub goes_on : q.is_ended ≡ p.is_ended
 
--- They lead there, and every control whose break time lies between broke on the way.
+-- They lead there, and every controller whose break time lies between broke on the way.
 pub record LeadsWhole (level : Level) (breaks : List (Option ℕ)) (p q : Point) (changes : List Timed) : Type 0 where
   pub leads : Leads level breaks p q changes
   pub broken : IsTrue (all_broke p.time q.time 0 breaks changes)

@@ -51,7 +51,7 @@ pub record HasBeenDuplex (row : PairRow) (plant : PlantState) (from to : ℕ) : 
 
 -- ---- the tracks
 
--- whether a track of a control's volume has a write behind one time and up to another
+-- whether a track of a controller's volume has a write after one time and up to another
 abbrev pub is_changed : ScriptRun → (control volume : ℕ) → (since to track : ℕ) → Bool
 is_changed run control volume since to x = list_any (λ w. is_on_track control volume x w && nat_lt since w.write.stamp.0) (writes_up_to run.traces to)
 
@@ -63,7 +63,7 @@ owes_in run was row Copy to x = true
 owes_in run was row Duplex to x = true
 owes_in run was row (Suspended cause since) to x = is_by_device cause || not was || is_changed run row.control row.volume since.0 to x
 
--- whether a row owes a track at a time, behind these points of a run
+-- whether a row owes a track at a time, after these points of a run
 abbrev pub owes_track : ScriptRun → (first : Point) → List PassedPoint → PairRow → (to track : ℕ) → Bool
 owes_track run first points row to x = owes_in run (was_duplex row first points) row row.state to x
 

@@ -36,30 +36,30 @@ pub record HasPassed (run : ScriptRun) (asked : ℕ → Option Line) (first : Le
 abbrev pub asked_in : List Answered → (number : ℕ) → Option Line
 asked_in lines number = option_map (λ a. a.line) (slice_get lines number)
 
--- The reply to a line behind others tells of these points. They were passed up to a moment, the line's command among them. Those before it
--- bring the changes behind which the line is answered, and the last of them has the rows that the command finds.
-pub record AreToldOf (run : ScriptRun) (s : Stage) (lines : List Answered) (first : Leg) (points : List PassedPoint) (a : Answered) (plant : PlantState) (to : ℕ) : Type 0 where
+-- The reply to a line after others tells of these points. They were passed up to a moment, the line's command among them. Those before it
+-- bring the changes after which the line is answered, and the last of them has the rows that the command finds.
+pub record AreSaidOf (run : ScriptRun) (s : Stage) (lines : List Answered) (first : Leg) (points : List PassedPoint) (a : Answered) (plant : PlantState) (to : ℕ) : Type 0 where
   pub passed : HasPassed run (asked_in (lines ++ a ∷ [])) first points plant to
   pub answered : (fold leg_after first points).answered ≡ suc (length lines)
   pub changes : (fold leg_after first (points_before (length lines) points)).changes ≡ a.changes
   pub rows : (last_point first.point (points_before (length lines) points)).rows ≡ after_changes run.level a.changes s.table.rows
 
--- The reply to a line behind others was exact. Where the plant keeps its past, as its clock when the run began tells, and the session had
--- started before the line, the reply told of points that were passed by then.
+-- The reply to a line after others was exact. Where the plant keeps its past, as its clock when the run began tells, and the session had
+-- started before the line, the reply spoke of points that were passed by then.
 pub record HadExactReply (run : ScriptRun) (s : Stage) (before : List Answered) (a : Answered) (began : ℕ) (plant : PlantState) : Type 0 where
   pub first : Leg
   pub points : List PassedPoint
   pub by : ℕ
   pub within : by ≤ plant.clock
   pub exact : IsExact run s first.point points (length before) a
-  pub told : 0 < began → IsTrue s.table.is_started → AreToldOf run s before first points a plant by
+  pub told : 0 < began → IsTrue s.table.is_started → AreSaidOf run s before first points a plant by
 
--- So was each of these lines, behind those before it.
+-- So was each of these lines, after those before it.
 abbrev pub HadExactReplies : ScriptRun → List Answered → (began : ℕ) → PlantState → Type 0
 HadExactReplies run lines began plant = (n : ℕ) (a : Answered) → slice_get lines n ≡ Some a → HadExactReply run (stage_at run lines n) (take n lines) a began plant
 
 -- What holds now of a run that began at a plant's old state, also where the plant keeps no past: these lines were answered, this was heard of
--- the next one, and where the session has started each choice that a crash may leave bears a time. No time that was said is behind that of the
+-- the next one, and where the session has started each choice that a crash may leave bears a time. No time that was said is after that of the
 -- last reply.
 pub record StandsNow (run : ScriptRun) (lines : List Answered) (text : List ℕ) (old new : PlantState) : Type 0 where
   pub course : IsCourse run lines
@@ -81,15 +81,15 @@ pub record RunGoesOn (run : ScriptRun) (lines : List Answered) (text : List ℕ)
   pub exact : HadExactReplies run lines old.clock new
   pub keeps : 0 < old.clock → Keeps run lines text old new
 
--- A line that was heard whole behind other lines may be replied to. It is answered at its stage, and its reply is exact. Once the session has
--- started the reply tells of points that were passed up to now, where the plant keeps its past. Whatever a crash may leave now shows the point
--- behind the line, which may be meant before the reply.
+-- A line that was heard whole after other lines may be replied to. It is answered at its stage, and its reply is exact. Once the session has
+-- started the reply speaks of points that were passed up to now, where the plant keeps its past. Whatever a crash may leave now shows the point
+-- after the line, which may be meant before the reply.
 pub record MayReply (run : ScriptRun) (s : Stage) (lines : List Answered) (first : Leg) (points : List PassedPoint) (a : Answered) (now : PlantState) : Type 0 where
   pub asks : s.next ≡ Some a.line
   pub answered : IsAnswered run s a
   pub exact : IsExact run s first.point points (length lines) a
   pub names : HasNames s.table
   pub short : a.line.time.0 < 2 ^ 64
-  pub told : 0 < now.clock → IsTrue s.table.is_started → AreToldOf run s lines first points a now now.clock
+  pub told : 0 < now.clock → IsTrue s.table.is_started → AreSaidOf run s lines first points a now now.clock
   pub may : IsTrue s.table.is_started → MayBeMeant run s (stage_point (stage_after s a))
   pub shows : IsTrue a.table.is_started → AtNow (ShowsPoint run (shape_of now) (stage_point (stage_after s a))) now

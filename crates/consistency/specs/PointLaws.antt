@@ -86,7 +86,7 @@ abbrev pub LegsGoOn : Type 0
 LegsGoOn = (run : ScriptRun) (s : Stage) (asked : ℕ → Option Line) (l : Leg) (points : List PassedPoint) → IsLegOf run s l → IsTrue (list_all is_on_the_way points) → AreLinked (ComesNext run asked) leg_after l points
     → IsLegOf run s (fold leg_after l points)
 
--- A leg stays one behind hits at its point's time, and behind a mark that a command's record needs first.
+-- A leg stays one after hits at its point's time, and after a mark that a command's record needs first.
 abbrev pub LegsAreHit : Type 0
 LegsAreHit = (run : ScriptRun) (s : Stage) (l : Leg) (q : Point) (hits : List Timed) → IsLegOf run s l → HitsLead run.level (breaks_of run) l.point q hits → IsLegOf run s (leg_to l q hits)
 
@@ -112,27 +112,27 @@ WaysMayBeMeant = (run : ScriptRun) (s : Stage) (asked : ℕ → Option Line) (li
 abbrev pub MarksMayBeMeant : Type 0
 MarksMayBeMeant = (run : ScriptRun) (s : Stage) (l : Leg) (q : Point) (hits : List Timed) → s.table.is_ended ≡ false → IsLegOf run s l → IsMarking run s.next l q hits → AreCounted run.rises (s.past ++ l.changes ++ hits) → MayBeMeant run s q
 
--- Behind such a mark comes the command for which it was made, and nothing else.
+-- After such a mark comes the command for which it was made, and nothing else.
 abbrev pub MarksAreCommanded : Type 0
 MarksAreCommanded = (run : ScriptRun) (asked : ℕ → Option Line) (l : Leg) (n m : PassedPoint) (line : ℕ) (hits : List Timed) → n.way ≡ MarkedFor line hits → ComesNext run asked l n → ComesNext run asked (leg_after l n) m
     → (more : List Timed) × (m.way ≡ Commanded line more)
 
--- Behind such a mark and the command each row whose device the mark hit stands as the hit left it, suspended by its device.
+-- After such a mark and the command each row whose device the mark hit stands as the hit left it, suspended by its device.
 abbrev pub MarkedRowsStand : Type 0
 MarkedRowsStand = (run : ScriptRun) (asked : Option Line) (l : Leg) (q : Point) (hits : List Timed) → l.point.is_ended ≡ false → IsCommanding run asked l q hits
     → All (λ r. 0 < hit_count r.device l.marked → r.state ≡ since ByDevice l.point.time) q.rows
 
--- Behind the command of an end that is accepted comes its ending point, and nothing else.
+-- After the command of an end that is accepted comes its ending point, and nothing else.
 abbrev pub EndsAreEnded : Type 0
 EndsAreEnded = (run : ScriptRun) (asked : ℕ → Option Line) (l : Leg) (n m : PassedPoint) (line : ℕ) (hits : List Timed) → n.way ≡ Commanded line hits → ComesNext run asked l n → IsTrue (accepts_end run (table_at run n.point) (asked line))
     → ComesNext run asked (leg_after l n) m → (more : List Timed) × (m.way ≡ Ending line more)
 
--- No ending point comes but behind its line's command.
+-- No ending point comes but after its line's command.
 abbrev pub EndsAreCommanded : Type 0
 EndsAreCommanded = (run : ScriptRun) (asked : ℕ → Option Line) (l : Leg) (n m : PassedPoint) (line : ℕ) (more : List Timed) → ComesNext run asked l n → m.way ≡ Ending line more → ComesNext run asked (leg_after l n) m
     → (hits : List Timed) × (n.way ≡ Commanded line hits)
 
--- Nothing changes once the session has ended: each point behind is the one at which it ended.
+-- Nothing changes once the session has ended: each point after that is the one at which it ended.
 abbrev pub EndedPointsStay : Type 0
 EndedPointsStay = (run : ScriptRun) (asked : ℕ → Option Line) (l : Leg) (points : List PassedPoint) → l.point.is_ended ≡ true → AreLinked (ComesNext run asked) leg_after l points → All (λ n. n.point ≡ l.point) points
 
@@ -142,13 +142,13 @@ EndedPointsStay = (run : ScriptRun) (asked : ℕ → Option Line) (l : Leg) (poi
 abbrev pub HitsStayCounted : Type 0
 HitsStayCounted = (run : ScriptRun) (asked : ℕ → Option Line) (l : Leg) (q : Point) (way : Way) (device : ℕ) → ComesBy run asked l q way → hits_of_leg l device ≤ hits_of_leg (leg_by l q way) device
 
--- The hits of a mark that a command's record needs first are counted, also if the command takes away the row. Those that stand behind the
+-- The hits of a mark that a command's record needs first are counted, also if the command takes away the row. Those that stand after the
 -- command again are counted once.
 abbrev pub MarkedHitsAreCounted : Type 0
 MarkedHitsAreCounted = (run : ScriptRun) (asked : ℕ → Option Line) (l : Leg) (p q : Point) (number : ℕ) (hits more : List Timed) (device : ℕ) → ComesBy run asked l p (MarkedFor number hits)
     → hits_of_leg (leg_by (leg_by l p (MarkedFor number hits)) q (Commanded number more)) device ≡ hits_of_leg l device + max (hit_count device hits) (hit_count device more)
 
--- So a leg of which each hit is counted has no more hits of a device than it failed, and neither has a command or an end behind it.
+-- So a leg of which each hit is counted has no more hits of a device than it failed, and neither has a command or an end after it.
 abbrev pub LegsAreCounted : Type 0
 LegsAreCounted = (run : ScriptRun) (s : Stage) (l : Leg) → IsLegOf run s l → HasCountedHits run l → AreCounted run.rises (s.past ++ l.changes)
 
@@ -174,7 +174,7 @@ CommandsAreSteps = (run : ScriptRun) (s : Stage) (l : Leg) (q : Point) (hits : L
     → let new = table_after_line run.level (breaks_of run) (names_of run) s.table c.line l.changes hits in
     IsLineStep run.level (breaks_of run) (names_of run) s.replied s.table c.line l.changes hits new × (q.rows ≡ new.rows)
 
--- The end behind that point may be meant.
+-- The end after that point may be meant.
 abbrev pub EndingsMayBeMeant : Type 0
 EndingsMayBeMeant = (run : ScriptRun) (s : Stage) (l : Leg) (q r : Point) (hits more : List Timed) → s.table.is_ended ≡ false → IsLegOf run s l → IsCommanding run s.next l q hits → IsEnding run s.next q r more
     → AreCounted run.rises (s.past ++ l.changes ++ (hits ++ more)) → MayBeMeant run s r
@@ -192,34 +192,34 @@ abbrev pub CommandsAreAnswered : Type 0
 CommandsAreAnswered = (run : ScriptRun) (s : Stage) (l : Leg) (q : Point) (hits : List Timed) (text reply : List ℕ) → s.table.is_ended ≡ false → IsLegOf run s l → (c : IsCommanding run s.next l q hits)
     → AreCounted run.rises (s.past ++ l.changes ++ hits) → IsReply (accepts run (table_at run l.point) c.line) c.line reply → IsAnswered run s (answered_by run s text reply c.line l.changes hits)
 
--- So is any line before the session's start and behind its end, by its command alone.
+-- So is any line before the session's start and after its end, by its command alone.
 abbrev pub InactiveAreAnswered : Type 0
 InactiveAreAnswered = (run : ScriptRun) (s : Stage) (text reply : List ℕ) (line : Line) → is_active s.table ≡ false → AreCounted run.rises s.past
     → ((level : Level) → line.command ≡ Start level → IsTrue (accepts run s.table line) → level ≡ run.level) → IsReply (accepts run s.table line) line reply → IsAnswered run s (answered_by run s text reply line [] [])
 
--- The next leg begins at the point of the command, at the stage behind the line, where the line isn't an end that is accepted.
-abbrev pub LegsBeginBehindCommands : Type 0
-LegsBeginBehindCommands = (run : ScriptRun) (s : Stage) (l : Leg) (q : Point) (hits : List Timed) (text reply : List ℕ) (number : ℕ) → s.table.is_ended ≡ false → IsLegOf run s l → (c : IsCommanding run s.next l q hits) → accepts_end run (table_at run l.point) s.next ≡ false
+-- The next leg begins at the point of the command, at the stage after the line, where the line isn't an end that is accepted.
+abbrev pub LegsBeginAfterCommands : Type 0
+LegsBeginAfterCommands = (run : ScriptRun) (s : Stage) (l : Leg) (q : Point) (hits : List Timed) (text reply : List ℕ) (number : ℕ) → s.table.is_ended ≡ false → IsLegOf run s l → (c : IsCommanding run s.next l q hits) → accepts_end run (table_at run l.point) s.next ≡ false
     → IsLegOf run (stage_after s (answered_by run s text reply c.line l.changes hits)) (leg_by l q (Commanded number hits))
 
--- Behind an accepted end it begins at the ending point.
-abbrev pub LegsBeginBehindEnds : Type 0
-LegsBeginBehindEnds = (run : ScriptRun) (s : Stage) (l : Leg) (q r : Point) (hits more : List Timed) (text reply : List ℕ) (number : ℕ) → s.table.is_ended ≡ false → IsLegOf run s l → (c : IsCommanding run s.next l q hits) → IsEnding run s.next q r more
+-- After an accepted end it begins at the ending point.
+abbrev pub LegsBeginAfterEnds : Type 0
+LegsBeginAfterEnds = (run : ScriptRun) (s : Stage) (l : Leg) (q r : Point) (hits more : List Timed) (text reply : List ℕ) (number : ℕ) → s.table.is_ended ≡ false → IsLegOf run s l → (c : IsCommanding run s.next l q hits) → IsEnding run s.next q r more
     → IsLegOf run (stage_after s (answered_by run s text reply c.line l.changes (hits ++ more))) (leg_by (leg_by l q (Commanded number hits)) r (Ending number more))
 
--- Where no volume fails, the table behind each line of a course, and the time of its reply, are what its lines ask for.
+-- Where no volume fails, the table after each line of a course, and the time of its reply, are what its lines ask for.
 abbrev pub UnhitCoursesAreFunctions : Type 0
 UnhitCoursesAreFunctions = (run : ScriptRun) (lines : List Answered) → IsCourse run lines → ((device : ℕ) → run.rises device ≡ 0) → ((n : ℕ) → IsTrue (none_clash (stage_at run lines n).table.rows)) → (n : ℕ) → n ≤ length lines
     → ((stage_at run lines n).table ≡ (unhit_stage_at run lines n).table) × ((stage_at run lines n).replied ≡ (unhit_stage_at run lines n).replied)
 
--- A reply tells OK exactly where the command table accepts the command.
-abbrev pub RepliesTellAccepted : Type 0
-RepliesTellAccepted = (run : ScriptRun) (s : Stage) (first : Point) (points : List PassedPoint) (number : ℕ) (text reply : List ℕ) (line : Line) (changes hits : List Timed)
+-- A reply says OK exactly where the command table accepts the command.
+abbrev pub RepliesSayAccepted : Type 0
+RepliesSayAccepted = (run : ScriptRun) (s : Stage) (first : Point) (points : List PassedPoint) (number : ℕ) (text reply : List ℕ) (line : Line) (changes hits : List Timed)
     → is_ok (reply_content run s first points number (answered_by run s text reply line changes hits)).answer ≡ accepts run (table_on_the_way run.level changes s.table) line
 
--- A reply tells of the points before the command of its line, or before the mark that the command's record needed first.
-abbrev pub RepliesTellBefore : Type 0
-RepliesTellBefore = (run : ScriptRun) (s : Stage) (first : Point) (xs ys : List PassedPoint) (n : PassedPoint) (number : ℕ) (hits : List Timed) (a : Answered) → (n.way ≡ Commanded number hits) ⊎ (n.way ≡ MarkedFor number hits)
+-- A reply speaks of the points before the command of its line, or before the mark that the command's record needed first.
+abbrev pub RepliesSayBefore : Type 0
+RepliesSayBefore = (run : ScriptRun) (s : Stage) (first : Point) (xs ys : List PassedPoint) (n : PassedPoint) (number : ℕ) (hits : List Timed) (a : Answered) → (n.way ≡ Commanded number hits) ⊎ (n.way ≡ MarkedFor number hits)
     → reply_content run s first (xs ++ n ∷ ys) number a ≡ reply_content run s first xs number a
 
 -- ---- owed tracks
@@ -236,7 +236,7 @@ abbrev pub DuplexIsByMoments : PlantState → Type 0
 DuplexIsByMoments plant = (run : ScriptRun) (row : PairRow) (from to : ℕ) (first : Point) (points : List PassedPoint) → IsWalked run plant from to first points
     → (IsTrue (was_duplex row first points) → HasBeenDuplex row plant from to) × (HasBeenDuplex row plant from to → IsTrue (was_duplex row first points))
 
--- The points that a reply tells of are such a way, up to some moment. So its tracks are those that the moments say.
+-- The points that a reply speaks of are such a way, up to some moment. So its tracks are those that the moments say.
 abbrev pub ToldPointsAreWalked : PlantState → Type 0
 ToldPointsAreWalked plant = (run : ScriptRun) (asked : ℕ → Option Line) (first : Leg) (points : List PassedPoint) (number by : ℕ) (passed : HasPassed run asked first points plant by)
     → ((t : ℕ) → passed.from ≤ t → t ≤ by → (c : Choice) × IsChoice plant t c) → (to : ℕ) × (to ≤ by) × IsWalked run plant passed.from to first.point (points_before number points)

@@ -22,7 +22,7 @@ use Rattle.consistency.specs.Answering.{ReplyContent, answered_by, reply_content
 use Rattle.consistency.specs.Bearing.{GoesThroughPoints, MayBeMeant}
 use Rattle.consistency.specs.Pauses.{MayReply, RunGoesOn, ShowsMeant}
 use Rattle.consistency.specs.Leads.{Point}
-use Rattle.consistency.specs.Replying.{HasNames, HasRunNames, HasShortNumbers, IsExact, TellsTheSame, own_line, report_before, times_replied}
+use Rattle.consistency.specs.Replying.{HasNames, HasRunNames, HasShortNumbers, IsExact, SaysTheSame, own_line, report_before, times_replied}
 use Rattle.consistency.specs.Ways.{IsCommanding, IsLegOf, Leg, PassedPoint}
 
 -- Where a run speaks of names alone, each table of its course has names.
@@ -34,7 +34,7 @@ abbrev pub ExactRepliesAreReplies : Type 0
 ExactRepliesAreReplies = (run : ScriptRun) (s : Stage) (first : Point) (points : List PassedPoint) (number : ℕ) (a : Answered) → HasNames s.table → IsExact run s first points number a
     → IsReply (accepts run (table_on_the_way run.level a.changes s.table) a.line) a.line a.reply
 
--- It says the time of its report's journal and the one behind `T=`, and no other.
+-- It says the time of its report's journal and the one after `T=`, and no other.
 abbrev pub ExactRepliesSayTimes : Type 0
 ExactRepliesSayTimes = (run : ScriptRun) (s : Stage) (first : Point) (points : List PassedPoint) (number : ℕ) (a : Answered) → HasNames s.table → s.replied < 2 ^ 64 → a.line.time.0 < 2 ^ 64 → IsExact run s first points number a
     → times_said a.reply ≡ times_replied run s a
@@ -44,15 +44,15 @@ abbrev pub ReportsComeFirst : Type 0
 ReportsComeFirst = (run : ScriptRun) (s : Stage) (first : Point) (points : List PassedPoint) (number : ℕ) (a : Answered) → (let table = table_on_the_way run.level a.changes s.table in
     a.line.command ≡ Query → IsTrue (accepts run table a.line) → IsExact run s first points number a → (own : List ℕ) × (a.reply ≡ report_text table run.level a.line.time.0 (map (cause_at a.line.time.0) run.traces) ++ own))
 
--- It says no time behind the one at which the session stands after the line.
+-- It says no time after the one at which the session stands after the line.
 abbrev pub ExactRepliesSayUpTo : Type 0
 ExactRepliesSayUpTo = (run : ScriptRun) (s : Stage) (first : Point) (points : List PassedPoint) (number : ℕ) (a : Answered) → HasNames s.table → s.replied < 2 ^ 64 → a.line.time.0 < 2 ^ 64 → IsExact run s first points number a
     → AreUpTo (replied_after s a.line) (times_said a.reply)
 
 -- Two replies' own lines are the same text only if they tell the same: the time of the line, the word of its command, whether and why it was
--- refused, the tracks of an added pair, and the time behind `T=`.
+-- refused, the tracks of an added pair, and the time after `T=`.
 abbrev pub ReplyLinesTellApart : Type 0
-ReplyLinesTellApart = (a b : Line) (x y : ReplyContent) → HasShortNumbers a x → HasShortNumbers b y → own_line a x ≡ own_line b y → TellsTheSame a b x y
+ReplyLinesTellApart = (a b : Line) (x y : ReplyContent) → HasShortNumbers a x → HasShortNumbers b y → own_line a x ≡ own_line b y → SaysTheSame a b x y
 
 -- So do exact replies, of any lines of any runs, and the reports before them are the same text.
 abbrev pub ExactRepliesTellApart : Type 0
@@ -60,7 +60,7 @@ ExactRepliesTellApart = (run other : ScriptRun) (s t : Stage) (first start : Poi
     → (let x = reply_content run s first points number a in
     let y = reply_content other t start passed place b in
     HasShortNumbers a.line x → HasShortNumbers b.line y → IsExact run s first points number a → IsExact other t start passed place b → a.reply ≡ b.reply
-    → TellsTheSame a.line b.line x y × (report_before run (table_on_the_way run.level a.changes s.table) a.line ≡ report_before other (table_on_the_way other.level b.changes t.table) b.line))
+    → SaysTheSame a.line b.line x y × (report_before run (table_on_the_way run.level a.changes s.table) a.line ≡ report_before other (table_on_the_way other.level b.changes t.table) b.line))
 
 -- A line's command is answered exactly: its step, with the one reply that is due.
 abbrev pub CommandsAreAnsweredExactly : Type 0
@@ -68,7 +68,7 @@ CommandsAreAnsweredExactly = (run : ScriptRun) (s : Stage) (l : Leg) (q : Point)
     → (c : IsCommanding run s.next l q hits) → AreCounted run.rises (s.past ++ l.changes ++ hits) → HasNames s.table
     → (let a = answered_by run s text reply c.line l.changes hits in IsExact run s first points number a → IsAnswered run s a)
 
--- So is any line before the session's start and behind its end.
+-- So is any line before the session's start and after its end.
 abbrev pub InactiveAreAnsweredExactly : Type 0
 InactiveAreAnsweredExactly = (run : ScriptRun) (s : Stage) (text reply : List ℕ) (line : Line) (first : Point) (points : List PassedPoint) (number : ℕ) → is_active s.table ≡ false → AreCounted run.rises s.past
     → ((level : Level) → line.command ≡ Start level → IsTrue (accepts run s.table line) → level ≡ run.level) → HasNames s.table

@@ -36,7 +36,7 @@ is_query End = false
 abbrev pub is_reported : ScriptRun → Table → Line → Bool
 is_reported run table line = is_query line.command && accepts run table line
 
--- the report of a table at a line's time, with the causes of the controls that have broken by then; nothing before another line's reply
+-- the report of a table at a line's time, with the causes of the controllers that have broken by then; nothing before another line's reply
 abbrev pub report_before : ScriptRun → Table → Line → List ℕ
 report_before run table line = if is_reported run table line then report_text table run.level line.time.0 (map (cause_at line.time.0) run.traces) else []
 
@@ -54,7 +54,7 @@ reply_text run s first points number a =
 abbrev pub IsExact : ScriptRun → Stage → (first : Point) → List PassedPoint → (number : ℕ) → Answered → Type 0
 IsExact run s first points number a = a.reply ≡ reply_text run s first points number a
 
--- The times that a reply says, in order: that of the journal in its report, which is the line's, and the one behind `T=`, once the session
+-- The times that a reply says, in order: that of the journal in its report, which is the line's, and the one after `T=`, once the session
 -- has started.
 abbrev pub times_replied : ScriptRun → Stage → Answered → List ℕ
 times_replied run s a = (if is_reported run (table_on_the_way run.level a.changes s.table) a.line then a.line.time.0 ∷ [] else []) ++ (if a.table.is_started then replied_after s a.line ∷ [] else [])
@@ -79,45 +79,45 @@ pub record HasRunNames (run : ScriptRun) : Type 0 where
 -- ---- what can be read of a reply
 
 -- why a line was refused, if it was
-abbrev pub told_refusal : Result Change Refusal → Option Refusal
-told_refusal (Ok change) = None
-told_refusal (Err refusal) = Some refusal
+abbrev pub said_refusal : Result Change Refusal → Option Refusal
+said_refusal (Ok change) = None
+said_refusal (Err refusal) = Some refusal
 
 -- the tracks that an accepted add has to copy
-abbrev pub told_tracks : Command → Result Change Refusal → (tracks : ℕ) → Option ℕ
-told_tracks (AddPair primary secondary) (Ok change) tracks = Some tracks
-told_tracks (AddPair primary secondary) (Err refusal) tracks = None
-told_tracks (Start level) answer tracks = None
-told_tracks (DelPair choice) answer tracks = None
-told_tracks (Suspend choice) answer tracks = None
-told_tracks Query answer tracks = None
-told_tracks End answer tracks = None
+abbrev pub said_tracks : Command → Result Change Refusal → (tracks : ℕ) → Option ℕ
+said_tracks (AddPair primary secondary) (Ok change) tracks = Some tracks
+said_tracks (AddPair primary secondary) (Err refusal) tracks = None
+said_tracks (Start level) answer tracks = None
+said_tracks (DelPair choice) answer tracks = None
+said_tracks (Suspend choice) answer tracks = None
+said_tracks Query answer tracks = None
+said_tracks End answer tracks = None
 
--- Two lines' replies tell the same.
-pub record TellsTheSame (a b : Line) (x y : ReplyContent) : Type 0 where
+-- Two lines' replies say the same.
+pub record SaysTheSame (a b : Line) (x y : ReplyContent) : Type 0 where
   pub time : a.time.0 ≡ b.time.0
   pub word : command_word a.command ≡ command_word b.command
-  pub refusal : told_refusal x.answer ≡ told_refusal y.answer
-  pub tracks : told_tracks a.command x.answer x.tracks ≡ told_tracks b.command y.answer y.tracks
+  pub refusal : said_refusal x.answer ≡ said_refusal y.answer
+  pub tracks : said_tracks a.command x.answer x.tracks ≡ said_tracks b.command y.answer y.tracks
   pub replied : x.time ≡ y.time
 
--- the number that a refusal tells, of tracks or of a control
-abbrev pub told_number : Refusal → ℕ
-told_number (TooSmall tracks) = tracks
-told_number (ControlBroken control) = control
-told_number NoSession = 0
-told_number SessionExists = 0
-told_number NoPrimary = 0
-told_number NoSecondary = 0
-told_number SecondaryInUse = 0
-told_number AlreadyPaired = 0
-told_number OtherSecondary = 0
-told_number NotPaired = 0
-told_number Ended = 0
+-- the number that a refusal says, of tracks or of a controller
+abbrev pub said_number : Refusal → ℕ
+said_number (TooSmall tracks) = tracks
+said_number (ControlBroken control) = control
+said_number NoSession = 0
+said_number SessionExists = 0
+said_number NoPrimary = 0
+said_number NoSecondary = 0
+said_number SecondaryInUse = 0
+said_number AlreadyPaired = 0
+said_number OtherSecondary = 0
+said_number NotPaired = 0
+said_number Ended = 0
 
 -- The times and numbers of a reply lie below 2^64.
 pub record HasShortNumbers (line : Line) (content : ReplyContent) : Type 0 where
   pub time : line.time.0 < 2 ^ 64
-  pub tracks : IfSome (told_tracks line.command content.answer content.tracks) (λ n. n < 2 ^ 64)
-  pub refusal : IfSome (told_refusal content.answer) (λ r. told_number r < 2 ^ 64)
+  pub tracks : IfSome (said_tracks line.command content.answer content.tracks) (λ n. n < 2 ^ 64)
+  pub refusal : IfSome (said_refusal content.answer) (λ r. said_number r < 2 ^ 64)
   pub replied : IfSome content.time (λ t. t < 2 ^ 64)

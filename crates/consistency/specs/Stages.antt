@@ -35,12 +35,12 @@ breaks_of run = map break_time run.traces
 
 -- ---- the names
 
--- the volumes that a control's header names, from this one on
+-- the volumes that a controller's header names, from this one on
 abbrev pub volumes_named : (control volume : ℕ) → List VolumeHead → List NamedVolume
 volumes_named control volume [] = []
 volumes_named control volume (head ∷ heads) = record { serial = head.serial; control = control; volume = volume; cylinders = head.cylinders } ∷ volumes_named control (volume + 1) heads
 
--- the volumes that the headers of the traces name, from this control on
+-- the volumes that the headers of the traces name, from this controller on
 abbrev pub primaries_named : (control : ℕ) → List Trace → List NamedVolume
 primaries_named control [] = []
 primaries_named control (t ∷ traces) = volumes_named control 0 t.header.volumes ++ primaries_named (control + 1) traces

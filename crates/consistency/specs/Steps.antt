@@ -12,7 +12,7 @@ use Rattle.row_changes.specs.Spans.{Toward, is_break, is_hit_at}
 use Rattle.pair_table.specs.States.{is_settled}
 use Rattle.xrc_command.specs.declared.line.Line.{Line}
 
--- the controls, from this one on, that have broken at a time: those with a break time below it
+-- the controllers, from this one on, that have broken at a time: those with a break time below it
 abbrev pub broken_at : (time control : ℕ) → (breaks : List (Option ℕ)) → List ℕ
 broken_at time k [] = []
 broken_at time k (b ∷ breaks) = if is_below b time then k ∷ broken_at time (k + 1) breaks else broken_at time (k + 1) breaks
@@ -37,7 +37,7 @@ table_on_the_way level changes table = with_rows table (after_changes level chan
 abbrev pub table_after_line : Level → (breaks : List (Option ℕ)) → Naming → Table → Line → (changes hits : List Timed) → Table
 table_after_line level breaks names old line changes hits = table_on_the_way level hits (commanded breaks names (table_on_the_way level changes old) line)
 
--- The changes lead to the line's time, where no control with that break time has broken and no row is pending or copying. After
+-- The changes lead to the line's time, where no controller with that break time has broken and no row is pending or copying. After
 -- the command volumes may be hit at that time.
 pub record IsCommanded (level : Level) (breaks : List (Option ℕ)) (names : Naming) (from : ℕ) (old : Table) (line : Line) (changes hits : List Timed) : Type 0 where
   pub toward : Toward level breaks false from line.time.0 old.rows changes

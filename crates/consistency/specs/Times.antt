@@ -1,4 +1,4 @@
--- The times that were said: the stamps behind `T=` and `JOURNALED` in whole lines.
+-- The times that were said: the stamps after `T=` and `JOURNALED` in whole lines.
 use Rattle.std.specs.Prelude.{◌≡◌, ℕ, ◌==◌, List, [], ◌∷◌, ◌++◌, take, drop, codes, Result, Ok, Err, bytes_eq, if◌then◌else◌}
 use Rattle.std.specs.List.{flat_map}
 use Rattle.tod_stamp.specs.declared.stamp.Stamp.{Stamp}
@@ -35,14 +35,14 @@ times_of (Err why) = []
 abbrev pub time_in_word : (word : List ℕ) → List ℕ
 time_in_word word = if bytes_eq (take 2 word) (codes "T=") then times_of (stamp_of_digits (drop 2 word)) else []
 
--- the time behind the word `JOURNALED`
-abbrev pub time_behind : (before word : List ℕ) → List ℕ
-time_behind before word = if bytes_eq before (codes "JOURNALED") then times_of (stamp_of_digits word) else []
+-- the time after the word `JOURNALED`
+abbrev pub time_after : (before word : List ℕ) → List ℕ
+time_after before word = if bytes_eq before (codes "JOURNALED") then times_of (stamp_of_digits word) else []
 
 -- the times in words, where this one stands before the first
 abbrev pub times_in_words : (before : List ℕ) → List (List ℕ) → List ℕ
 times_in_words before [] = []
-times_in_words before (word ∷ words) = time_in_word word ++ time_behind before word ++ times_in_words word words
+times_in_words before (word ∷ words) = time_in_word word ++ time_after before word ++ times_in_words word words
 
 abbrev pub times_in_line : (line : List ℕ) → List ℕ
 times_in_line line = times_in_words [] (words line)

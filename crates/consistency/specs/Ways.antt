@@ -17,9 +17,9 @@ use Rattle.passages.specs.Points.{Passed}
 --   OnTheWay: changes of rows, on the way to the next line's time. A group with no change of rows has none, and so has a mark.
 --   MarkedFor: a mark that the record of a line's command needs first, with hits in it. Its rows are those before the command. Without a hit
 --     such a mark is on the way.
---   Commanded: the command of a line, and hits behind it. Behind such a mark its hits stand there too. A command that changes nothing needs
+--   Commanded: the command of a line, and hits after it. After such a mark its hits stand there too. A command that changes nothing needs
 --     no record.
---   Ending: the mark that ends the session behind the command of its line, with hits in it.
+--   Ending: the mark that ends the session after the command of its line, with hits in it.
 pub data Way : Type 0 where
   OnTheWay : (changes : List Timed) → Way
   MarkedFor : (line : ℕ) → (hits : List Timed) → Way
@@ -50,7 +50,7 @@ pub record Leg : Type 0 where
   pub answered : ℕ
   pub hit_before : (device : ℕ) → ℕ
 
--- How often a device was hit up to hits behind a command. A hit of the mark stands behind the command again, and counts once. It counts also
+-- How often a device was hit up to hits after a command. A hit of the mark stands after the command again, and counts once. It counts also
 -- if the command took the row away.
 abbrev pub hits_through : Leg → (hits : List Timed) → (device : ℕ) → ℕ
 hits_through l hits device = l.hit_before device + hit_count device l.changes + max (hit_count device l.marked) (hit_count device hits)
@@ -67,7 +67,7 @@ HasCountedHits run l = (device : ℕ) → hits_of_leg l device ≤ run.rises dev
 abbrev pub leg_to : Leg → Point → List Timed → Leg
 leg_to l q changes = record l { point = q; changes = l.changes ++ changes }
 
--- the leg that a point leaves to those behind it
+-- the leg that a point leaves to those after it
 abbrev pub leg_by : Leg → Point → Way → Leg
 leg_by l q (OnTheWay changes) = leg_to l q changes
 leg_by l q (MarkedFor line hits) = record l { marked = hits }
@@ -87,7 +87,7 @@ table_at run p = record { session = run.session; is_started = true; is_ended = p
 abbrev pub commanded_point : ScriptRun → Line → Point → Point
 commanded_point run line p = record p { rows = (commanded (breaks_of run) (names_of run) (table_at run p) line).rows }
 
--- A line's command may take effect at its time, where nothing is due, no control with that break time has broken, and no row is pending or
+-- A line's command may take effect at its time, where nothing is due, no controller with that break time has broken, and no row is pending or
 -- copying.
 pub record MayTakeEffect (run : ScriptRun) (line : Line) (l : Leg) : Type 0 where
   pub at : l.point.time ≡ line.time.0
@@ -104,8 +104,8 @@ pub record TakesEffect (run : ScriptRun) (line : Line) (l : Leg) (q : Point) (hi
 abbrev pub hits_stand : (marked hits : List Timed) → List PairRow → Bool
 hits_stand marked hits rows = list_all (λ r. nat_le (hit_count r.device marked) (hit_count r.device hits)) rows
 
--- The next point is that of a line's command. The hits of a mark that was made for it stand behind the command, but for those whose rows the
--- command took away. A command that leaves the rows as they are writes no record, so no hit stands behind it. Once the session has ended a line
+-- The next point is that of a line's command. The hits of a mark that was made for it stand after the command, but for those whose rows the
+-- command took away. A command that leaves the rows as they are writes no record, so no hit stands after it. Once the session has ended a line
 -- changes nothing, and the time stands still.
 pub record IsCommanding (run : ScriptRun) (asked : Option Line) (l : Leg) (q : Point) (hits : List Timed) : Type 0 where
   pub line : Line
@@ -167,7 +167,7 @@ pub record IsAtWork (run : ScriptRun) (asked : ℕ → Option Line) (l : Leg) : 
   pub not_ending : is_ending run asked l ≡ false
   pub none_marked : l.marked ≡ []
 
--- It ends, behind the command of the line answered last and nothing else.
+-- It ends, after the command of the line answered last and nothing else.
 pub record IsToEnd (line : ℕ) (l : Leg) : Type 0 where
   pub last : l.answered ≡ suc line
   pub unchanged : l.changes ≡ []
@@ -197,6 +197,6 @@ pub record IsLegOf (run : ScriptRun) (s : Stage) (l : Leg) : Type 0 where
   pub whole : LeadsWhole run.level (breaks_of run) (stage_point s) l.point l.changes
   pub counted : (device : ℕ) → hit_count device s.past ≤ l.hit_before device
 
--- the leg that begins at a stage behind so many lines
+-- the leg that begins at a stage after so many lines
 abbrev pub leg_at : Stage → (answered : ℕ) → Leg
 leg_at s answered = record { point = stage_point s; replied = s.replied; changes = []; marked = []; answered = answered; hit_before = λ device. hit_count device s.past }

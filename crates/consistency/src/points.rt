@@ -1,8 +1,8 @@
 //! The laws of points.
 
 ghost use Rattle.consistency.specs.PointLaws.{CommandsAreAnswered, CommandsAreCounted, CommandsAreSteps, CommandsMayBeMeant, DuplexIsByMoments, EndedMayBeMeant, EndedPointsStay, EndingsAreCounted, EndingsMayBeMeant, EndsAreCommanded, EndsAreEnded, HitsStayCounted, HitsStayWhole, InactiveAreAnswered};
-ghost use Rattle.consistency.specs.PointLaws.{LeadsAreToward, LeadsGoOn, LeadsToItself, LegsAreCounted, LegsAreHit, LegsAreMarked, LegsBegin, LegsBeginBehindCommands, LegsBeginBehindEnds, LegsGoOn, LegsMayBeMeant, MarkedHitsAreCounted, MarkedRowsStand, MarksAreCommanded, MarksAreCounted, MarksMayBeMeant, NeverDuplexOweAll, OthersOweAll};
-ghost use Rattle.consistency.specs.PointLaws.{PointsAreSeen, PointsBearThroughout, PointsGoInARow, PointsRise, PointsStayPassed, RepliesTellAccepted, RepliesTellBefore, ResumedPairsAskForChanges, StagesMayBeMeant, SuspendedOweChanges, ToldPointsAreWalked, UnhitCoursesAreFunctions, WaysMayBeMeant};
+ghost use Rattle.consistency.specs.PointLaws.{LeadsAreToward, LeadsGoOn, LeadsToItself, LegsAreCounted, LegsAreHit, LegsAreMarked, LegsBegin, LegsBeginAfterCommands, LegsBeginAfterEnds, LegsGoOn, LegsMayBeMeant, MarkedHitsAreCounted, MarkedRowsStand, MarksAreCommanded, MarksAreCounted, MarksMayBeMeant, NeverDuplexOweAll, OthersOweAll};
+ghost use Rattle.consistency.specs.PointLaws.{PointsAreSeen, PointsBearThroughout, PointsGoInARow, PointsRise, PointsStayPassed, RepliesSayAccepted, RepliesSayBefore, ResumedPairsAskForChanges, StagesMayBeMeant, SuspendedOweChanges, ToldPointsAreWalked, UnhitCoursesAreFunctions, WaysMayBeMeant};
 ghost use Rattle.consistency.specs.FlagLaws.{CommandsMayBeMeantInTime, EndingsMayBeMeantInTime, FlagsInTimeMayBe, LegsMayBeMeantInTime, MarksMayBeMeantInTime, StagesMayBeMeantInTime, WaysMayBeMeantInTime};
 ghost use Rattle.consistency.specs.ReplyLaws.{CommandsAreAnsweredExactly, CoursesHaveNames, ExactRepliesAreReplies, ExactRepliesSayTimes, ExactRepliesSayUpTo, ExactRepliesTellApart, InactiveAreAnsweredExactly, PassagesGoOn, RepliesFail, RepliesGoOn, ReplyLinesTellApart, ReportsComeFirst, RunsBegin, WorksGoOn};
 
@@ -16,8 +16,8 @@ pub fn changes_lead_on()
     ensures toward { LeadsAreToward }
 {}
 
-/// Points on the way to the time of a line, one behind another, may each be meant. A mark that a command's record needs first comes right
-/// before the command. The ending point comes right behind the command of an accepted end, and nothing changes behind it.
+/// Points on the way to the time of a line, one after another, may each be meant. A mark that a command's record needs first comes right
+/// before the command. The ending point comes right after the command of an accepted end, and nothing changes after it.
 pub fn ways_lead_on()
     ensures begins { LegsBegin }
     ensures goes_on { LegsGoOn }
@@ -33,7 +33,7 @@ pub fn ways_lead_on()
 {}
 
 /// Each device was hit at most as often as it failed. A hit in a mark that a command's record needs first counts, also if the command takes
-/// the row away; and it counts once, if it stands behind the command again.
+/// the row away; and it counts once, if it stands after the command again.
 pub fn hits_are_counted()
     ensures stay { HitsStayCounted }
     ensures more { MarkedHitsAreCounted }
@@ -44,7 +44,7 @@ pub fn hits_are_counted()
 {}
 
 /// The points of a line's command, of a mark that its record needs first, of the end of the session and of a stage may be meant. The line is
-/// a step of the rows, behind which the rows that the mark hit stand as the hits left them.
+/// a step of the rows, after which the rows that the mark hit stand as the hits left them.
 pub fn commands_lead_on()
     ensures meant { CommandsMayBeMeant }
     ensures mark { MarksMayBeMeant }
@@ -66,18 +66,18 @@ pub fn flags_are_in_time()
     ensures stage { StagesMayBeMeantInTime }
 {}
 
-/// Lines are answered at the ends of legs, one behind another, and before the start and behind the end by their commands alone.
+/// Lines are answered at the ends of legs, one after another, and before the start and after the end by their commands alone.
 pub fn lines_are_answered()
     ensures answered { CommandsAreAnswered }
     ensures inactive { InactiveAreAnswered }
-    ensures next { LegsBeginBehindCommands }
-    ensures ended { LegsBeginBehindEnds }
-    ensures told { RepliesTellAccepted }
-    ensures before { RepliesTellBefore }
+    ensures next { LegsBeginAfterCommands }
+    ensures ended { LegsBeginAfterEnds }
+    ensures told { RepliesSayAccepted }
+    ensures before { RepliesSayBefore }
 {}
 
 /// The exact reply to a line, with a report before it where the line is an accepted query, is a reply to the line. No time that it says is
-/// later than that of the session behind the line. The tables of a course have names where all that its run may name has. A
+/// later than that of the session after the line. The tables of a course have names where all that its run may name has. A
 /// text is the exact reply to lines of one time and one command's word alone, of which all or none are refused, for one reason.
 pub fn replies_are_exact()
     ensures names { CoursesHaveNames }
@@ -123,7 +123,7 @@ pub fn points_stay_passed<P: Plant>(old: &P, new: &P)
 {}
 
 /// A pair that was suspended while duplex owes the tracks written since. The points that were passed tell whether it was duplex. The points
-/// that a reply tells of are those up to a moment before its command, so that its tracks are the owed ones.
+/// that a reply speaks of are those up to a moment before its command, so that its tracks are the owed ones.
 pub fn owed_tracks_are_told<P: Plant>(plant: &P)
     ensures duplex { DuplexIsByMoments (P.state plant.now) }
     ensures owed { SuspendedOweChanges (P.state plant.now) }

@@ -84,6 +84,6 @@ length_is m range =
     nested_spelling : (m : Mark) → mark_spelling m ≡ codes "XCTL" ++ (to_be_bytes w64 m.number ++ (session_field m.session ++ back m))
     nested_spelling m = simp append_assoc refl
 
--- three parts of a mark's bytes, put one behind the other
+-- three parts of a mark's bytes, put one after the other
 pub joined : (x : List ℕ) (b : ℕ) (s p n t g : List ℕ) → x ++ (b ∷ s ++ p ++ n ++ t ++ g) ≡ x ++ b ∷ [] ++ s ++ p ++ n ++ t ++ g
 joined x b s p n t g = simp append_assoc refl

@@ -5,7 +5,7 @@ use Rattle.std.proofs.lemmas.List.{take-take, drop-drop, drop_at, get_or-drop}
 use Rattle.crash_plant.specs.Bytes.{patched, Torn}
 use Rattle.crash_plant.proofs.Patches.{patched_torn}
 use Rattle.crash_plant.specs.Gates.{Gated}
-use Rattle.crash_plant.proofs.Behind.{torn_here}
+use Rattle.crash_plant.proofs.BehindGates.{torn_here}
 use Rattle.control_set.specs.declared.value.Mark.{Mark}
 use Rattle.control_set.specs.declared.slot.Slot.{Slot}
 use Rattle.control_set.specs.declared.slot.Slot.TheVariants.{Closed, Holds, Damaged}

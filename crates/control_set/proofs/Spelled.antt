@@ -24,7 +24,7 @@ byte_is n lt = ap (λ k. k ∷ []) (omega (arith, lt))
 flag_is : (n : ℕ) → n ≤ 1 → n ≡ flag (nat_eq n 1)
 flag_is n le = grind (arith, le)
 
--- ---- the fields behind the state slot
+-- ---- the fields after the state slot
 
 abbrev pub back_spelling : Mark → List ℕ
 back_spelling m = to_be_bytes w16 m.at.set ++ to_be_bytes w64 m.at.place ++ to_be_bytes w64 m.at.number ++ to_be_bytes w64 m.time.0 ++ flag m.ended ∷ []

@@ -11,7 +11,7 @@ use byteorder::{BigEndian, ByteOrder};
 /// The length of a mark's bytes.
 pub(crate) const FIELDS: usize = 48;
 
-/// Puts two parts one behind the other.
+/// Puts two parts one after the other.
 fn join(out: &mut [u8], front: &[u8], back: &[u8])
     requires { length out.old ≡ length front.now + length back.now }
     ensures { out.new ≡ front.now ++ back.now }
@@ -37,7 +37,7 @@ fn flag_byte(is: bool) -> u8
     u8::from(is)
 }
 
-/// The fields behind the session.
+/// The fields after the session.
 fn back_fields(mark: &Mark) -> [u8; 28]
     ensures { result ≡ mark.now.state_slot ∷ to_be_bytes w16 mark.now.at.set ++ to_be_bytes w64 mark.now.at.place ++ to_be_bytes w64 mark.now.at.number ++ to_be_bytes w64 mark.now.time.0 ++ flag mark.now.ended ∷ [] }
 {

@@ -11,7 +11,7 @@ pub struct Mark {
     pub state_slot: u8,
     /// The spot of the next journal record.
     pub at: Spot,
-    /// The time up to which all records are behind the mark, at least 1.
+    /// The time up to which all records are after the mark, at least 1.
     pub time: Stamp,
     /// Whether the session has ended.
     pub ended: bool,

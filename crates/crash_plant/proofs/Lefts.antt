@@ -25,7 +25,7 @@ pub filled_push : (choice : List ℕ) (writes : List Note) (n : Note) (bytes : L
 filled_push choice [] n bytes = refl
 filled_push choice (x ∷ writes) n bytes = filled_push choice writes n (filled choice x.done bytes)
 
--- The open writes are those behind a place in the record.
+-- The open writes are those after a place in the record.
 open_next_by : (past next : List Note) (i from : ℕ) (n : Note) (done : Done) → n.done ≡ done → length past ≡ i → next ≡ past ++ n ∷ [] → from ≤ i → drop from past ≡ open_writes past → (open_begin n.done from (i + 1) ≤ i + 1) × (drop (open_begin n.done from (i + 1)) next ≡ open_writes next)
 open_next_by past next i from n (Write place count) is size grows within so_far = rw is (
   omega (arith, within),
@@ -98,8 +98,8 @@ module _ (q : ℕ) (xs x y : List ℕ) (p n : ℕ) (torn : Torn p n x y) (fits :
       within : (l : List ℕ) → length (take q l ++ xs) ≡ q + length xs → take p (patched q xs l) ≡ take p (take q l ++ xs)
       within l size = take-append-le p (take q l ++ xs) (drop (q + length xs) l) (omega (arith, to, size))
 
-  behind : q + length xs ≤ p → take p (patched q xs y) ≡ take p (patched q xs x)
-  behind le = parts y both_y ∙ ap (λ (l : List ℕ). (l ++ xs) ++ take (p - (q + length xs)) (drop (q + length xs) y)) (same_front (omega (arith, le))) ∙ ap (λ (l : List ℕ). (take q x ++ xs) ++ l) rest ∙ sym (parts x both_x)
+  after : q + length xs ≤ p → take p (patched q xs y) ≡ take p (patched q xs x)
+  after le = parts y both_y ∙ ap (λ (l : List ℕ). (l ++ xs) ++ take (p - (q + length xs)) (drop (q + length xs) y)) (same_front (omega (arith, le))) ∙ ap (λ (l : List ℕ). (take q x ++ xs) ++ l) rest ∙ sym (parts x both_x)
     where
       parts : (l : List ℕ) → length (take q l ++ xs) ≡ q + length xs → take p (patched q xs l) ≡ (take q l ++ xs) ++ take (p - (q + length xs)) (drop (q + length xs) l)
       parts l size = ap (λ (j : ℕ). take j ((take q l ++ xs) ++ drop (q + length xs) l)) (omega (arith, size, le)) ∙ take-append-add (take q l ++ xs) (drop (q + length xs) l) (p - (q + length xs))
@@ -113,13 +113,13 @@ module _ (q : ℕ) (xs x y : List ℕ) (p n : ℕ) (torn : Torn p n x y) (fits :
   before_both : take p (patched q xs y) ≡ take p (patched q xs x)
   before_both = elim (cases_lt q p) [
     | inl later ↦ elim (cases_lt (q + length xs) p) [
-      | inl past ↦ behind (omega (arith, past))
+      | inl past ↦ after (omega (arith, past))
       | inr within ↦ in_middle (omega (arith, later)) within
     ]
     | inr early ↦ at_front early
   ]
 
-  -- behind what is written
+  -- after what is written
   after_all : q + length xs ≤ p + n → drop (p + n) (patched q xs y) ≡ drop (p + n) (patched q xs x)
   after_all le = past y both_y ∙ torn.after ∙ sym (past x both_x)
     where
@@ -228,8 +228,8 @@ fit_take size [] (suc i) fits = tt
 fit_take size (e ∷ log) (suc i) fits = (fits.0, fit_take size log i fits.1)
 
 -- the calls of the record from a place on
-pub notes_behind : (log seen again : List PastCall) (from : ℕ) → seen ≡ log → again ≡ log → drop from (map note_of again) ≡ open_writes (map note_of again) → map note_of (take (length seen - from) (drop from seen)) ≡ open_writes (map note_of log)
-notes_behind log seen again from is same open_ones =
+pub notes_after : (log seen again : List PastCall) (from : ℕ) → seen ≡ log → again ≡ log → drop from (map note_of again) ≡ open_writes (map note_of again) → map note_of (take (length seen - from) (drop from seen)) ≡ open_writes (map note_of log)
+notes_after log seen again from is same open_ones =
     ap (λ (l : List PastCall). map note_of l) (take_rest seen from) ∙ notes_drop seen from ∙ ap (λ (l : List PastCall). drop from (map note_of l)) (is ∙ sym same) ∙ open_ones ∙ ap (λ (l : List PastCall). open_writes (map note_of l)) same
   where
     notes_drop : (l : List PastCall) (k : ℕ) → map note_of (drop k l) ≡ drop k (map note_of l)

@@ -1,5 +1,5 @@
 pub mod Beginnings
-pub mod Behind
+pub mod BehindGates
 pub mod Choices
 pub mod Consoles
 pub mod Counts

@@ -89,9 +89,9 @@ returns_still lent own ticks disk shelf done later early on is = subst (λ (s : 
     move s t c at_s at_t left = reach_later s t 0 0 (past_of disk) (first_held disk) c disk.in_time at_s at_t left
 
 -- Own calls were made.
-module _ (lent own now : ℕ) (disk new : MemoryDisk) (done : last_till 0 (past_of disk) ≤ clock_of own) (rises : lent < own) (behind : lent + 1 ≤ now) (moves : Moves (clock_of lent) (clock_of now) disk new) where
+module _ (lent own now : ℕ) (disk new : MemoryDisk) (done : last_till 0 (past_of disk) ≤ clock_of own) (rises : lent < own) (after : lent + 1 ≤ now) (moves : Moves (clock_of lent) (clock_of now) disk new) where
   after_lent : clock_of lent + 1 < clock_of now
-  after_lent = omega (arith, behind)
+  after_lent = omega (arith, after)
 
   forth : (t : ℕ) (c : List ℕ) → Reach t (moved (clock_of lent) (clock_of now) (past_of disk)) (first_held disk) c → Reach t (past_of new) (first_held new) c
   forth t c left = subst (λ (l : List ℕ). Reach t (past_of new) l c) (sym moves.base) (subst (λ (l : List Note). Reach t l (first_held disk) c) (sym moves.past) left)
@@ -181,5 +181,5 @@ module _ (a b : MemoryDisks) (x y : MemoryConsole) (f g : Device → ℕ) (p q v
 
 -- A volume with own calls is in its place, moved.
 pub shelves_moved : (own at lent ticks now : ℕ) (disk new : MemoryDisk) (shelf : Shelf) → at ≡ lent → at < own → own ≤ last_tick → at + 1 ≤ now → Moves (clock_of at) (clock_of now) disk new → shelf ≡ Here new → Shelves own lent ticks now disk shelf
-shelves_moved own at lent ticks now disk new shelf same rises within behind moves is =
-    subst (λ (n : ℕ). Shelves own n ticks now disk shelf) same ((λ up. (behind, omega (arith, rises, within), (new, moves, is))), (λ early. absurd (omega (arith, rises, early))))
+shelves_moved own at lent ticks now disk new shelf same rises within after moves is =
+    subst (λ (n : ℕ). Shelves own n ticks now disk shelf) same ((λ up. (after, omega (arith, rises, within), (new, moves, is))), (λ early. absurd (omega (arith, rises, early))))

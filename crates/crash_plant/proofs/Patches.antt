@@ -17,7 +17,7 @@ patched_torn place bytes old new fits is = record {
     middle : length (take place old ++ bytes) ≡ place + length bytes
     middle = omega (arith, front, length-append (take place old) bytes)
 
--- two writes, one behind the other
+-- two writes, one after the other
 pub torn_twice : (p m n : ℕ) (a b c : List ℕ) → Torn p m a b → Torn (p + m) n b c → Torn p (m + n) a c
 torn_twice p m n a b c x y = record {
   before = sym (take-take p (p + m) c (omega arith)) ∙ ap (λ (l : List ℕ). take p l) y.before ∙ take-take p (p + m) b (omega arith) ∙ x.before;
@@ -32,7 +32,7 @@ torn_twice p m n a b c x y = record {
 pub torn_more : (p m n : ℕ) (a b : List ℕ) → Torn p m a b → Torn p (m + n) a b
 torn_more p m n a b x = torn_twice p m n a b b x (record { before = refl; after = refl; size = refl })
 
--- Two writes, one behind the other, are one write of both.
+-- Two writes, one after the other, are one write of both.
 pub patched_twice : (p : ℕ) (f b old : List ℕ) → p + length f + length b ≤ length old → patched (p + length f) b (patched p f old) ≡ patched p (f ++ b) old
 patched_twice p f b old fits = ap (λ (l : List ℕ). l ++ b ++ drop (p + length f + length b) (patched p f old)) front ∙ ap (λ (l : List ℕ). take p old ++ f ++ b ++ l) back ∙ ap (λ (l : List ℕ). l ++ drop (p + length (f ++ b)) old) (append_assoc (take p old) f b)
   where

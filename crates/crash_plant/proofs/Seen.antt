@@ -95,7 +95,7 @@ seen_of_volume_here see see_place none control state journals volumes v number p
 pub seen_is_at : {A B : Type 0} (see : A → B) (none : B) (xs : List A) (i number : ℕ) (x : A) → i ≡ number → x ≡ slice_index_or xs i x → i < length xs → seen_at see none xs number ≡ see x
 seen_is_at see none xs i number x is was within = subst (λ (n : ℕ). seen_at see none xs n ≡ see x) is (seen_is see none xs i x was within)
 
--- One item more, whose place is behind those before it.
+-- One item more, whose place is after those before it.
 pub seen_push : {A B : Type 0} (see : A → B) (none : B) (value : ℕ → B) (xs ys : List A) (x : A) (n : ℕ) → length xs ≡ n → ys ≡ xs ++ x ∷ [] → ((i : ℕ) → i < n → seen_at see none xs i ≡ value i) → see x ≡ value n → (i : ℕ) → i < n + 1 → seen_at see none ys i ≡ value i
 seen_push see none value xs ys x n size is before last i less = elim (cases_lt i n) [
   | inl early ↦ ap (λ (zs : List _). seen_at see none zs i) is ∙ seen_push_before see none xs x i (omega (arith, early, size)) ∙ before i early
@@ -141,14 +141,14 @@ module _ {D P B : Type 0} (see : D → B) (see_place : P → B) (none : B) (cont
   pub volume_is : (place : P) → device ≡ Volume number → i < length volumes → seen_of see see_place none control state journals (slice_set volumes i place) device ≡ see_place place
   volume_is place is within = subst (λ (d : Device). seen_of see see_place none control state journals (slice_set volumes i place) d ≡ see_place place) (sym is) (seen_of_volume_here see see_place none control state journals volumes i number place index_is within)
 
--- What is seen of no item, nor behind the end.
+-- What is seen of no item, nor after the end.
 pub seen_none : {A B : Type 0} (see : A → B) (none : B) (xs : List A) (n : ℕ) → length xs ≡ n → ((i : ℕ) → i < n → seen_at see none xs i ≡ none) → (i : ℕ) → seen_at see none xs i ≡ none
-seen_none see none xs n size each i = elim (cases_lt i (length xs)) [ inl within ↦ each i (omega (arith, within, size)) | inr past ↦ behind xs i past ]
+seen_none see none xs n size each i = elim (cases_lt i (length xs)) [ inl within ↦ each i (omega (arith, within, size)) | inr past ↦ after xs i past ]
   where
-    behind : (ys : List _) (k : ℕ) → length ys ≤ k → seen_at see none ys k ≡ none
-    behind [] k le = refl
-    behind (y ∷ ys) zero le = absurd (omega (arith, le))
-    behind (y ∷ ys) (suc k) le = behind ys k (omega (arith, le))
+    after : (ys : List _) (k : ℕ) → length ys ≤ k → seen_at see none ys k ≡ none
+    after [] k le = refl
+    after (y ∷ ys) zero le = absurd (omega (arith, le))
+    after (y ∷ ys) (suc k) le = after ys k (omega (arith, le))
 
 pub seen_of_none : {D P B : Type 0} (see : D → B) (see_place : P → B) (none : B) (control state : D) (journals : List D) (volumes : List P) → see control ≡ none → see state ≡ none → ((j : ℕ) → seen_at see none journals j ≡ none) → ((v : ℕ) → seen_at see_place none volumes v ≡ none) → (d : Device) → seen_of see see_place none control state journals volumes d ≡ none
 seen_of_none see see_place none control state journals volumes at_control at_state at_journals at_volumes Control = at_control

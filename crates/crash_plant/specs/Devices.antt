@@ -5,7 +5,7 @@ use Rattle.crash_plant.specs.declared.device.Device.{Device}
 use Rattle.crash_plant.specs.declared.device.Device.TheVariants.{Control, State, Journal, Volume}
 use Rattle.crash_plant.specs.PastlessPlants.{Contents}
 
--- what is seen of the item at an index; behind the end it is the second argument
+-- what is seen of the item at an index; after the end it is the second argument
 abbrev pub seen_at : {A B : Type 0} → (A → B) → B → List A → ℕ → B
 seen_at see none [] i = none
 seen_at see none (x ∷ xs) zero = see x

@@ -10,17 +10,17 @@ abbrev pub repeated : List ℕ → ℕ → List ℕ
 repeated choice zero = []
 repeated choice (suc n) = repeated choice n ++ get_or choice (n % length choice) 0 ∷ []
 
--- the writes that are open behind a call, where these were before it
+-- the writes that are open after a call, where these were before it
 abbrev pub open_then : Note → Done → List Note → List Note
 open_then n (Write place count) open_before = open_before ++ n ∷ []
 open_then n Sync open_before = []
 
--- where they begin in the record, behind the call before this one
+-- where they begin in the record, after the call before this one
 abbrev pub open_begin : Done → ℕ → ℕ → ℕ
 open_begin (Write place count) from next = from
 open_begin Sync from next = next
 
--- the writes since the last sync, behind these
+-- the writes since the last sync, after these
 abbrev pub open_after : List Note → List Note → List Note
 open_after open_before [] = open_before
 open_after open_before (n ∷ past) = open_after (open_then n n.done open_before) past

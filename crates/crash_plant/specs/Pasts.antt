@@ -21,7 +21,7 @@ abbrev pub Step : Done → List ℕ → List ℕ → List ℕ → Type 0
 Step (Write place count) after b c = Torn place count b c
 Step Sync after b c = c ≡ after
 
--- An image at a moment. A call isn't done, and none behind it, where its end is later; it is done where its beginning isn't
+-- An image at a moment. A call isn't done, and none after it, where its end is later; it is done where its beginning isn't
 -- later. Between the two it may be done or not.
 abbrev pub Reach : ℕ → List Note → List ℕ → List ℕ → Type 0
 Reach t [] b c = c ≡ b
@@ -51,7 +51,7 @@ abbrev pub Chains : List ℕ → List Note → List ℕ → Type 0
 Chains b [] now = now ≡ b
 Chains b (n ∷ past) now = Does n.done b n.after × Chains n.after past now
 
--- Calls stand in the order of their moments, behind a call of these.
+-- Calls stand in the order of their moments, after a call of these.
 abbrev pub InTime : ℕ → ℕ → List Note → Type 0
 InTime since till [] = ⊤
 InTime since till (n ∷ past) = (since ≤ n.since) × (till ≤ n.till) × (since < n.till) × (n.since ≤ n.till) × InTime n.since n.till past

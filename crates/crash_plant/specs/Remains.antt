@@ -10,7 +10,7 @@ use Rattle.crash_plant.specs.MemoryDisk.{held, past_of}
 use Rattle.crash_plant.specs.PlainPlant.{disk_bytes, disk_length, place_bytes, place_length, place_is_lent}
 use Rattle.crash_plant.specs.Shelves.{shelf_length, shelf_is_lent}
 
--- what is known of a place behind a crash
+-- what is known of a place after a crash
 pub record Remains : Type 0 where
   pub bytes : List ℕ
   pub length_is : ℕ

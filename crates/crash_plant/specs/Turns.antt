@@ -3,7 +3,7 @@ use Rattle.std.specs.Prelude.{◌≤◌, ℕ, cond, nat_le, List, [], ◌∷◌,
 use Rattle.std.specs.Coded.{Unit-prop, le_prop}
 use Rattle.crash_plant.specs.declared.turn.ConsoleTurn.{ConsoleTurn}
 
--- the last call up to a moment, behind one
+-- the last call up to a moment, after one
 abbrev pub turn_at : ℕ → ConsoleTurn → List ConsoleTurn → ConsoleTurn
 turn_at t first [] = first
 turn_at t first (x ∷ turns) = cond (nat_le x.at t) (turn_at t x turns) first

@@ -32,7 +32,7 @@ pub(crate) fn back(ticks: u64, lent: u64) -> u64
     requires room { lent + 1 ≤ last_tick }
     requires within { ticks ≤ last_tick }
     ensures later { ticks ≤ result }
-    ensures behind { lent + 1 ≤ result }
+    ensures after { lent + 1 ≤ result }
     ensures within { result ≤ last_tick }
     ensures by_one { lent ≤ ticks → result ≤ ticks + 1 }
 {

@@ -42,7 +42,7 @@ impl<R: Read + Drop, W: Write + Drop> Console<R, W> {
         })
     }
 
-    // Gives the next byte, or the end. Behind the end there is nothing to read.
+    // Gives the next byte, or the end. After the end there is nothing to read.
     pub(crate) fn hear(&mut self) -> Result<Heard, Failed>
         ensures ended { result ≡ Ok End → self.new.has_ended ≡ true }
         ensures still { self.old.has_ended ≡ true → result ≡ Ok End × self.new ≡ self.old }

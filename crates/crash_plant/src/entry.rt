@@ -10,7 +10,7 @@ pub(crate) enum Done {
 }
 
 /// A call in the record of a disk. It began at a moment and was done at another: a crash between may have come before it or
-/// behind it. What the disk held then takes no memory.
+/// after it. What the disk held then takes no memory.
 #[derive(Drop)]
 pub(crate) struct PastCall {
     pub(crate) since: u64,

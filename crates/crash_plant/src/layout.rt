@@ -12,5 +12,5 @@ pub const HEADER: usize = 21;
 /// The length of a gate and a header.
 pub const FRONT: u64 = 1 + HEADER as u64;
 
-/// The length of a switch: a gate, a header, and the number of a data set. So much room is kept behind each group.
+/// The length of a switch: a gate, a header, and the number of a data set. So much room is kept after each group.
 pub const SWITCH: u64 = FRONT + 2;

@@ -43,7 +43,7 @@ fn fill(alloc: Global, bytes: &mut Vec<u8>, done: Done, choice: &[u8]) -> Result
     }
 }
 
-// Where the open writes begin behind a call, where they began before it.
+// Where the open writes begin after a call, where they began before it.
 fn begin_then(done: Done, from: usize, next: usize) -> usize
     ensures { result ≡ open_begin done from next }
 {
@@ -53,7 +53,7 @@ fn begin_then(done: Done, from: usize, next: usize) -> usize
     }
 }
 
-/// Where in the record the writes behind the last sync begin.
+/// Where in the record the writes after the last sync begin.
 pub(crate) fn open_from(log: &[PastCall]) -> usize
     ensures within { result ≤ length log.now }
     ensures open_ones { drop result (map note_of log.now) ≡ open_writes (map note_of log.now) }

@@ -58,7 +58,7 @@ fn move_entry(entry: &mut PastCall, lent: u64, till: u64)
     }
 }
 
-// The calls behind a moment were done between that and another.
+// The calls after a moment were done between that and another.
 fn move_entries(log: &mut Vec<PastCall>, lent: u64, till: u64)
     requires { lent + 1 < till }
     ensures { log.new.items ≡ map (moved_entry lent till) log.old.items }

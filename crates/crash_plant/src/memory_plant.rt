@@ -154,7 +154,7 @@ impl MemoryPlant {
         }
     }
 
-    // Puts a volume in its place whose own clock stands at a tick. Its own calls lie between the moment behind that of the
+    // Puts a volume in its place whose own clock stands at a tick. Its own calls lie between the moment after that of the
     // loan and now.
     fn shelve(&mut self, device: u16, disk: MemoryDisk, ticks: u64)
         requires there { device < volumes_of self.old.disks }

@@ -5,7 +5,7 @@ use Rattle.std.specs.List.{list_any, list_all}
 use Rattle.std.proofs.Math.Bool.{or-false, and-false, and-true, or_assoc, and_assoc}
 use Rattle.std.proofs.lemmas.Bool.{and_parts, and_from, or_left, or_right, cases_Bool, eqb-true}
 use Rattle.std.proofs.lemmas.List.Elements.{filter-append, filter_agree}
-use Rattle.cut_core.specs.Events.{Event, told_upto, floor, is_break_of, is_broken_after, is_form_at, is_done, cut_after, last_cut_from, last_cut}
+use Rattle.cut_core.specs.Events.{Event, reported_upto, floor, is_break_of, is_broken_after, is_form_at, is_done, cut_after, last_cut_from, last_cut}
 use Rattle.cut_core.specs.Events.Event.{Form}
 use Rattle.cut_core.specs.Groups.{CarriedEntry, carried_by, forms, drops, still_waits, waiting_in}
 use Rattle.cut_core.proofs.Filters.{filter_both, filter_all, and_swap}
@@ -30,8 +30,8 @@ all_snoc p (y ∷ past) x = rw (all_snoc p past x) (sym (and_assoc (p y) (list_a
 
 -- ---- floors, breaks and cuts
 
--- the floor rises to what one more event tells
-pub floor_snoc : (k : ℕ) (past : List Event) (x : Event) → floor k (past ++ x ∷ []) ≡ max (floor k past) (told_upto k x)
+-- the floor rises to what one more event reports
+pub floor_snoc : (k : ℕ) (past : List Event) (x : Event) → floor k (past ++ x ∷ []) ≡ max (floor k past) (reported_upto k x)
 floor_snoc k [] x = omega arith
 floor_snoc k (y ∷ past) x = omega (arith, floor_snoc k past x)
 
@@ -49,8 +49,8 @@ cut_snoc past x = last_cut_append 0 past (x ∷ [])
 
 done_broke : (k : ℕ) (past : List Event) → is_done k past ≡ true → is_broken_after k past ≡ true
 done_broke k [] e = absurd cc
-done_broke k (x ∷ past) e = elim (either_true (is_break_of k x && list_any (is_form_at (told_upto k x)) past) (is_done k past) e) [
-  | inl here ↦ or_left (is_break_of k x) (is_broken_after k past) (and_parts (is_break_of k x) (list_any (is_form_at (told_upto k x)) past) here).0
+done_broke k (x ∷ past) e = elim (either_true (is_break_of k x && list_any (is_form_at (reported_upto k x)) past) (is_done k past) e) [
+  | inl here ↦ or_left (is_break_of k x) (is_broken_after k past) (and_parts (is_break_of k x) (list_any (is_form_at (reported_upto k x)) past) here).0
   | inr there ↦ or_right (is_break_of k x) (is_broken_after k past) (done_broke k past there)
 ]
 
@@ -65,24 +65,24 @@ not_done k past e = elim (cases_Bool (is_done k past)) [
 pub done_more : (k : ℕ) (past : List Event) (x : Event) → is_done k past ≡ true → is_done k (past ++ x ∷ []) ≡ true
 done_more k [] x e = absurd cc
 done_more k (y ∷ past) x e =
-    let f = list_any (is_form_at (told_upto k y)) past in
-    let now = is_break_of k y && list_any (is_form_at (told_upto k y)) (past ++ x ∷ []) in
+    let f = list_any (is_form_at (reported_upto k y)) past in
+    let now = is_break_of k y && list_any (is_form_at (reported_upto k y)) (past ++ x ∷ []) in
     elim (either_true (is_break_of k y && f) (is_done k past) e) [
       | inr there ↦ or_right now (is_done k (past ++ x ∷ [])) (done_more k past x there)
       | inl here ↦
           let parts = and_parts (is_break_of k y) f here in
-          or_left now (is_done k (past ++ x ∷ [])) (and_from (is_break_of k y) (list_any (is_form_at (told_upto k y)) (past ++ x ∷ [])) parts.0
-          (rw (any_snoc (is_form_at (told_upto k y)) past x) (or_left f (is_form_at (told_upto k y) x) parts.1)))
+          or_left now (is_done k (past ++ x ∷ [])) (and_from (is_break_of k y) (list_any (is_form_at (reported_upto k y)) (past ++ x ∷ [])) parts.0
+          (rw (any_snoc (is_form_at (reported_upto k y)) past x) (or_left f (is_form_at (reported_upto k y) x) parts.1)))
     ]
 
--- an event that is no form makes no control done
+-- an event that is no form makes no controller done
 pub done_stays : (k : ℕ) (past : List Event) (x : Event) → ((t : ℕ) → is_form_at t x ≡ false) → is_done k (past ++ x ∷ []) ≡ is_done k past
 done_stays k [] x none = rw (and-false (is_break_of k x)) refl
-done_stays k (y ∷ past) x none = rw (any_snoc (is_form_at (told_upto k y)) past x, none (told_upto k y), or-false (list_any (is_form_at (told_upto k y)) past), done_stays k past x none) refl
+done_stays k (y ∷ past) x none = rw (any_snoc (is_form_at (reported_upto k y)) past x, none (reported_upto k y), or-false (list_any (is_form_at (reported_upto k y)) past), done_stays k past x none) refl
 
--- every break of the control has this time
+-- every break of the controller has this time
 abbrev pub breaks_at : (k t : ℕ) → List Event → Bool
-breaks_at k t past = list_all (λ e. not (is_break_of k e) || told_upto k e == t) past
+breaks_at k t past = list_all (λ e. not (is_break_of k e) || reported_upto k e == t) past
 
 break_time : (b same : Bool) → (not b || same) ≡ true → b ≡ true → same ≡ true
 break_time true same e is = e
@@ -101,14 +101,14 @@ mix : (b f x t d h : Bool) → (b ≡ true → x ≡ t) → ((b && (f || x)) || 
 mix true f x t d h e = rw (e refl) (mixed f t d h)
 mix false f x t d h e = refl
 
--- a form makes a control done where that has broken at the form's cut
+-- a form makes a controller done where that has broken at the form's cut
 pub done_form : (k t c : ℕ) (past : List Event) → breaks_at k t past ≡ true → is_done k (past ++ Form c ∷ []) ≡ (is_done k past || (is_broken_after k past && c == t))
 done_form k t c [] e = refl
 done_form k t c (y ∷ past) e =
-    let parts = and_parts (not (is_break_of k y) || told_upto k y == t) (breaks_at k t past) e in
-    rw (any_snoc (is_form_at (told_upto k y)) past (Form c), done_form k t c past parts.1)
-    (mix (is_break_of k y) (list_any (is_form_at (told_upto k y)) past) (c == told_upto k y) (c == t) (is_done k past) (is_broken_after k past)
-    (λ is. ap (λ u. c == u) (eqb-true (told_upto k y) t (break_time (is_break_of k y) (told_upto k y == t) parts.0 is))))
+    let parts = and_parts (not (is_break_of k y) || reported_upto k y == t) (breaks_at k t past) e in
+    rw (any_snoc (is_form_at (reported_upto k y)) past (Form c), done_form k t c past parts.1)
+    (mix (is_break_of k y) (list_any (is_form_at (reported_upto k y)) past) (c == reported_upto k y) (c == t) (is_done k past) (is_broken_after k past)
+    (λ is. ap (λ u. c == u) (eqb-true (reported_upto k y) t (break_time (is_break_of k y) (reported_upto k y == t) parts.0 is))))
 
 -- ---- what waits
 

@@ -5,7 +5,7 @@ use Rattle.std.specs.List.{list_all}
 use Rattle.std.proofs.lemmas.Bool.{and_parts, and_from, or_parts, or_right, not-true, not-false, cases_Bool, cases_lt, ltb-true, lt-ltb, leb-true, le-leb, leb-false, eqb-true, eq-eqb}
 use Rattle.std.proofs.lemmas.List.Folds.{list_all-append}
 use Rattle.ckd_track.specs.declared.write.Write.{Write}
-use Rattle.cut_core.specs.Events.{Event, told_upto, floor, is_break_of, is_broken_after, is_done, is_live, cut_after, last_cut}
+use Rattle.cut_core.specs.Events.{Event, reported_upto, floor, is_break_of, is_broken_after, is_done, is_live, cut_after, last_cut}
 use Rattle.cut_core.specs.Events.Event.{Join, Copied, Break, Raise, Form, Drop, Carry, Resume, Forget}
 use Rattle.cut_core.specs.Groups.{CarriedEntry, carried_entry, is_copy, is_write_carried, carried_by, waiting_in}
 use Rattle.cut_core.specs.LegalHistories.{are_in, is_below_floors, is_legal_next, are_legal}
@@ -14,7 +14,7 @@ use Rattle.cut_core.proofs.Legality.{joins, copies, forms_at, told}
 use Rattle.cut_core.proofs.Ends.{clash, either_true, all_snoc, floor_snoc, cut_snoc, not_done, done_more, breaks_at, stays, waiting_snoc}
 use Rattle.cut_core.proofs.Rising.{IsRising, rising_next}
 
--- A control is done, or its floor is at or above the cut.
+-- A controller is done, or its floor is at or above the cut.
 abbrev pub IsAbove : (cut k : ℕ) → List Event → Type 0
 IsAbove cut k past = (is_done k past ≡ true) ⊎ (cut ≤ floor k past)
 
@@ -23,16 +23,16 @@ abbrev pub is_past : (cut : ℕ) → CarriedEntry → Bool
 is_past cut e = nat_lt cut e.stamp || (is_copy e && nat_le cut e.stamp)
 
 pub record Kept (n : ℕ) (past : List Event) : Type 0 where
-  -- a control that isn't done has its floor at or above the last cut
+  -- a controller that isn't done has its floor at or above the last cut
   pub floors : (k : ℕ) → k < n → IsAbove (last_cut past) k past
-  -- each break of a control has its floor as time
+  -- each break of a controller has its floor as time
   pub breaks : (k : ℕ) → breaks_at k (floor k past) past ≡ true
   -- what waits is past the last cut
   pub waits : list_all (is_past (last_cut past)) (waiting_in [] past) ≡ true
-  -- a control's waiting entries stand by their stamps, up to its floor
+  -- a controller's waiting entries stand by their stamps, up to its floor
   pub rises : (k : ℕ) → IsRising k past
 
--- the floor of a control that hasn't broken
+-- the floor of a controller that hasn't broken
 pub floor_above : (n k : ℕ) (past : List Event) → Kept n past → k < n → is_broken_after k past ≡ false → last_cut past ≤ floor k past
 floor_above n k past kept lt unbroken = elim (kept.floors k lt) [
   | inr le ↦ le
@@ -45,7 +45,7 @@ above_more : (cut k : ℕ) (past : List Event) (x : Event) → IsAbove cut k pas
 above_more cut k past x (inl done) = inl (done_more k past x done)
 above_more cut k past x (inr le) = inr (omega (arith, floor_snoc k past x))
 
--- what a legal cut says of each control
+-- what a legal cut says of each controller
 pub above_cut : (n cut k : ℕ) (past : List Event) → is_below_floors n cut past ≡ true → k < n → IsAbove cut k past
 above_cut zero cut k past e lt = absurd (omega arith)
 above_cut (suc n) cut k past e lt =
@@ -71,21 +71,21 @@ floors_next n past (Forget j v) legal at k lt = above_more (last_cut past) k pas
 
 -- ---- breaks
 
--- a control that hasn't broken has no break at another time
+-- a controller that hasn't broken has no break at another time
 unbroken_at : (k t : ℕ) (past : List Event) → is_broken_after k past ≡ false → breaks_at k t past ≡ true
 unbroken_at k t [] e = refl
 unbroken_at k t (y ∷ past) e =
     let parts = or_parts (is_break_of k y) (is_broken_after k past) e in
     rw parts.0 (unbroken_at k t past parts.1)
 
--- after an event that isn't the control's, and after one of a control that hasn't broken
-after_quiet : (k : ℕ) (past : List Event) (x : Event) → is_break_of k x ≡ false → told_upto k x ≡ 0 → breaks_at k (floor k past) past ≡ true → breaks_at k (floor k (past ++ x ∷ [])) (past ++ x ∷ []) ≡ true
+-- after an event that isn't the controller's, and after one of a controller that hasn't broken
+after_quiet : (k : ℕ) (past : List Event) (x : Event) → is_break_of k x ≡ false → reported_upto k x ≡ 0 → breaks_at k (floor k past) past ≡ true → breaks_at k (floor k (past ++ x ∷ [])) (past ++ x ∷ []) ≡ true
 after_quiet k past x none untold e =
     let same : floor k (past ++ x ∷ []) ≡ floor k past = omega (arith, floor_snoc k past x, untold) in
-    rw (same, all_snoc (λ y. not (is_break_of k y) || told_upto k y == floor k past) past x, e, none) refl
+    rw (same, all_snoc (λ y. not (is_break_of k y) || reported_upto k y == floor k past) past x, e, none) refl
 
-after_told : (k t : ℕ) (past : List Event) (x : Event) → is_broken_after k past ≡ false → (not (is_break_of k x) || told_upto k x == t) ≡ true → breaks_at k t (past ++ x ∷ []) ≡ true
-after_told k t past x none e = rw (all_snoc (λ y. not (is_break_of k y) || told_upto k y == t) past x, unbroken_at k t past none, e) refl
+after_told : (k t : ℕ) (past : List Event) (x : Event) → is_broken_after k past ≡ false → (not (is_break_of k x) || reported_upto k x == t) ≡ true → breaks_at k t (past ++ x ∷ []) ≡ true
+after_told k t past x none e = rw (all_snoc (λ y. not (is_break_of k y) || reported_upto k y == t) past x, unbroken_at k t past none, e) refl
 
 breaks_next : (n k : ℕ) (past : List Event) (x : Event) → is_legal_next n past x ≡ true → breaks_at k (floor k past) past ≡ true → breaks_at k (floor k (past ++ x ∷ [])) (past ++ x ∷ []) ≡ true
 breaks_next n k past (Join b) legal e =
@@ -105,10 +105,10 @@ breaks_next n k past (Break j u) legal e =
           let parts = told n j u past legal in
           let is : j ≡ k = eqb-true j k same in
           let le : floor k past ≤ u = subst (λ i. floor i past ≤ u) is parts.up in
-          let upto : told_upto k (Break j u) ≡ u = rw same refl in
-          let up : told_upto k (Break j u) ≡ floor k (past ++ Break j u ∷ []) = omega (arith, floor_snoc k past (Break j u), upto, le) in
+          let upto : reported_upto k (Break j u) ≡ u = rw same refl in
+          let up : reported_upto k (Break j u) ≡ floor k (past ++ Break j u ∷ []) = omega (arith, floor_snoc k past (Break j u), upto, le) in
           after_told k (floor k (past ++ Break j u ∷ [])) past (Break j u) (subst (λ i. is_broken_after i past ≡ false) is parts.unbroken)
-          (or_right (not (is_break_of k (Break j u))) (told_upto k (Break j u) == floor k (past ++ Break j u ∷ [])) (eq-eqb (told_upto k (Break j u)) (floor k (past ++ Break j u ∷ [])) up))
+          (or_right (not (is_break_of k (Break j u))) (reported_upto k (Break j u) == floor k (past ++ Break j u ∷ [])) (eq-eqb (reported_upto k (Break j u)) (floor k (past ++ Break j u ∷ [])) up))
     ]
 breaks_next n k past (Copied j v y s) legal e = after_quiet k past (Copied j v y s) refl refl e
 breaks_next n k past (Form c) legal e = after_quiet k past (Form c) refl refl e

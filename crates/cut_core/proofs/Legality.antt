@@ -6,24 +6,24 @@ use Rattle.xrc_edge.specs.Order.{is_in_order}
 use Rattle.cut_core.specs.Events.{Event, floor, is_broken_after, last_cut}
 use Rattle.cut_core.specs.Events.Event.{Join, Copied, Form}
 use Rattle.cut_core.specs.Shares.{share}
-use Rattle.cut_core.specs.LegalHistories.{are_in, may_tell, is_below_floors, is_legal_next, are_legal}
+use Rattle.cut_core.specs.LegalHistories.{are_in, may_report, is_below_floors, is_legal_next, are_legal}
 use Rattle.ckd_track.specs.Writes.{is_earlier}
 
--- it is one of the controls, hasn't broken, and tells no earlier time
+-- it is one of the controllers, hasn't broken, and reports no earlier time
 pub record Tells (n j u : ℕ) (past : List Event) : Type 0 where
   pub control : j < n
   pub unbroken : is_broken_after j past ≡ false
   pub up : floor j past ≤ u
 
-pub tells : (n j u : ℕ) (past : List Event) → may_tell n j past ≡ true → nat_le (floor j past) u ≡ true → Tells n j u past
+pub tells : (n j u : ℕ) (past : List Event) → may_report n j past ≡ true → nat_le (floor j past) u ≡ true → Tells n j u past
 tells n j u past may le =
     let parts = and_parts (nat_lt j n) (not (is_broken_after j past)) may in
     record { control = ltb-true j n parts.0; unbroken = not-true (is_broken_after j past) parts.1; up = leb-true (floor j past) u le }
 
 -- of a break and of a raise
-pub told : (n j u : ℕ) (past : List Event) → (may_tell n j past && nat_le (floor j past) u) ≡ true → Tells n j u past
+pub told : (n j u : ℕ) (past : List Event) → (may_report n j past && nat_le (floor j past) u) ≡ true → Tells n j u past
 told n j u past legal =
-    let parts = and_parts (may_tell n j past) (nat_le (floor j past) u) legal in
+    let parts = and_parts (may_report n j past) (nat_le (floor j past) u) legal in
     tells n j u past parts.0 parts.1
 
 pub record Joins (n : ℕ) (past : List Event) (b : Batch) : Type 0 where
@@ -34,9 +34,9 @@ pub record Joins (n : ℕ) (past : List Event) (b : Batch) : Type 0 where
 pub joins : (n : ℕ) (past : List Event) (b : Batch) → is_legal_next n past (Join b) ≡ true → Joins n past b
 joins n past b legal =
     let k = b.control in
-    let outer = and_parts (may_tell n k past && are_in (floor k past) b.upto.0 b.writes && is_in_order is_earlier b.writes) (nat_le (floor k past) b.upto.0) legal in
-    let inner = and_parts (may_tell n k past && are_in (floor k past) b.upto.0 b.writes) (is_in_order is_earlier b.writes) outer.0 in
-    let parts = and_parts (may_tell n k past) (are_in (floor k past) b.upto.0 b.writes) inner.0 in
+    let outer = and_parts (may_report n k past && are_in (floor k past) b.upto.0 b.writes && is_in_order is_earlier b.writes) (nat_le (floor k past) b.upto.0) legal in
+    let inner = and_parts (may_report n k past && are_in (floor k past) b.upto.0 b.writes) (is_in_order is_earlier b.writes) outer.0 in
+    let parts = and_parts (may_report n k past) (are_in (floor k past) b.upto.0 b.writes) inner.0 in
     record { tells = tells n k b.upto.0 past parts.0 outer.1; within = parts.1; order = inner.1 }
 
 pub record Copies (n k v x s : ℕ) (past : List Event) : Type 0 where
@@ -47,8 +47,8 @@ pub record Copies (n k v x s : ℕ) (past : List Event) : Type 0 where
 
 pub copies : (n k v x s : ℕ) (past : List Event) → is_legal_next n past (Copied k v x s) ≡ true → Copies n k v x s past
 copies n k v x s past legal =
-    let outer = and_parts (may_tell n k past && (share k v x past).is_wanted) (nat_eq s (floor k past)) legal in
-    let inner = and_parts (may_tell n k past) (share k v x past).is_wanted outer.0 in
+    let outer = and_parts (may_report n k past && (share k v x past).is_wanted) (nat_eq s (floor k past)) legal in
+    let inner = and_parts (may_report n k past) (share k v x past).is_wanted outer.0 in
     let may = and_parts (nat_lt k n) (not (is_broken_after k past)) inner.0 in
     record { control = ltb-true k n may.0; unbroken = not-true (is_broken_after k past) may.1; wanted = inner.1; stamp = eqb-true s (floor k past) outer.1 }
 

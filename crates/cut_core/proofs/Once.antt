@@ -1,4 +1,4 @@
--- What becomes of a control's carried entries: a form takes the first of them, and a drop takes out others.
+-- What becomes of a controller's carried entries: a form takes the first of them, and a drop takes out others.
 use Rattle.std.proofs.Common.{inl, inr, ◌≡◌, ℕ, ◌<◌, Bool, true, false, not, cond, nat_le, ◌&&◌, ◌||◌, List, [], ◌∷◌, ◌++◌, refl, sym, ap, subst, ◌∙◌, append_assoc, append-nil, arith}
 use Rattle.std.specs.Prelude.{filter}
 use Rattle.std.proofs.lemmas.Bool.{and_parts, cases_Bool, leb-false, lt-leb}
@@ -53,7 +53,7 @@ first_taken k low high cut d (e ∷ entries) r = elim (cases_Bool (nat_le e.stam
 
 -- ---- one more event
 
--- the control's entries that later ones don't drop
+-- the controller's entries that later ones don't drop
 abbrev lasts : (k : ℕ) → List Event → CarriedEntry → Bool
 lasts k later e = is_of_control k e && not (is_dropped_in later e)
 
@@ -86,7 +86,7 @@ form_right false true r = refl
 form_right false false true = refl
 form_right false false false = refl
 
--- a form: its group is the first of the control's entries, and the others wait
+-- a form: its group is the first of the controller's entries, and the others wait
 formed : (k c : ℕ) (past later : List Event) → IsRising k past
     → filter (is_of_control k) (group past c) ++ filter (lasts k later) (filter (stays (Form c)) (waiting_in [] past)) ≡ filter (lasts k (Form c ∷ later)) (waiting_in [] past)
 formed k c past later r =

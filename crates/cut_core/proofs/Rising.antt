@@ -1,4 +1,4 @@
--- A control's waiting entries stand by their stamps, up to its floor.
+-- A controller's waiting entries stand by their stamps, up to its floor.
 use Rattle.std.proofs.Common.{inl, inr, ◌≡◌, ℕ, ◌≤◌, Bool, true, false, not, cond, nat_eq, nat_lt, nat_le, ◌&&◌, ◌||◌, List, [], ◌∷◌, ◌++◌, map, refl, ap, subst, ◌∙◌, arith}
 use Rattle.std.specs.Prelude.{filter}
 use Rattle.std.specs.List.{list_all}
@@ -6,7 +6,7 @@ use Rattle.std.proofs.lemmas.Bool.{and_parts, and_from, cases_Bool, eqb-true, eq
 use Rattle.std.proofs.lemmas.List.Elements.{filter-append}
 use Rattle.ckd_track.specs.declared.write.Write.{Write}
 use Rattle.xrc_edge.specs.Order.{is_in_order}
-use Rattle.cut_core.specs.Events.{Event, told_upto, floor}
+use Rattle.cut_core.specs.Events.{Event, reported_upto, floor}
 use Rattle.cut_core.specs.Events.Event.{Join, Copied, Break, Raise, Form, Drop, Carry, Resume, Forget}
 use Rattle.cut_core.specs.Groups.{CarriedEntry, carried_entry, copied_entry, is_write_carried, carried_by, waiting_in, comes_before}
 use Rattle.cut_core.specs.LegalHistories.{are_in, is_legal_next}
@@ -16,7 +16,7 @@ use Rattle.cut_core.proofs.Legality.{joins, copies}
 use Rattle.cut_core.proofs.Ends.{floor_snoc, stays, waiting_snoc}
 use Rattle.ckd_track.specs.Writes.{is_earlier}
 
--- entries of the control whose stamps don't fall, from `low` to `high`
+-- entries of the controller whose stamps don't fall, from `low` to `high`
 abbrev pub Rises : (k low high : ℕ) → List CarriedEntry → Type 0
 Rises k low high [] = Unit {0}
 Rises k low high (e ∷ entries) = (e.control ≡ k) × ((low ≤ e.stamp) × ((e.stamp ≤ high) × Rises k e.stamp high entries))
@@ -98,7 +98,7 @@ carried_rise n k past (Join b) legal =
       | inr other ↦ rw (others j k (filter (is_write_carried past j) b.writes) other) tt
       | inl same ↦
           let is : j ≡ k = eqb-true j k same in
-          let told : told_upto j (Join b) ≡ b.upto.0 = rw (eq-eqb b.control b.control refl) refl in
+          let told : reported_upto j (Join b) ≡ b.upto.0 = rw (eq-eqb b.control b.control refl) refl in
           let top : floor j (past ++ Join b ∷ []) ≡ b.upto.0 = omega (arith, floor_snoc j past (Join b), told, parts.tells.up) in
           subst (λ i. Rises i (floor i past) (floor i (past ++ Join b ∷ [])) (filter (is_of_control i) (map (carried_entry j) (filter (is_write_carried past j) b.writes)))) is
           (rw top (writes_rise j (floor j past) (floor j past) b.upto.0 (is_write_carried past j) b.writes parts.within (none_under_floor (floor j past) b.upto.0 b.writes parts.within) parts.order))

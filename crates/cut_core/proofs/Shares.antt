@@ -64,7 +64,7 @@ joined k v x past (w ∷ writes) s carried wanted = choose (writes_on v x w) ref
     choose false off rest = rest s carried wanted ∙ ap (λ xs. s.waiting ++ xs) (sym (joined_off k v x w (is_write_carried past k w) (filter (is_write_carried past k) writes) off))
     choose true on rest = joined_on k v x past w writes s rest on carried wanted (s.is_carried && not s.is_wanted) s.is_dropped (is_write_carried past k w) (rw (carried, wanted) (sym (carried_is k v x past w on)))
 
--- writes of another control
+-- writes of another controller
 others : (j k v x : ℕ) (writes : List Write) → nat_eq j k ≡ false → stamps_on k v x (map (carried_entry j) writes) ≡ []
 others j k v x [] e = refl
 others j k v x (w ∷ writes) e = rw e (others j k v x writes e)

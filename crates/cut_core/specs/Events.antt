@@ -4,8 +4,8 @@ use Rattle.std.specs.Prelude.{ℕ, ◌==◌, ◌&&◌, ◌||◌, not, max, List,
 use Rattle.std.specs.List.{list_any}
 use Rattle.ckd_track.specs.declared.write.Batch.{Batch}
 
--- What may happen. A reader joins a batch, copies a wanted track, and tells that its control broke or has no write up to a time.
--- The mover forms a group at a cut, and drops, carries, resumes and forgets a volume of a control. A drop may say that the
+-- What may happen. A reader joins a batch, copies a wanted track, and reports that its controller broke or has no write up to a time.
+-- The mover forms a group at a cut, and drops, carries, resumes and forgets a volume of a controller. A drop may say that the
 -- volume's map holds all tracks; a carry gives the tracks that are wanted.
 pub data Event : Type 0 where
   Join : (batch : Batch) → Event
@@ -20,17 +20,17 @@ pub data Event : Type 0 where
 
 -- ---- floors
 
--- the time that an event says the control has reported up to; 0 where it says none
-abbrev pub told_upto : (control : ℕ) → Event → ℕ
-told_upto k (Join b) = if b.control == k then b.upto.0 else 0
-told_upto k (Break j upto) = if j == k then upto else 0
-told_upto k (Raise j upto) = if j == k then upto else 0
-told_upto k e = 0
+-- the time that an event says the controller has reported up to; 0 where it says none
+abbrev pub reported_upto : (control : ℕ) → Event → ℕ
+reported_upto k (Join b) = if b.control == k then b.upto.0 else 0
+reported_upto k (Break j upto) = if j == k then upto else 0
+reported_upto k (Raise j upto) = if j == k then upto else 0
+reported_upto k e = 0
 
--- The floor of a control is the greatest time told in its events, or 0.
+-- The floor of a controller is the greatest time reported in its events, or 0.
 abbrev pub floor : (control : ℕ) → List Event → ℕ
 floor k [] = 0
-floor k (e ∷ past) = max (told_upto k e) (floor k past)
+floor k (e ∷ past) = max (reported_upto k e) (floor k past)
 
 -- ---- breaks
 
@@ -45,12 +45,12 @@ abbrev pub is_form_at : (cut : ℕ) → Event → Bool
 is_form_at c (Form d) = d == c
 is_form_at c e = false
 
--- A control is done once a form had its break time as cut, after its break.
+-- A controller is done once a form had its break time as cut, after its break.
 abbrev pub is_done : (control : ℕ) → List Event → Bool
 is_done k [] = false
-is_done k (e ∷ past) = (is_break_of k e && list_any (is_form_at (told_upto k e)) past) || is_done k past
+is_done k (e ∷ past) = (is_break_of k e && list_any (is_form_at (reported_upto k e)) past) || is_done k past
 
--- A control is live until then, also while it has broken.
+-- A controller is live until then, also while it has broken.
 abbrev pub is_live : (control : ℕ) → List Event → Bool
 is_live k past = not (is_done k past)
 

@@ -1,4 +1,4 @@
--- Each carried entry of a control is formed once, dropped, or still waits, and order is kept.
+-- Each carried entry of a controller is formed once, dropped, or still waits, and order is kept.
 use Rattle.std.specs.Prelude.{◌≡◌, ℕ, ◌==◌, ◌&&◌, not, List, [], ◌∷◌, ◌++◌, filter, Bool, IsTrue}
 use Rattle.cut_core.specs.Events.{Event}
 use Rattle.cut_core.specs.Events.Event.{Form}
@@ -14,7 +14,7 @@ abbrev pub group_by : List Event → Event → List CarriedEntry
 group_by past (Form cut) = group past cut
 group_by past e = []
 
--- the control's part of the groups that the later forms give, one after another
+-- the controller's part of the groups that the later forms give, one after another
 abbrev pub formed_in : (control : ℕ) → (before later : List Event) → List CarriedEntry
 formed_in k before [] = []
 formed_in k before (event ∷ later) = filter (is_of_control k) (group_by before event) ++ formed_in k (before ++ event ∷ []) later
@@ -24,7 +24,7 @@ abbrev pub kept_in : (control : ℕ) → (before later : List Event) → List Ca
 kept_in k before [] = []
 kept_in k before (event ∷ later) = filter (λ e. is_of_control k e && not (is_dropped_in later e)) (carried_by before event) ++ kept_in k (before ++ event ∷ []) later
 
--- In every legal history a control's part of the groups, and after it what waits, are its carried entries without the dropped
+-- In every legal history a controller's part of the groups, and after it what waits, are its carried entries without the dropped
 -- ones, in order, each once.
 abbrev pub EachOnce : Type 0
 EachOnce = (controls k : ℕ) (past : List Event) → IsTrue (are_legal controls [] past) → formed_in k [] past ++ filter (is_of_control k) (waiting_in [] past) ≡ kept_in k [] past

@@ -52,11 +52,11 @@ abbrev pub waiting_in : (before later : List Event) → List CarriedEntry
 waiting_in before [] = []
 waiting_in before (e ∷ later) = filter (still_waits later) (carried_by before e) ++ waiting_in (before ++ e ∷ []) later
 
--- whether an entry stands before another by stamp and control; entries of one stamp and control stand by position
+-- whether an entry stands before another by stamp and controller; entries of one stamp and controller stand by position
 abbrev pub comes_before : CarriedEntry → CarriedEntry → Bool
 comes_before a b = nat_lt a.stamp b.stamp || (a.stamp == b.stamp && nat_lt a.control b.control)
 
 -- The group of a form after these events: the carried entries that no drop took out and no earlier form took, with a stamp
--- at most the cut, ordered by stamp, control and position.
+-- at most the cut, ordered by stamp, controller and position.
 abbrev pub group : List Event → (cut : ℕ) → List CarriedEntry
 group past cut = in_order comes_before (filter (λ e. nat_le e.stamp cut) (waiting_in [] past))

@@ -4,7 +4,7 @@ use Rattle.cut_core.specs.Events.{Event, floor, is_live, last_cut}
 use Rattle.cut_core.specs.Events.Event.{Form}
 use Rattle.cut_core.specs.LegalHistories.{are_legal, is_legal_next, least_floor}
 
--- no floor of a live control is below the last cut
+-- no floor of a live controller is below the last cut
 abbrev pub FloorsAreAbove : Type 0
 FloorsAreAbove = (controls : ℕ) (past : List Event) (k : ℕ) → IsTrue (are_legal controls [] past) → k < controls → IsTrue (is_live k past) → last_cut past ≤ floor k past
 

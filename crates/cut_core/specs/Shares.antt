@@ -1,4 +1,4 @@
--- What a history makes of one track of a control's volume: whether it is carried and wanted, whether the map of the dropped
+-- What a history makes of one track of a controller's volume: whether it is carried and wanted, whether the map of the dropped
 -- volume holds it, and what waits on it.
 use Rattle.std.specs.Prelude.{ℕ, ◌==◌, ◌&&◌, ◌||◌, not, List, [], ◌∷◌, ◌++◌, length, filter, fold, Bool, true, false, nat_lt, if◌then◌else◌}
 use Rattle.std.specs.List.{list_any}
@@ -52,7 +52,7 @@ share_carry is_given s = record { is_carried = true; is_dropped = false; is_want
 abbrev pub share_resume : Share → Share
 share_resume s = record { is_carried = true; is_dropped = false; is_wanted = s.is_mapped; is_mapped = false; waiting = s.waiting }
 
--- What an event makes of track x of control k's volume v. A carry, a resume and a forget take out nothing that waits.
+-- What an event makes of track x of controller k's volume v. A carry, a resume and a forget take out nothing that waits.
 abbrev pub share_by : (k v x : ℕ) → Share → Event → Share
 share_by k v x s (Join b) = if b.control == k then share_writes v x b.writes s else s
 share_by k v x s (Copied j u y stamp) = if names_volume j u k v && y == x then share_copied stamp s else s

@@ -3,7 +3,7 @@
 use ckd_track::Batch;
 use tod_stamp::Stamp;
 
-/// What a reader of a control's trace or the mover does. Volumes and tracks are numbered as in that trace.
+/// What a reader of a controller's trace or the mover does. Volumes and tracks are numbered as in that trace.
 #[derive(Debug, Drop)]
 pub enum Event {
     /// A reader joins a batch.
@@ -11,7 +11,7 @@ pub enum Event {
         batch: Batch,
     },
 
-    /// A reader copies a wanted track. The stamp is its control's floor.
+    /// A reader copies a wanted track. The stamp is its controller's floor.
     Copied {
         control: u16,
         volume: u16,
@@ -19,13 +19,13 @@ pub enum Event {
         stamp: Stamp,
     },
 
-    /// A control breaks: its writes are known up to this time, and no later one will be.
+    /// A controller breaks: its writes are known up to this time, and no later one will be.
     Break {
         control: u16,
         upto: Stamp,
     },
 
-    /// A control has no further write up to this time.
+    /// A controller has no further write up to this time.
     Raise {
         control: u16,
         upto: Stamp,
@@ -36,7 +36,7 @@ pub enum Event {
         cut: Stamp,
     },
 
-    /// The mover drops a control's volume, as its pair is suspended or goes.
+    /// The mover drops a controller's volume, as its pair is suspended or goes.
     Drop {
         control: u16,
         volume: u16,

@@ -1,19 +1,19 @@
-//! How far each control has come, the last cut, and the cut that a form takes.
+//! How far each controller has come, the last cut, and the cut that a form takes.
 
 ghost use Rattle.std.specs.Prelude.{◌≡◌, ◌<◌, ◌≤◌, ◌∷◌, ◌++◌, [], List, ℕ, IsTrue, false, map, slice_set};
 ghost use Rattle.cut_core.specs.Events.{last_cut, Event as Happening};
 ghost use Rattle.cut_core.specs.Events.Event.{Drop};
 ghost use Rattle.cut_core.specs.LegalHistories.{is_legal_next, least_floor};
 ghost use Rattle.cut_core.specs.HistoryEvents.{history_event};
-ghost use Rattle.cut_core.specs.Floors.{StandsAfter, told_to, told_after_form};
+ghost use Rattle.cut_core.specs.Floors.{StandsAfter, told_to, reported_after_form};
 
 use crate::event::Event;
-use crate::told::{Told, ToldPhase};
+use crate::told::{ReportedPhase, Told};
 use std::marker::Model;
 use tod_stamp::Stamp;
 use xrc_edge::MOST_CONTROLS;
 
-/// The floors of the controls and the last cut. Contracts say of them after which histories they stand.
+/// The floors of the controllers and the last cut. Contracts say of them after which histories they stand.
 #[derive(Debug, Drop)]
 pub struct Floors {
     controls: u16,
@@ -34,7 +34,7 @@ impl Model for Floors {
 }
 
 impl Floors {
-    /// Floors of that many controls, of which none has told anything.
+    /// Floors of that many controllers, of which none has reported anything.
     pub fn make(controls: u16) -> Floors
         requires some { 1 ≤ controls }
         requires few { controls ≤ MOST_CONTROLS }
@@ -45,7 +45,7 @@ impl Floors {
             controls,
             told: [Told {
                 floor: Stamp(0),
-                phase: ToldPhase::Telling,
+                phase: ReportedPhase::Unbroken,
             }; MOST_CONTROLS],
             last: Stamp(0),
         }
@@ -60,17 +60,17 @@ impl Floors {
         ensures dropped { (control volume : ℕ) → history_event event.now ≡ Drop control volume false → self.new ≡ self.old }
     {
         match event {
-            Event::Join { batch } => self.tell(batch.control, batch.upto, ToldPhase::Telling),
-            Event::Raise { control, upto } => self.tell(*control, *upto, ToldPhase::Telling),
-            Event::Break { control, upto } => self.tell(*control, *upto, ToldPhase::Broken),
+            Event::Join { batch } => self.tell(batch.control, batch.upto, ReportedPhase::Unbroken),
+            Event::Raise { control, upto } => self.tell(*control, *upto, ReportedPhase::Unbroken),
+            Event::Break { control, upto } => self.tell(*control, *upto, ReportedPhase::Broken),
             Event::Form { cut } => self.form(*cut),
             Event::Copied { .. } => {}
             Event::Drop { .. } => {}
         }
     }
 
-    /// A control tells up to a time.
-    fn tell(&mut self, control: u16, upto: Stamp, phase: ToldPhase)
+    /// A controller reports up to a time.
+    fn tell(&mut self, control: u16, upto: Stamp, phase: ReportedPhase)
         requires { control < self.old.controls }
         ensures controls { self.new.controls ≡ self.old.controls }
         ensures last { self.new.last ≡ self.old.last }
@@ -83,7 +83,7 @@ impl Floors {
     fn form(&mut self, cut: Stamp)
         ensures controls { self.new.controls ≡ self.old.controls }
         ensures last { self.new.last ≡ cut }
-        ensures told { self.new.told ≡ map (told_after_form cut.0) self.old.told }
+        ensures told { self.new.told ≡ map (reported_after_form cut.0) self.old.told }
     {
         for k in 0..MOST_CONTROLS {
             self.told[k] = self.told[k].after_form(cut);
@@ -91,7 +91,7 @@ impl Floors {
         self.last = cut;
     }
 
-    /// The cut that a form with this limit takes: the least of the limit and the floors of all live controls.
+    /// The cut that a form with this limit takes: the least of the limit and the floors of all live controllers.
     pub fn least(&self, limit: Stamp) -> Stamp
         ensures { (past : List Happening) → StandsAfter self.now past → result.0 ≡ least_floor self.now.controls limit.0 past }
     {

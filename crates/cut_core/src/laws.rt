@@ -21,7 +21,7 @@ pub fn least_floors_are_cuts()
     ensures greatest { LeastIsGreatest }
 {}
 
-/// A control's part of the groups and what still waits are its carried entries that no drop took out, in order, each once.
+/// A controller's part of the groups and what still waits are its carried entries that no drop took out, in order, each once.
 pub fn each_entry_once()
     ensures { EachOnce }
 {}

@@ -1,4 +1,4 @@
-//! The cut core: what readers and a mover may do to a group's state, one event after another, the floors of the controls, and
+//! The cut core: what readers and a mover may do to a group's state, one event after another, the floors of the controllers, and
 //! the cut that a form takes. The theorem on cuts says that in every such history each group has all that it must.
 #![tactic(auto)]
 

@@ -1,34 +1,34 @@
-//! What is kept of one control.
+//! What is kept of one controller.
 
 ghost use Rattle.std.specs.Prelude.{◌≡◌};
-ghost use Rattle.cut_core.specs.Floors.{told_after_form, lesser_floor};
+ghost use Rattle.cut_core.specs.Floors.{reported_after_form, lesser_floor};
 
 use tod_stamp::Stamp;
 
-/// Whether a control still tells, has broken, or has broken and counts no longer.
+/// Whether a controller still reports, has broken, or has broken and counts no longer.
 #[derive(Clone, Copy, Debug, PartialEq, Eq)]
-pub enum ToldPhase {
-    Telling,
+pub enum ReportedPhase {
+    Unbroken,
     Broken,
     Done,
 }
 
-/// The time up to which a control has told, and its phase.
+/// The time up to which a controller has reported, and its phase.
 #[derive(Clone, Copy, Debug, PartialEq, Eq)]
 pub struct Told {
     pub floor: Stamp,
-    pub phase: ToldPhase,
+    pub phase: ReportedPhase,
 }
 
 impl Told {
-    /// A broken control whose break time is the cut counts no longer.
+    /// A broken controller whose break time is the cut counts no longer.
     pub fn after_form(self, cut: Stamp) -> Told
-        ensures { result ≡ told_after_form cut.0 self }
+        ensures { result ≡ reported_after_form cut.0 self }
     {
         match self.phase {
-            ToldPhase::Broken if cut.0 == self.floor.0 => Told {
+            ReportedPhase::Broken if cut.0 == self.floor.0 => Told {
                 floor: self.floor,
-                phase: ToldPhase::Done,
+                phase: ReportedPhase::Done,
             },
             _ => self,
         }
@@ -39,8 +39,8 @@ impl Told {
         ensures { result ≡ lesser_floor self cut }
     {
         match self.phase {
-            ToldPhase::Telling | ToldPhase::Broken => cut.min(self.floor.0),
-            ToldPhase::Done => cut,
+            ReportedPhase::Unbroken | ReportedPhase::Broken => cut.min(self.floor.0),
+            ReportedPhase::Done => cut,
         }
     }
 }

@@ -1,4 +1,4 @@
--- A log whose parts are fed and kept bears behind each deed, and where all was kept it ends as it began.
+-- A log whose parts are fed and kept bears after each deed, and where all was kept it ends as it began.
 use Rattle.std.proofs.Common.{◌≡◌, ℕ, zero, suc, ◌≤◌, true, List, [], ◌∷◌, ◌++◌, length, take, Option, Some, ◌⊎◌, inl, inr, refl, sym, ap, subst, arith, append-nil, true≢false}
 use Rattle.std.specs.List.{list_all}
 use Rattle.std.proofs.lemmas.Bool.{and_parts}
@@ -11,9 +11,9 @@ use Rattle.group_state.specs.SoundStates.{IsGroupSound}
 use Rattle.group_state.specs.Machine.{Call, Reply}
 use Rattle.group_state.specs.Machine.Call.{Join, NextWanted, Copied, Raise, Break, Form, Carry, Drop, Resume, Forget}
 use Rattle.group_state.specs.Runs.{Answer, shown_by}
-use Rattle.fed_logs.specs.ToldTracks.{HeldTracks, held_behind_group}
-use Rattle.record_rows.specs.Deeds.{Deed, rows_behind, time_meant_behind}
-use Rattle.fed_logs.specs.Deeds.{held_behind}
+use Rattle.fed_logs.specs.ToldTracks.{HeldTracks, held_after_group}
+use Rattle.record_rows.specs.Deeds.{Deed, rows_after_deeds, time_meant_after}
+use Rattle.fed_logs.specs.Deeds.{held_after_deeds}
 use Rattle.record_rows.specs.Deeds.Deed.{Logged, Changed, Marked}
 use Rattle.fed_logs.specs.Feeds.{truth_of, is_call_of_reader, part_of_mover}
 use Rattle.fed_logs.specs.Moves.{AreQuiet, ShowsNothing, Plans, plans_with_shown, plans_without, Following, IsLogged, KeepsShown, KeepsCall, IsKeptOn, MakesDeeds, IsKeptWhole, MakesAllDeeds}
@@ -32,7 +32,7 @@ module _ (size : Sizes) (traces : List Trace) where
   Told held rows time = HoldTruth size (truth_of traces) held rows time
 
   abbrev Goal : HeldTracks → (time : ℕ) → List PairRow → List Deed → Type 0
-  Goal held time rows deeds = (n : ℕ) → n ≤ length deeds → Told (held_behind (take n deeds) held) (rows_behind (take n deeds) rows) (time_meant_behind (take n deeds) time)
+  Goal held time rows deeds = (n : ℕ) → n ≤ length deeds → Told (held_after_deeds (take n deeds) held) (rows_after_deeds (take n deeds) rows) (time_meant_after (take n deeds) time)
 
   abbrev Begins : HeldTracks → Group → (time : ℕ) → List PairRow → Plans → Type 0
   Begins held s time rows done = BeginsLog size traces held s time rows done
@@ -45,7 +45,7 @@ module _ (size : Sizes) (traces : List Trace) where
 
   changed : (held : HeldTracks) (time at : ℕ) (rows fewer : List PairRow) (deeds : List Deed) → at ≡ time → Told held rows time → Goal held time fewer deeds → Goal held time rows (Changed at fewer ∷ deeds)
   changed held time at rows fewer deeds is holds goal zero le = holds
-  changed held time at rows fewer deeds is holds goal (suc n) le = subst (λ m. Told (held_behind (take n deeds) held) (rows_behind (take n deeds) fewer) (time_meant_behind (take n deeds) m)) (sym is) (goal n (omega (arith, le)))
+  changed held time at rows fewer deeds is holds goal (suc n) le = subst (λ m. Told (held_after_deeds (take n deeds) held) (rows_after_deeds (take n deeds) fewer) (time_meant_after (take n deeds) m)) (sym is) (goal n (omega (arith, le)))
 
   quiet_goal : (held : HeldTracks) (s : Group) (time : ℕ) (done : Plans) (quiet : List Deed) (rows next : List PairRow) (more : List Deed) → AreQuiet time rows quiet next → Begins held s time rows done → Goal held time next more → Goal held time rows (quiet ++ more)
   quiet_goal held s time done [] rows next more is b goal = subst (λ (r : List PairRow). Goal held time r more) is goal
@@ -73,11 +73,11 @@ module _ (size : Sizes) (traces : List Trace) where
       → Begins held s time rows done → KeepsShown time rows done (Some (shown_at (cut_of s limit) s)) deeds (λ t r p d. MakesDeeds t r p (part_of_mover run) d) → Goal held time rows deeds
   form limit reply run end rest held s time rows done deeds log b keeps = choose keeps
     where
-      logged : (mid next : List PairRow) (later : List Deed) → Begins held s time mid done → Begins (held_behind_group (shown_at (cut_of s limit) s).entries held) (formed_at (cut_of s limit) s) (cut_of s limit).0 next (plans_with_shown (shown_at (cut_of s limit) s) done)
+      logged : (mid next : List PairRow) (later : List Deed) → Begins held s time mid done → Begins (held_after_group (shown_at (cut_of s limit) s).entries held) (formed_at (cut_of s limit) s) (cut_of s limit).0 next (plans_with_shown (shown_at (cut_of s limit) s) done)
           → MakesDeeds (cut_of s limit).0 next (plans_with_shown (shown_at (cut_of s limit) s) done) (part_of_mover run) later → Goal held time mid (Logged (cut_of s limit).0 (shown_at (cut_of s limit) s).entries next ∷ later)
       logged mid next later b then moves zero le = b.truth
       logged mid next later b then moves (suc n) le =
-          rest (held_behind_group (shown_at (cut_of s limit) s).entries held) (formed_at (cut_of s limit) s) (cut_of s limit).0 next (plans_with_shown (shown_at (cut_of s limit) s) done) later (form_log traces s end limit reply run log) then moves n (omega (arith, le))
+          rest (held_after_group (shown_at (cut_of s limit) s).entries held) (formed_at (cut_of s limit) s) (cut_of s limit).0 next (plans_with_shown (shown_at (cut_of s limit) s) done) later (form_log traces s end limit reply run log) then moves n (omega (arith, le))
 
       choose : (ShowsNothing time rows (shown_at (cut_of s limit) s) × MakesDeeds time rows (plans_with_shown (shown_at (cut_of s limit) s) done) (part_of_mover run) deeds) ⊎ IsLogged time rows done (shown_at (cut_of s limit) s) deeds (λ t r p d. MakesDeeds t r p (part_of_mover run) d) → Goal held time rows deeds
       choose (inl both) =
@@ -126,7 +126,7 @@ module _ (size : Sizes) (traces : List Trace) where
   -- ---- all was kept
 
   abbrev Reached : HeldTracks → (time : ℕ) → List PairRow → List Deed → (end : Group) → (ended : ℕ) → (last : List PairRow) → (known : Plans) → Type 0
-  Reached held time rows deeds end ended last known = (last ≡ rows_behind deeds rows) × (ended ≡ time_meant_behind deeds time) × IsGroupSound end × BeginsLog size traces (held_behind deeds held) end ended last known
+  Reached held time rows deeds end ended last known = (last ≡ rows_after_deeds deeds rows) × (ended ≡ time_meant_after deeds time) × IsGroupSound end × BeginsLog size traces (held_after_deeds deeds held) end ended last known
 
   quiet_reached : (held : HeldTracks) (time : ℕ) (quiet : List Deed) (rows next : List PairRow) (more : List Deed) (end : Group) (ended : ℕ) (last : List PairRow) (known : Plans) → AreQuiet time rows quiet next → Reached held time next more end ended last known
       → Reached held time rows (quiet ++ more) end ended last known
@@ -161,7 +161,7 @@ module _ (size : Sizes) (traces : List Trace) where
             let mid = quiet_begins size traces held s time done h.quiet rows h.mid h.suspends b in
             subst (λ (ds : List Deed). Reached held time rows ds end ended last known) (sym h.are)
             (quiet_reached held time h.quiet rows h.mid (Logged (cut_of s limit).0 (shown_at (cut_of s limit) s).entries h.next ∷ h.later) end ended last known h.suspends
-            (rest (held_behind_group (shown_at (cut_of s limit) s).entries held) (formed_at (cut_of s limit) s) (cut_of s limit).0 h.next (plans_with_shown (shown_at (cut_of s limit) s) done) h.later (form_log traces s end limit reply run log)
+            (rest (held_after_group (shown_at (cut_of s limit) s).entries held) (formed_at (cut_of s limit) s) (cut_of s limit).0 h.next (plans_with_shown (shown_at (cut_of s limit) s) done) h.later (form_log traces s end limit reply run log)
             (form_begins size traces held s end limit reply run time h.mid h.next done log h.follow mid) h.goes_on))
 
     kept_all : (a : Answer) (run : List Answer) (end : Group) (held : HeldTracks) (s : Group) (time : ℕ) (rows : List PairRow) (done : Plans) (deeds : List Deed) → IsKeptWhole time rows done a deeds (All run) → Begins held s time rows done

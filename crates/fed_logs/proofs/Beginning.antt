@@ -23,7 +23,7 @@ use Rattle.sidefile.proofs.TraceLaws.{ahead_trace, given_trace}
 use Rattle.fed_logs.specs.LaneFeeds.{FeedState}
 use Rattle.fed_logs.specs.Reads.{do_rise}
 use Rattle.fed_logs.specs.Reads.Outlook.{Whole, Failing}
-use Rattle.fed_logs.specs.FeedLaws.{ComeSo, IsBehindHeader, BeginsTrace, HeadersBeginTraces}
+use Rattle.fed_logs.specs.FeedLaws.{ComeSo, IsAfterHeader, BeginsTrace, HeadersBeginTraces}
 use Rattle.fed_logs.proofs.Stepping.{first_is_unread}
 
 -- ---- reading
@@ -59,11 +59,11 @@ entry_keeps version last volumes left e next read =
     let kept = number_kept (λ n. nat_le 1 n && nat_le last n) one.0.1 two.0.0 two.0.1 two.1 in
     subst (λ n. keeps_stamp last n ≡ true) (sym (choose (nat_eq one.0.0 1) one.0.0 two.0.0 two.0.1 two.2)) kept
   where
-    choose : (idle : Bool) (tag stamp : ℕ) (behind : Left) → cond idle (Ok (Idle (record { 0 = stamp }), behind)) (write_at version volumes tag stamp behind) ≡ Ok (e, next) → stamp_of e ≡ stamp
-    choose true tag stamp behind is =
-        let same : (Idle (record { 0 = stamp }), behind) ≡ (e, next) = cc is in
+    choose : (idle : Bool) (tag stamp : ℕ) (after : Left) → cond idle (Ok (Idle (record { 0 = stamp }), after)) (write_at version volumes tag stamp after) ≡ Ok (e, next) → stamp_of e ≡ stamp
+    choose true tag stamp after is =
+        let same : (Idle (record { 0 = stamp }), after) ≡ (e, next) = cc is in
         sym (ap (λ (p : Entry × Left). stamp_of p.0) same)
-    choose false tag stamp behind is = write_stamp version tag stamp volumes behind e next is
+    choose false tag stamp after is = write_stamp version tag stamp volumes after e next is
 
 -- An entry that is read isn't before the last one, and its stamp is 1 at least.
 entry_rises : (version last : ℕ) (volumes : List VolumeHead) (left : Left) (e : Entry) (next : Left) → entry_at version volumes last left ≡ Ok (e, next) → last ≤ stamp_of e
@@ -125,7 +125,7 @@ read_header told h left is = rw (is, trace_of) refl
 one_rest : (a b : List ℕ) → Some a ≡ Some b → a ≡ b
 one_rest a b e = cc
 
-module _ (told : List ℕ) (now : Option (List ℕ)) (head : Header) (feed : FeedState) (rest : List ℕ) (h : IsBehindHeader told now head feed rest) where
+module _ (told : List ℕ) (now : Option (List ℕ)) (head : Header) (feed : FeedState) (rest : List ℕ) (h : IsAfterHeader told now head feed rest) where
   abbrev reader : ReaderState
   reader = feed.side.reader
 

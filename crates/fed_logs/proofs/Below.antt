@@ -1,4 +1,4 @@
--- The breaks that a feed's calls tell are below the limit.
+-- The breaks that a feed's calls report are below the limit.
 use Rattle.std.proofs.Common.{◌≡◌, ◌<◌, ℕ, true, nat_lt, List, [], ◌∷◌, ◌++◌, Option, Some, None, refl, sym, ap, subst, ◌∙◌, arith, append-nil, append_assoc}
 use Rattle.std.specs.List.{list_all}
 use Rattle.std.proofs.lemmas.Bool.{and_from, lt-ltb}
@@ -22,8 +22,8 @@ use Rattle.fed_logs.specs.LaneFeeds.{FeedState}
 use Rattle.fed_logs.specs.Reads.{AreLeft}
 use Rattle.fed_logs.specs.Steps.{FeedStep, wanted_answer}
 use Rattle.fed_logs.specs.Steps.FeedStep.{Hands, Joins, Lacks, Holds, Passes, Breaks, Wants, Asks, Copies}
-use Rattle.fed_logs.specs.Tellers.{TellerState, StepsOn, TellsOn, BreaksBelow, IsHaltBelow, break_bound, copying_answers}
-use Rattle.fed_logs.specs.FeedLaws.{NoCallBreaks, CallsBreakBelowInTurn, CopiesTellNoBreak}
+use Rattle.fed_logs.specs.Reporters.{ReporterState, StepsOn, ReportsOn, BreaksBelow, IsHaltBelow, break_bound, copying_answers}
+use Rattle.fed_logs.specs.FeedLaws.{NoCallBreaks, CallsBreakBelowInTurn, CopiesReportNoBreak}
 use Rattle.fed_logs.proofs.FeedEntries.{all_append}
 use Rattle.fed_logs.proofs.InTurn.{no_halt}
 
@@ -76,11 +76,11 @@ step_is_below before now limit _ _ _ (Wants old side idle h) bytes there = (refl
 step_is_below before now limit _ _ _ (Asks old k found goes same) bytes there = (refl, reads_further limit.0 old.halted)
 step_is_below before now limit _ _ _ (Copies old k v x at slot reply goes same is) bytes there = (refl, reads_further limit.0 old.halted)
 
--- What a teller gained is one list.
-of_gained : (limit : ℕ) (told after : TellerState) (own : List Answer) → after.answers ≡ told.answers ++ own → AreBelow limit own → (gained : List Answer) → after.answers ≡ told.answers ++ gained → AreBelow limit gained
+-- What a reporter gained is one list.
+of_gained : (limit : ℕ) (told after : ReporterState) (own : List Answer) → after.answers ≡ told.answers ++ own → AreBelow limit own → (gained : List Answer) → after.answers ≡ told.answers ++ gained → AreBelow limit gained
 of_gained limit told after own is below gained again = subst (AreBelow limit) (append_cancel_left told.answers own gained (sym is ∙ again)) below
 
-pub step_below : (before now : Option (List ℕ)) (limit : Stamp) (old new : FeedState) (told after : TellerState) → StepsOn before now limit old new told after → BreaksBelow limit.0 before old new told after
+pub step_below : (before now : Option (List ℕ)) (limit : Stamp) (old new : FeedState) (told after : ReporterState) → StepsOn before now limit old new told after → BreaksBelow limit.0 before old new told after
 step_below before now limit old new told after s = record {
   told_so = λ bytes there. of_gained limit.0 told after s.gained s.answers (step_is_below before now limit old new s.gained s.step bytes there).0;
   halts = λ goes bytes there. (step_is_below before now limit old new s.gained s.step bytes there).1 goes;
@@ -91,8 +91,8 @@ step_below before now limit old new told after s = record {
 pub nothing_breaks : NoCallBreaks
 nothing_breaks limit left feed told = record { told_so = λ bytes there. of_gained limit told told [] (sym (append-nil told.answers)) refl; halts = λ goes bytes there. reads_further limit feed.halted goes }
 
-module _ (limit : ℕ) (before mid now : Option (List ℕ)) (a b c : FeedState) (told next after : TellerState) (h : TellsOn before mid a b told next) (k : TellsOn mid now b c next after) where
-  -- A feed that reads on behind calls did so before.
+module _ (limit : ℕ) (before mid now : Option (List ℕ)) (a b c : FeedState) (told next after : ReporterState) (h : ReportsOn before mid a b told next) (k : ReportsOn mid now b c next after) where
+  -- A feed that reads on after calls did so before.
   went : (halted : Option Halt) → a.halted ≡ halted → b.halted ≡ None → a.halted ≡ None
   went None was is = was
   went (Some halt) was is = absurd (no_halt b.halted halt is (ap (λ (f : FeedState). f.halted) (h.reads_on.stays halt was).0 ∙ was))
@@ -119,12 +119,12 @@ below_in_turn limit before mid now a b c told next after h low k then = record {
   halts = λ goes bytes there. halts_then limit before mid now a b c told next after h k then bytes there b.halted refl (low.halts goes bytes there);
 }
 
-pub copies_tell_no_break : CopiesTellNoBreak
-copies_tell_no_break limit left None feed told after goes copied = record {
+pub copies_report_no_break : CopiesReportNoBreak
+copies_report_no_break limit left None feed told after goes copied = record {
   told_so = λ bytes there. of_gained limit told after (wanted_answer told.control None ∷ []) copied refl;
   halts = λ was bytes there. reads_further limit feed.halted goes;
 }
-copies_tell_no_break limit left (Some joined) feed told after goes copied = record {
+copies_report_no_break limit left (Some joined) feed told after goes copied = record {
   told_so = λ bytes there. of_gained limit told after (copying_answers told.control feed.primary copied.volume copied.track copied.at joined) copied.answers refl;
   halts = λ was bytes there. reads_further limit feed.halted goes;
 }

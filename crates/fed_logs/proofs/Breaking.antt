@@ -11,18 +11,18 @@ use Rattle.pair_table.specs.declared.row.PairRow.{PairRow}
 use Rattle.write_trace.specs.declared.trace.Trace.{Trace}
 use Rattle.sidefile.specs.Breaks.{break_time, break_of, has_broken, is_below}
 use Rattle.group_state.specs.declared.phase.Phase.{Phase}
-use Rattle.group_state.specs.declared.phase.Phase.TheVariants.{Telling, Broken, Reported}
-use Rattle.group_state.specs.Controls.{ControlState, counts, is_telling, phase_after, joined, copied, raised, broke, dropped}
+use Rattle.group_state.specs.declared.phase.Phase.TheVariants.{Unbroken, Broken, Reported}
+use Rattle.group_state.specs.Controls.{ControlState, counts, is_reporting, phase_after, joined, copied, raised, broke, dropped}
 use Rattle.group_state.specs.Groups.{Group, control_at, with_control, cut_of, formed_at, shown_at}
-use Rattle.group_state.specs.SoundStates.{IsGroupSound, has_told}
+use Rattle.group_state.specs.SoundStates.{IsGroupSound, has_reported}
 use Rattle.group_state.specs.Machine.{Call, Reply}
 use Rattle.group_state.specs.Machine.Call.{Join, NextWanted, Copied, Raise, Break, Form, Carry, Drop, Resume, Forget}
 use Rattle.group_state.specs.Runs.{Answer, May}
 use Rattle.group_state.proofs.FormLaws.{all_at}
 use Rattle.group_state.proofs.Kept.{kept_form}
 use Rattle.fed_logs.specs.ToldTracks.{floor_of, has_changed}
-use Rattle.fed_logs.proofs.Keeping.{at_map, told_to_last}
-use Rattle.record_rows.specs.Deeds.{Deed, time_meant_behind}
+use Rattle.fed_logs.proofs.Keeping.{at_map, reported_to_last}
+use Rattle.record_rows.specs.Deeds.{Deed, time_meant_after}
 use Rattle.record_rows.specs.Deeds.Deed.{Logged, Changed, Marked}
 use Rattle.fed_logs.specs.Feeds.{IsFedBy, is_call_of_reader, part_of_mover}
 use Rattle.group_state.specs.Calls.{is_by_reader}
@@ -30,19 +30,19 @@ use Rattle.fed_logs.specs.Moves.{AreQuiet, ShowsNothing, MayFollow, Plans, plans
 use Rattle.fed_logs.specs.Logs.{IsFedLog, AwaitsBreak, is_call_of_seat}
 use Rattle.fed_logs.specs.LogLaws.{WasShown, ReportsBreak, BreaksCome}
 use Rattle.fed_logs.specs.LogLaws.ReportsBreak.{Now, Later}
-use Rattle.fed_logs.proofs.Shown.{counts_behind, break_was_told}
+use Rattle.fed_logs.proofs.Shown.{counts_after, break_was_told}
 use Rattle.fed_logs.proofs.Went.{WentRead, form_shown}
 use Rattle.fed_logs.proofs.Went.WentRead.{Same, Joins, Copies, Raises, Breaks}
 use Rattle.fed_logs.proofs.Standing.{at_with, same_count, formed_count}
 use Rattle.fed_logs.proofs.ReadCalls.{answer_of, read_on, fed_own, form_log, drop_log}
 use Rattle.fed_logs.proofs.Bearing.{kept_shown}
 
--- ---- what is kept of a control by a call
+-- ---- what is kept of a controller by a call
 
 record IsAwaited (b : ℕ) (c : ControlState) : Type 0 where
   counted : counts c.phase ≡ true
   up_to : c.floor.0 ≤ b
-  broken : is_telling c.phase ≡ false → c.floor.0 ≡ b
+  broken : is_reporting c.phase ≡ false → c.floor.0 ≡ b
 
 awaits_with : (s : Group) (j k b : ℕ) (change : ControlState → ControlState) → (j ≡ k → IsAwaited b (control_at s k) → IsAwaited b (change (control_at s k))) → AwaitsBreak s k b → AwaitsBreak (with_control j change s) k b
 awaits_with s j k b change here h =
@@ -50,7 +50,7 @@ awaits_with s j k b change here h =
     let now = at_with s j k change (IsAwaited b) h.low (λ is. here is was) (λ apart. was) in
     record { low = omega (arith, h.low, same_count s j change); counted = now.counted; up_to = now.up_to; broken = now.broken }
 
--- a reader tells up to its control's break time, and its break is at it
+-- a reader reports up to its controller's break time, and its break is at it
 pub told_up_to : (t : Trace) (b time : ℕ) → break_time t ≡ Some b → has_broken t time ≡ false → time ≤ b
 told_up_to t b time is none = ltb-false b time (ap (λ (o : Option ℕ). is_below o time) (sym is) ∙ none)
 
@@ -61,20 +61,20 @@ awaits_read : (s next : Group) (call : Call) (reply : Reply) (k b : ℕ) (t : Tr
 awaits_read s _ _ _ k b t is may (Same call reply none) fed h = h
 awaits_read s _ _ _ k b t is may (Joins batch) fed h =
     awaits_with s batch.control k b (joined batch)
-    (λ same was. record { counted = was.counted; up_to = told_up_to t b batch.upto.0 is (fed (eq-eqb batch.control k same) refl).1; broken = λ e. absurd (true≢false (sym (subst (λ i. is_telling (control_at s i).phase ≡ true) same may.legal.tells.telling) ∙ e)) }) h
+    (λ same was. record { counted = was.counted; up_to = told_up_to t b batch.upto.0 is (fed (eq-eqb batch.control k same) refl).1; broken = λ e. absurd (true≢false (sym (subst (λ i. is_reporting (control_at s i).phase ≡ true) same may.legal.tells.reporting) ∙ e)) }) h
 awaits_read s _ _ _ k b t is may (Copies j v x at slot wanted) fed h = awaits_with s j k b (copied v x at slot) (λ same was. record { counted = was.counted; up_to = was.up_to; broken = was.broken }) h
 awaits_read s _ _ _ k b t is may (Raises j upto) fed h =
     awaits_with s j k b (raised upto)
-    (λ same was. record { counted = was.counted; up_to = told_up_to t b upto.0 is (fed (eq-eqb j k same) refl).1; broken = λ e. absurd (true≢false (sym (subst (λ i. is_telling (control_at s i).phase ≡ true) same may.1.telling) ∙ e)) }) h
+    (λ same was. record { counted = was.counted; up_to = told_up_to t b upto.0 is (fed (eq-eqb j k same) refl).1; broken = λ e. absurd (true≢false (sym (subst (λ i. is_reporting (control_at s i).phase ≡ true) same may.1.reporting) ∙ e)) }) h
 awaits_read s _ _ _ k b t is may (Breaks j upto cause) fed h =
     awaits_with s j k b (broke upto cause) (λ same was. let at = broke_at t b upto cause is (fed (eq-eqb j k same) refl).1 in record { counted = refl; up_to = omega (arith, at); broken = λ e. at }) h
 
-telling_same : (cut floor : Stamp) (p : Phase) → counts (phase_after cut floor p) ≡ true → is_telling (phase_after cut floor p) ≡ is_telling p
-telling_same cut floor Telling e = refl
-telling_same cut floor Reported e = refl
-telling_same cut floor (Broken cause) e = choose (nat_eq floor.0 cut.0) e
+reporting_same : (cut floor : Stamp) (p : Phase) → counts (phase_after cut floor p) ≡ true → is_reporting (phase_after cut floor p) ≡ is_reporting p
+reporting_same cut floor Unbroken e = refl
+reporting_same cut floor Reported e = refl
+reporting_same cut floor (Broken cause) e = choose (nat_eq floor.0 cut.0) e
   where
-    choose : (t : Bool) → counts (cond t Reported (Broken cause)) ≡ true → is_telling (cond t Reported (Broken cause)) ≡ false
+    choose : (t : Bool) → counts (cond t Reported (Broken cause)) ≡ true → is_reporting (cond t Reported (Broken cause)) ≡ false
     choose true e = refl
     choose false e = refl
 
@@ -84,23 +84,23 @@ awaits_form s limit k b keeps none h =
     let cut = cut_of s limit in
     let c = control_at s k in
     let is = at_map cut s.controls k h.low in
-    let counted = counts_behind s cut k keeps h.low none h.counted in
+    let counted = counts_after s cut k keeps h.low none h.counted in
     let then : counts (phase_after cut c.floor c.phase) ≡ true = sym (ap (λ (c : ControlState). counts c.phase) is) ∙ counted in
     record {
       low = omega (arith, h.low, formed_count s cut);
       counted = counted;
       up_to = subst (λ (c : ControlState). c.floor.0 ≤ b) (sym is) h.up_to;
-      broken = λ e. ap (λ (c : ControlState). c.floor.0) is ∙ h.broken (sym (telling_same cut c.floor c.phase then) ∙ sym (ap (λ (c : ControlState). is_telling c.phase) is) ∙ e);
+      broken = λ e. ap (λ (c : ControlState). c.floor.0) is ∙ h.broken (sym (reporting_same cut c.floor c.phase then) ∙ sym (ap (λ (c : ControlState). is_reporting c.phase) is) ∙ e);
     }
 
--- The cut is up to the break time of a control that counts.
+-- The cut is up to the break time of a controller that counts.
 cut_up_to : (s : Group) (limit : Stamp) (k b : ℕ) → IsGroupSound s → AwaitsBreak s k b → is_break_of_control k (shown_at (cut_of s limit) s) ≡ false → (cut_of s limit).0 ≤ b
 cut_up_to s limit k b keeps h none =
     let cut = cut_of s limit in
     let next = formed_at cut s in
     let then = awaits_form s limit k b keeps none h in
     let kept = kept_form s limit.0 cut refl keeps in
-    let low = told_to_last cut (control_at next k) (all_at (has_told cut) next.controls k _ kept.told then.low) then.counted in
+    let low = reported_to_last cut (control_at next k) (all_at (has_reported cut) next.controls k _ kept.told then.low) then.counted in
     omega (arith, low, then.up_to)
 
 -- ---- a log
@@ -117,7 +117,7 @@ rest_among whole a run is = (is.0 ++ a ∷ [], append_assoc is.0 (a ∷ []) run 
 
 module _ (traces : List Trace) (whole : List Answer) (k b : ℕ) (t : Trace) (at : slice_get traces k ≡ Some t) (breaks : break_time t ≡ Some b) where
   abbrev Goal : (time : ℕ) → List PairRow → List Deed → Type 0
-  Goal time rows deeds = (n : ℕ) → n ≤ length deeds → b < time_meant_behind (take n deeds) time → ReportsBreak whole k b rows (take n deeds)
+  Goal time rows deeds = (n : ℕ) → n ≤ length deeds → b < time_meant_after (take n deeds) time → ReportsBreak whole k b rows (take n deeds)
 
   at_start : (time : ℕ) (rows : List PairRow) (deeds : List Deed) → deeds ≡ [] → time ≤ b → Goal time rows deeds
   at_start time rows deeds none low zero le past = absurd (omega (arith, low, past))
@@ -130,7 +130,7 @@ module _ (traces : List Trace) (whole : List Answer) (k b : ℕ) (t : Trace) (at
     where
       changed : Goal time fewer (quiet ++ more) → Goal time rows (Changed when fewer ∷ (quiet ++ more))
       changed goal zero le past = absurd (omega (arith, low, past))
-      changed goal (suc n) le past = Later rows (Changed when fewer) (take n (quiet ++ more)) (goal n (omega (arith, le)) (subst (λ m. b < time_meant_behind (take n (quiet ++ more)) m) is.0 past))
+      changed goal (suc n) le past = Later rows (Changed when fewer) (take n (quiet ++ more)) (goal n (omega (arith, le)) (subst (λ m. b < time_meant_after (take n (quiet ++ more)) m) is.0 past))
   quiet_goal time (Marked spot ended fewer ∷ quiet) rows next more is low goal = marked (quiet_goal time quiet fewer next more is.1 low goal)
     where
       marked : Goal time fewer (quiet ++ more) → Goal time rows (Marked spot ended fewer ∷ (quiet ++ more))

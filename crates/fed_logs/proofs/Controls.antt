@@ -1,4 +1,4 @@
--- Each change of a control keeps what is held.
+-- Each change of a controller keeps what is held.
 use Rattle.std.proofs.Common.{◌≡◌, ℕ, ◌<◌, ◌≤◌, Bool, true, false, not, cond, nat_eq, nat_lt, nat_le, ◌&&◌, ◌||◌, List, [], ◌∷◌, ◌++◌, length, Option, Some, ◌⊎◌, inl, inr, refl, sym, ap, subst, ◌∙◌, arith, true≢false}
 use Rattle.std.specs.Prelude.{filter, map}
 use Rattle.std.specs.List.{list_all}
@@ -20,7 +20,7 @@ use Rattle.group_state.specs.declared.phase.Phase.{Phase}
 use Rattle.group_state.specs.declared.volume.Volume.{Volume}
 use Rattle.group_state.specs.Volumes.{passes, carries, volume_of, is_carried, wants}
 use Rattle.group_state.specs.Controls.{ControlState, carried_writes, joined, copied, dropped, formed, begun_volume, resumed, forgotten}
-use Rattle.group_state.specs.SoundStates.{Sound, MayTell, MayJoin, is_dropped}
+use Rattle.group_state.specs.SoundStates.{Sound, MayReport, MayJoin, is_dropped}
 use Rattle.group_state.proofs.SoundLaws.{all_filter}
 use Rattle.fed_logs.specs.ToldTracks.{after_entries, is_queued_up_to, is_write_up_to, is_no_later_copy, has_no_later_copy, HoldsTold}
 use Rattle.fed_logs.proofs.Entries.{changed_append, changed_none, changed_filter, up_to_later}
@@ -157,7 +157,7 @@ copies_in truth last held c w y at recs sound floor tells h = record {
 
 -- ---- a time
 
-pub tells_upto : (truth : Tracks) (last : ℕ) (held : Kept) (c : ControlState) (upto : Stamp) (phase : Phase) → Sound c → MayTell c upto → last ≤ c.floor.0
+pub tells_upto : (truth : Tracks) (last : ℕ) (held : Kept) (c : ControlState) (upto : Stamp) (phase : Phase) → Sound c → MayReport c upto → last ≤ c.floor.0
     → ((v x t : ℕ) → c.floor.0 ≤ t → t ≤ upto.0 → truth v x t ≡ truth v x c.floor.0) → HoldsTold truth last held c → HoldsTold truth last held (record c { floor = upto; phase = phase })
 tells_upto truth last held c upto phase sound may low tells h = record {
   holds = λ v x t settled copies from to. elim (cases_lt c.floor.0 t) [

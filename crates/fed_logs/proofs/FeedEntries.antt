@@ -70,11 +70,11 @@ rise_lower low last (x ∷ entries) le e =
     and_from (nat_le low (stamp_of x)) (do_rise (stamp_of x) entries) (le-leb low (stamp_of x) (omega arith)) parts.1
 
 -- what follows some of them
-pub rise_behind : (last : ℕ) (some rest : List Entry) → do_rise last (some ++ rest) ≡ true → do_rise last rest ≡ true
-rise_behind last [] rest e = e
-rise_behind last (x ∷ some) rest e =
+pub rise_after : (last : ℕ) (some rest : List Entry) → do_rise last (some ++ rest) ≡ true → do_rise last rest ≡ true
+rise_after last [] rest e = e
+rise_after last (x ∷ some) rest e =
     let parts = and_parts (nat_le last (stamp_of x)) (do_rise (stamp_of x) (some ++ rest)) e in
-    rise_lower last (stamp_of x) rest (leb-true last (stamp_of x) parts.0) (rise_behind (stamp_of x) some rest parts.1)
+    rise_lower last (stamp_of x) rest (leb-true last (stamp_of x) parts.0) (rise_after (stamp_of x) some rest parts.1)
 
 -- their stamps are that or later
 rise_from : (low : ℕ) (entries : List Entry) → do_rise low entries ≡ true → list_all (λ e. nat_le low (stamp_of e)) entries ≡ true
@@ -106,7 +106,7 @@ writes_in_three is before run ahead =
     ap (filter is) (writes_then (before ++ run) ahead ∙ ap (λ (ws : List Write). ws ++ writes_of ahead) (writes_then before run)) ∙ in_three is (writes_of before) (writes_of run) (writes_of ahead)
 
 module _ (time upto : ℕ) (before run ahead : List Entry) (early : list_all (is_up_to time) before ≡ true) (within : list_all (is_between time upto) run ≡ true) (later : do_rise (upto + 1) ahead ≡ true) where
-  -- Behind the primary's time, up to the time that the sidefile has reported, is the run that is held.
+  -- After the primary's time, up to the time that the sidefile has reported, is the run that is held.
   pub held_between : filter (is_between time upto) ((before ++ run) ++ ahead) ≡ run
   held_between =
       let is = is_between time upto in
@@ -137,7 +137,7 @@ module _ (time upto : ℕ) (before run ahead : List Entry) (early : list_all (is
 pub up_to_more : (time to : ℕ) (entries : List Entry) → time ≤ to → list_all (is_up_to time) entries ≡ true → list_all (is_up_to to) entries ≡ true
 up_to_more time to entries low all = all_more (is_up_to time) (is_up_to to) entries (λ e le. le-leb (stamp_of e) to (let l = leb-true (stamp_of e) time le in omega (arith, l, low))) all
 
--- Where what is ahead is behind a later time, none is between.
+-- Where what is ahead is after a later time, none is between.
 pub none_between : (time to : ℕ) (before ahead : List Entry) → list_all (is_up_to time) before ≡ true → do_rise (to + 1) ahead ≡ true → filter (is_between time to) ((before ++ []) ++ ahead) ≡ []
 none_between time to before ahead early later = held_between time to before [] ahead early refl later
 
@@ -199,7 +199,7 @@ begin_with_one : (entries : List Entry) → BeginsWithOne (runs entries)
 begin_with_one [] = tt
 begin_with_one (e ∷ entries) = with_first_one e (runs entries) (begin_with_one entries)
 
--- The first run of entries behind a time: it is one, with a stamp behind that time, and the next run has a later one.
+-- The first run of entries after a time: it is one, with a stamp after that time, and the next run has a later one.
 pub record FirstRun (low : ℕ) (run : List Entry) (more : List (List Entry)) : Type 0 where
   pub one : runs run ≡ run ∷ []
   pub stamps : have_stamp (run_stamp run) run ≡ true
@@ -226,12 +226,12 @@ first_run low (e ∷ entries) (first ∷ taken) more rise is =
     let above = leb-true (low + 1) (stamp_of e) parts.0 in
     let from_it : do_rise (stamp_of e) (e ∷ entries) ≡ true = and_from (nat_le (stamp_of e) (stamp_of e)) (do_rise (stamp_of e) entries) (le-leb (stamp_of e) (stamp_of e) (omega arith)) parts.1 in
     let from : all_from (stamp_of e) ((first ∷ taken) ∷ more) ≡ true = subst (λ (rs : List (List Entry)). all_from (stamp_of e) rs ≡ true) is (runs_from (stamp_of e) (stamp_of e) (e ∷ entries) (omega arith) from_it) in
-    let behind : all_from (stamp_of first) more ≡ true = subst (λ (n : ℕ). all_from n more ≡ true) stamp (and_parts (nat_le (stamp_of e) (stamp_of first)) (all_from (stamp_of e) more) from).1 in
+    let after : all_from (stamp_of first) more ≡ true = subst (λ (n : ℕ). all_from n more ≡ true) stamp (and_parts (nat_le (stamp_of e) (stamp_of first)) (all_from (stamp_of e) more) from).1 in
     record {
       one = run_at_end first taken (and_parts (nat_eq (stamp_of first) (stamp_of first)) (have_stamp (stamp_of first) taken) one.0).1;
       stamps = one.0;
       above = omega (arith, above, stamp);
-      later = next_later (stamp_of first) more behind one.1;
+      later = next_later (stamp_of first) more after one.1;
     }
 
 -- Entries of a stamp between two times are between them.
@@ -266,9 +266,9 @@ late_break cause limit run (next ∷ more) from =
     choose low rest true is = rw is (le-ltb (run_stamp run - 1) limit (omega arith))
     choose low rest false is = rw is rest
 
--- ---- what is behind a time
+-- ---- what is after a time
 
--- Entries of which the first run is above a time rise from behind it.
+-- Entries of which the first run is above a time rise from after it.
 pub above_rises : (limit : ℕ) (entries : List Entry) → do_rise 0 entries ≡ true → IsAbove limit (runs entries) → do_rise (limit + 1) entries ≡ true
 above_rises limit [] rise above = refl
 above_rises limit (e ∷ entries) rise above =

@@ -49,7 +49,7 @@ leaves Failing t control limit now old new bytes later given is l come turn ends
     let same = l.fronts turn later in
     record { hand_is = same.hand (cause_of t.end); runs_left = same.runs; ends_so = ends }
 
--- a reader that may go on behind a hand went on before
+-- a reader that may go on after a hand went on before
 pub could_turn_out : (o : Outlook) (control limit : ℕ) (now : Option (List ℕ)) (old new : SidefileState) (bytes later : List ℕ) (given : Hand) → (l : LeavesRuns control limit now (front_of old) (front_of new) bytes given)
     → MayTurnOut o later None new.reader.stopped → MayTurnOut o (l.used ++ later) None old.reader.stopped
 could_turn_out Whole control limit now old new bytes later given l turn = tt
@@ -57,8 +57,8 @@ could_turn_out Failing control limit now old new bytes later given l turn = l.we
 
 -- ---- a batch
 
--- A batch is that of the first run that was ahead, which is behind a time, up to the batch's. It goes up to the limit, or to just before what is
--- left. What is left is behind the batch's time, and so is the break.
+-- A batch is that of the first run that was ahead, which is after a time, up to the batch's. It goes up to the limit, or to just before what is
+-- left. What is left is after the batch's time, and so is the break.
 pub record TakesRun (limit low : ℕ) (cause : Option Cause) (old new : List Entry) (batch : Batch) : Type 0 where
   pub run : List Entry
   pub split : old ≡ run ++ new
@@ -89,7 +89,7 @@ takes_run control limit low cause old new batch rise is left = choose (step cont
     choose : Step control cause limit (runs old) → TakesRun limit low cause old new batch
     choose (Takes run more upto first h there goes crowded clean) =
         let same : batch ≡ batch_of control run upto = (let b : hands.Batch batch ≡ hands.Batch (batch_of control run upto) = is ∙ h in cc b) in
-        let behind : runs new ≡ more = left ∙ ap (left_after (hands.Batch batch)) first in
+        let after : runs new ≡ more = left ∙ ap (left_after (hands.Batch batch)) first in
         let up : batch.upto.0 ≡ upto = ap (λ (b : Batch). b.upto.0) same in
         let writes : batch.writes ≡ writes_of run = ap (λ (b : Batch). b.writes) same in
         let f = first_run low old run more rise first in
@@ -97,14 +97,14 @@ takes_run control limit low cause old new batch rise is left = choose (step cont
         let high : run_stamp run ≤ upto = goes_up limit upto (run_stamp run) more there f.later goes in
         record {
           run = run;
-          split = begin_with_run old new run more first behind;
+          split = begin_with_run old new run more first after;
           is = record { one = ap length f.one; writes = writes; room = (let few = ltb-false WRITES_OF_RUN (length (writes_of run)) crowded in omega (arith, few, ap length writes)) };
           later = omega (arith, low_is, high, up);
           within = stamp_between low batch.upto.0 (run_stamp run) run low_is (omega (arith, high, up)) f.stamps;
-          goes = subst (λ (n : ℕ). GoesTo limit n (runs new)) (sym up) (subst (GoesTo limit upto) (sym behind) goes);
-          above = subst (λ (n : ℕ). IsAbove n (runs new)) (sym up) (subst (IsAbove upto) (sym behind) (goes_above limit upto more (omega (arith, low_is, high)) goes));
-          clean = λ none. clean (sym behind ∙ none);
-          same = ap (break_in cause) behind ∙ break_left cause run more crowded clean ∙ ap (break_in cause) (sym first);
+          goes = subst (λ (n : ℕ). GoesTo limit n (runs new)) (sym up) (subst (GoesTo limit upto) (sym after) goes);
+          above = subst (λ (n : ℕ). IsAbove n (runs new)) (sym up) (subst (IsAbove upto) (sym after) (goes_above limit upto more (omega (arith, low_is, high)) goes));
+          clean = λ none. clean (sym after ∙ none);
+          same = ap (break_in cause) after ∙ break_left cause run more crowded clean ∙ ap (break_in cause) (sym first);
         }
     choose (Waits h above clean) = absurd (let b : hands.Batch batch ≡ hands.AtLimit = is ∙ h in cc b)
     choose (Breaks b h upto there some br) = absurd (let c : hands.Batch batch ≡ broken b = is ∙ h in cc c)
@@ -126,7 +126,7 @@ waits_above control limit cause entries is = choose (step control cause limit (r
 
 -- ---- a break
 
--- The break that is handed over is that of the runs that are ahead, and these are behind its time.
+-- The break that is handed over is that of the runs that are ahead, and these are after its time.
 pub record GivesUp (cause : Option Cause) (entries : List Entry) (why : Cause) (upto : Stamp) : Type 0 where
   pub break_is : break_in cause (runs entries) ≡ Some (record { cause = why; upto = upto.0 })
   pub later : do_rise (upto.0 + 1) entries ≡ true

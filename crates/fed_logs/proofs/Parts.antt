@@ -1,4 +1,4 @@
--- What a group leaves of one control's tracks.
+-- What a group leaves of one controller's tracks.
 use Rattle.std.proofs.Common.{◌≡◌, ℕ, Bool, true, false, cond, ◌&&◌, List, [], ◌∷◌, Option, refl}
 use Rattle.std.specs.Prelude.{filter}
 use Rattle.ckd_track.specs.declared.rec.Rec.{Rec}
@@ -7,7 +7,7 @@ use Rattle.image_former.specs.Changes.{changed_by}
 use Rattle.group_state.specs.SoundStates.{is_entry_of_control}
 use Rattle.fed_logs.specs.ToldTracks.{after_entries, names_track}
 
--- Of a control's tracks only its own entries are.
+-- Of a controller's tracks only its own entries are.
 pub names_own : (k v x : ℕ) (entries : List WaitingEntry) (old : Option (List Rec)) → after_entries (names_track k v x) entries old ≡ after_entries (is_queued_on v x) (filter (is_entry_of_control k) entries) old
 names_own k v x [] old = refl
 names_own k v x (e ∷ entries) old = choose (is_entry_of_control k e) (names_own k v x entries)

@@ -1,4 +1,4 @@
--- A log behind one of its calls is a log, from what a log begins with to the same.
+-- A log after one of its calls is a log, from what a log begins with to the same.
 use Rattle.std.proofs.Common.{◌≡◌, ℕ, ◌<◌, ◌≤◌, Bool, true, false, not, cond, nat_eq, nat_lt, nat_le, ◌&&◌, ◌||◌, List, [], ◌∷◌, length, get_or, Option, Some, None, inl, refl, sym, ap, subst, ◌∙◌, arith, true≢false}
 use Rattle.std.specs.Prelude.{MatchBool, slice_get}
 use Rattle.std.specs.List.{list_all}
@@ -19,15 +19,15 @@ use Rattle.group_state.specs.Machine.Call.{Join, NextWanted, Copied, Raise, Brea
 use Rattle.group_state.specs.Machine.Reply.{Made, Joined, Held, Stale, Wanted, Formed, Nothing, Owed}
 use Rattle.group_state.specs.Runs.{Answer, Runs, May}
 use Rattle.group_state.proofs.Kept.{kept_form}
-use Rattle.fed_logs.specs.ToldTracks.{HeldTracks, AllHold, TellsTruth, floor_of, has_changed, is_no_later_copy, has_no_later_copy, is_track_settled, held_behind_group, held_after}
+use Rattle.fed_logs.specs.ToldTracks.{HeldTracks, AllHold, ReportsTruth, floor_of, has_changed, is_no_later_copy, has_no_later_copy, is_track_settled, held_after_group, held_after}
 use Rattle.fed_logs.proofs.Keeping.{at_map, form_keeps, steps_keep, done_is_told}
 use Rattle.record_rows.specs.Deeds.{Deed}
 use Rattle.record_rows.specs.Deeds.Deed.{Logged, Changed, Marked}
-use Rattle.fed_logs.specs.Feeds.{truth_of, floor_behind, IsFedBy, AreFedBy, is_answer_of, is_call_of_reader, part_of_reader}
+use Rattle.fed_logs.specs.Feeds.{truth_of, floor_after_call, IsFedBy, AreFedBy, is_answer_of, is_call_of_reader, part_of_reader}
 use Rattle.group_state.specs.Calls.{is_by_reader}
 use Rattle.fed_logs.specs.Moves.{HasRowIn, IsDuplex, AreFewer, AreQuiet, MayFollow, ShowsNothing, Plans, plans_with_shown, plans_without}
 use Rattle.fed_logs.specs.Logs.{Sizes, is_of_size, IsFedLog, BeginsLog, is_call_of_seat}
-use Rattle.fed_logs.proofs.Writes.{fed_tell_truth}
+use Rattle.fed_logs.proofs.Writes.{fed_report_truth}
 use Rattle.fed_logs.proofs.Went.{WentRead, went_read}
 use Rattle.fed_logs.proofs.Went.WentRead.{Same, Joins, Copies, Raises, Breaks}
 use Rattle.fed_logs.proofs.Standing.{at_with, same_count, formed_count, sized_read, sized_drop, sized_form, kept_read, kept_drop, stands_read, stands_drop, stands_form, stands_fewer, duplex_lives}
@@ -40,9 +40,9 @@ answer_of call reply = record { call = call; reply = reply }
 floor_with : (s : Group) (j k : ℕ) (change : ControlState → ControlState) (floor : ℕ) → k < length s.controls → (j ≡ k → (change (control_at s k)).floor.0 ≡ floor) → (nat_eq j k ≡ false → floor_of s k ≡ floor) → floor_of (with_control j change s) k ≡ floor
 floor_with s j k change floor low here there = at_with s j k change (λ c. c.floor.0 ≡ floor) low here there
 
--- the floor of a control after a call that is its own and changed the state, and after one of another control
+-- the floor of a controller after a call that is its own and changed the state, and after one of another controller
 pub floor_next : (s next : Group) (call : Call) (reply : Reply) (k : ℕ) → WentRead s call reply next → k < length s.controls
-    → (is_by_reader k call ≡ true → has_changed reply ≡ true → floor_of next k ≡ floor_behind (floor_of s k) call) × (is_by_reader k call ≡ false → floor_of next k ≡ floor_of s k) × (has_changed reply ≡ false → floor_of next k ≡ floor_of s k)
+    → (is_by_reader k call ≡ true → has_changed reply ≡ true → floor_of next k ≡ floor_after_call (floor_of s k) call) × (is_by_reader k call ≡ false → floor_of next k ≡ floor_of s k) × (has_changed reply ≡ false → floor_of next k ≡ floor_of s k)
 floor_next s _ _ _ k (Same call reply none) low = (λ own done. absurd (true≢false (sym done ∙ none)), λ other. refl, λ none. refl)
 floor_next s _ _ _ k (Joins b) low = (
   λ own done. floor_with s b.control k (joined b) b.upto.0 low (λ e. refl) (λ apart. absurd (true≢false (sym own ∙ apart))),
@@ -97,13 +97,13 @@ read_held held s _ _ _ (Copies j v x at slot wanted) = refl
 read_held held s _ _ _ (Raises j upto) = refl
 read_held held s _ _ _ (Breaks j upto cause) = refl
 
--- ---- what is fed behind a call
+-- ---- what is fed after a call
 
-fed_behind : (t : Trace) (k floor next : ℕ) (a : Answer) (run : List Answer) → (is_answer_of k a ≡ true → has_changed a.reply ≡ true → next ≡ floor_behind floor a.call) → (is_answer_of k a ≡ false → next ≡ floor) → (has_changed a.reply ≡ false → next ≡ floor)
+fed_after : (t : Trace) (k floor next : ℕ) (a : Answer) (run : List Answer) → (is_answer_of k a ≡ true → has_changed a.reply ≡ true → next ≡ floor_after_call floor a.call) → (is_answer_of k a ≡ false → next ≡ floor) → (has_changed a.reply ≡ false → next ≡ floor)
     → AreFedBy t floor (part_of_reader k (a ∷ run)) → AreFedBy t next (part_of_reader k run)
-fed_behind t k floor next a run own other none h = choose (is_answer_of k a) refl h
+fed_after t k floor next a run own other none h = choose (is_answer_of k a) refl h
   where
-    by : (d : Bool) → has_changed a.reply ≡ d → is_answer_of k a ≡ true → MatchBool d (IsFedBy t floor a.call × AreFedBy t (floor_behind floor a.call) (part_of_reader k run)) (AreFedBy t floor (part_of_reader k run)) → AreFedBy t next (part_of_reader k run)
+    by : (d : Bool) → has_changed a.reply ≡ d → is_answer_of k a ≡ true → MatchBool d (IsFedBy t floor a.call × AreFedBy t (floor_after_call floor a.call) (part_of_reader k run)) (AreFedBy t floor (part_of_reader k run)) → AreFedBy t next (part_of_reader k run)
     by true is mine h = subst (λ n. AreFedBy t n (part_of_reader k run)) (sym (own mine is)) h.1
     by false is mine h = subst (λ n. AreFedBy t n (part_of_reader k run)) (sym (none is)) h
 
@@ -111,11 +111,11 @@ fed_behind t k floor next a run own other none h = choose (is_answer_of k a) ref
     choose true is h = by (has_changed a.reply) refl is h
     choose false is h = subst (λ n. AreFedBy t n (part_of_reader k run)) (sym (other is)) h
 
--- a control's own call that changed the state is fed
+-- a controller's own call that changed the state is fed
 pub fed_own : (t : Trace) (k floor : ℕ) (a : Answer) (run : List Answer) → is_answer_of k a ≡ true → has_changed a.reply ≡ true → AreFedBy t floor (part_of_reader k (a ∷ run)) → IsFedBy t floor a.call
 fed_own t k floor a run own done h = choose (is_answer_of k a) own (has_changed a.reply) done h
   where
-    by : (d : Bool) → d ≡ true → MatchBool d (IsFedBy t floor a.call × AreFedBy t (floor_behind floor a.call) (part_of_reader k run)) (AreFedBy t floor (part_of_reader k run)) → IsFedBy t floor a.call
+    by : (d : Bool) → d ≡ true → MatchBool d (IsFedBy t floor a.call × AreFedBy t (floor_after_call floor a.call) (part_of_reader k run)) (AreFedBy t floor (part_of_reader k run)) → IsFedBy t floor a.call
     by true e h = h.0
     by false e h = absurd (true≢false (sym e))
 
@@ -141,14 +141,14 @@ own_of s (Drop k v all) reads may = absurd cc
 own_of s (Resume k v) reads may = absurd cc
 own_of s (Forget k v) reads may = absurd cc
 
--- a trace that some control has, at its place
+-- a trace that some controller has, at its place
 pub some_trace : (traces : List Trace) (k : ℕ) → k < length traces → (t : Trace) × (slice_get traces k ≡ Some t)
 some_trace (t ∷ traces) k low = (get_or (t ∷ traces) k t, slice_get-get_or (t ∷ traces) k t low)
 some_trace [] k low = absurd (omega (arith, low))
 
 -- ---- a reader's call
 
--- What comes of one call: the state behind it, how it came to be, and the log from there.
+-- What comes of one call: the state after it, how it came to be, and the log from there.
 pub record ReadOn (traces : List Trace) (s end : Group) (call : Call) (reply : Reply) (run : List Answer) : Type 0 where
   pub next : Group
   pub may : May s call
@@ -175,15 +175,15 @@ read_on traces s end call reply run reads h =
         fed = λ k t at.
             let low : k < length s.controls = omega (arith, slice_get_within traces k t at, h.each) in
             let f = floor_next s next call reply k went low in
-            fed_behind t k (floor_of s k) (floor_of next k) (answer_of call reply) run f.0 f.1 f.2 (h.fed k t at);
+            fed_after t k (floor_of s k) (floor_of next k) (answer_of call reply) run f.0 f.1 f.2 (h.fed k t at);
       };
     }
 
-read_tells : (traces : List Trace) (s end : Group) (call : Call) (reply : Reply) (run : List Answer) → is_call_of_reader call ≡ true → May s call → IsFedLog traces s end (answer_of call reply ∷ run) → has_changed reply ≡ true → TellsTruth (truth_of traces) s call
+read_tells : (traces : List Trace) (s end : Group) (call : Call) (reply : Reply) (run : List Answer) → is_call_of_reader call ≡ true → May s call → IsFedLog traces s end (answer_of call reply ∷ run) → has_changed reply ≡ true → ReportsTruth (truth_of traces) s call
 read_tells traces s end call reply run reads may h done =
     let own = own_of s call reads may in
     let t = some_trace traces own.control (omega (arith, own.low, h.each)) in
-    fed_tell_truth traces s call own.control t.0 h.falls t.1 own.own may (fed_own t.0 own.control (floor_of s own.control) (answer_of call reply) run own.own done (h.fed own.control t.0 t.1))
+    fed_report_truth traces s call own.control t.0 h.falls t.1 own.own may (fed_own t.0 own.control (floor_of s own.control) (answer_of call reply) run own.own done (h.fed own.control t.0 t.1))
 
 pub read_begins : (size : Sizes) (traces : List Trace) (held : HeldTracks) (s end : Group) (call : Call) (reply : Reply) (run : List Answer) (time : ℕ) (rows : List PairRow) (done : Plans) → is_call_of_reader call ≡ true → IsFedLog traces s end (answer_of call reply ∷ run)
     → (on : ReadOn traces s end call reply run) → BeginsLog size traces held s time rows done → BeginsLog size traces held on.next time rows done
@@ -256,10 +256,10 @@ none_later v x cut (e ∷ entries) none =
     free true false c d e = refl
     free false b c d e = refl
 
--- behind a group that is logged
+-- after a group that is logged
 pub form_begins : (size : Sizes) (traces : List Trace) (held : HeldTracks) (s end : Group) (limit : Stamp) (reply : Reply) (run : List Answer) (time : ℕ) (rows next : List PairRow) (done : Plans) → IsFedLog traces s end (answer_of (Form limit) reply ∷ run)
     → MayFollow (shown_at (cut_of s limit) s) rows next → BeginsLog size traces held s time rows done
-    → BeginsLog size traces (held_behind_group (shown_at (cut_of s limit) s).entries held) (formed_at (cut_of s limit) s) (cut_of s limit).0 next (plans_with_shown (shown_at (cut_of s limit) s) done)
+    → BeginsLog size traces (held_after_group (shown_at (cut_of s limit) s).entries held) (formed_at (cut_of s limit) s) (cut_of s limit).0 next (plans_with_shown (shown_at (cut_of s limit) s) done)
 form_begins size traces held s end limit reply run time rows next done h follow b =
     let cut = cut_of s limit in
     let truth = truth_of traces in
@@ -278,14 +278,14 @@ form_begins size traces held s end limit reply run time rows next done h follow 
           (settled_from x (size k v) (volume_of v c.volumes) d.1.carried (d.1.unwanted x) (sized k v d.0) low) (none_later v x cut.0 c.queue.waiting d.1.copies);
     }
 
--- behind a form that shows nothing
+-- after a form that shows nothing
 pub nothing_begins : (size : Sizes) (traces : List Trace) (held : HeldTracks) (s end : Group) (limit : Stamp) (reply : Reply) (run : List Answer) (time : ℕ) (rows : List PairRow) (done : Plans) → IsFedLog traces s end (answer_of (Form limit) reply ∷ run)
     → ShowsNothing time rows (shown_at (cut_of s limit) s) → BeginsLog size traces held s time rows done → BeginsLog size traces held (formed_at (cut_of s limit) s) time rows (plans_with_shown (shown_at (cut_of s limit) s) done)
 nothing_begins size traces held s end limit reply run time rows done h none b =
     let cut = cut_of s limit in
     record {
       sized = sized_form size s cut b.sized;
-      holds = subst (λ (es : List WaitingEntry). AllHold (truth_of traces) (held_behind_group es held) (formed_at cut s)) none.entries (form_keeps (truth_of traces) held s limit h.kept h.runs.1 b.holds);
+      holds = subst (λ (es : List WaitingEntry). AllHold (truth_of traces) (held_after_group es held) (formed_at cut s)) none.entries (form_keeps (truth_of traces) held s limit h.kept h.runs.1 b.holds);
       last = none.at;
       stand = stands_form s limit rows rows done h.kept (record { live = λ k v has. (none.breaks k v has, has); duplex = λ k v has. inl has }) b.stand;
       truth = b.truth;

@@ -9,7 +9,7 @@ use Rattle.group_state.specs.Machine.{Call, Reply}
 use Rattle.group_state.specs.Machine.Call.{Join, NextWanted, Copied, Raise, Break, Form, Carry, Drop, Resume, Forget}
 use Rattle.group_state.specs.Runs.{Answer, Runs}
 use Rattle.group_state.proofs.Kept.{least_within}
-use Rattle.record_rows.specs.Deeds.{Deed, time_meant_behind}
+use Rattle.record_rows.specs.Deeds.{Deed, time_meant_after}
 use Rattle.record_rows.specs.Deeds.Deed.{Logged, Changed, Marked}
 use Rattle.fed_logs.specs.Feeds.{part_of_mover}
 use Rattle.fed_logs.specs.Moves.{AreQuiet, ShowsNothing, Plans, plans_with_shown, plans_without, IsLogged, KeepsShown, KeepsCall, IsKeptOn, MakesDeeds}
@@ -20,16 +20,16 @@ use Rattle.fed_logs.proofs.Bearing.{kept_shown}
 
 module _ (limit : ℕ) where
   abbrev Goal : (time : ℕ) → List Deed → Type 0
-  Goal time deeds = (n m : ℕ) → n ≤ m → m ≤ length deeds → (time_meant_behind (take n deeds) time ≤ time_meant_behind (take m deeds) time) × (time_meant_behind (take m deeds) time ≤ limit)
+  Goal time deeds = (n m : ℕ) → n ≤ m → m ≤ length deeds → (time_meant_after (take n deeds) time ≤ time_meant_after (take m deeds) time) × (time_meant_after (take m deeds) time ≤ limit)
 
   at_start : (time : ℕ) (deeds : List Deed) → deeds ≡ [] → time ≤ limit → Goal time deeds
   at_start time deeds none le zero zero nm few = (omega arith, le)
   at_start time deeds none le n (suc m) nm few = absurd (let none_left : length deeds ≡ 0 = ap (λ (ds : List Deed). length ds) none in omega (arith, none_left, few))
   at_start time deeds none le (suc n) zero nm few = absurd (omega (arith, nm))
 
-  -- a deed, and those behind it from its time on
+  -- a deed, and those after it from its time on
   first : (time then : ℕ) (deeds : List Deed) → time ≤ then → time ≤ limit → Goal then deeds → (n m : ℕ) → n ≤ m → m ≤ suc (length deeds)
-      → (deed : Deed) → ((t : ℕ) (ds : List Deed) → time_meant_behind (deed ∷ ds) time ≡ time_meant_behind ds then) → (time_meant_behind (take n (deed ∷ deeds)) time ≤ time_meant_behind (take m (deed ∷ deeds)) time) × (time_meant_behind (take m (deed ∷ deeds)) time ≤ limit)
+      → (deed : Deed) → ((t : ℕ) (ds : List Deed) → time_meant_after (deed ∷ ds) time ≡ time_meant_after ds then) → (time_meant_after (take n (deed ∷ deeds)) time ≤ time_meant_after (take m (deed ∷ deeds)) time) × (time_meant_after (take m (deed ∷ deeds)) time ≤ limit)
   first time then deeds up le goal zero zero nm few deed is = (omega arith, le)
   first time then deeds up le goal zero (suc m) nm few deed is =
       let rest = goal 0 m (omega arith) (omega (arith, few)) in
@@ -46,7 +46,7 @@ module _ (limit : ℕ) where
   quiet_goal time [] rows next more is le goal = goal
   quiet_goal time (Logged cut entries fewer ∷ quiet) rows next more is le goal = absurd is
   quiet_goal time (Changed at fewer ∷ quiet) rows next more is le goal = λ n m nm few.
-      first time time (quiet ++ more) (omega arith) le (quiet_goal time quiet fewer next more is.2 le goal) n m nm few (Changed at fewer) (λ t ds. ap (time_meant_behind ds) is.0)
+      first time time (quiet ++ more) (omega arith) le (quiet_goal time quiet fewer next more is.2 le goal) n m nm few (Changed at fewer) (λ t ds. ap (time_meant_after ds) is.0)
   quiet_goal time (Marked spot ended fewer ∷ quiet) rows next more is le goal = λ n m nm few.
       first time time (quiet ++ more) (omega arith) le (quiet_goal time quiet fewer next more is.1 le goal) n m nm few (Marked spot ended fewer) (λ t ds. refl)
 

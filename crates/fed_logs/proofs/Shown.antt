@@ -11,10 +11,10 @@ use Rattle.change_map.specs.Sets.{has_track, size}
 use Rattle.pending_queue.specs.Entries.{is_copy_of}
 use Rattle.pending_queue.proofs.VolumeLaws.{any_append}
 use Rattle.group_state.specs.declared.phase.Phase.{Phase}
-use Rattle.group_state.specs.declared.phase.Phase.TheVariants.{Telling, Broken, Reported}
+use Rattle.group_state.specs.declared.phase.Phase.TheVariants.{Unbroken, Broken, Reported}
 use Rattle.group_state.specs.declared.volume.Volume.{Volume}
 use Rattle.group_state.specs.Volumes.{is_numbered, volume_of, has_volume, passes, wants, is_volume_done}
-use Rattle.group_state.specs.Controls.{ControlState, new_control, counts, is_telling, reported, reported_cause, reported_break, phase_after, formed, done_of}
+use Rattle.group_state.specs.Controls.{ControlState, new_control, counts, is_reporting, reported, reported_cause, reported_break, phase_after, formed, done_of}
 use Rattle.group_state.specs.Groups.{Group, control_at, formed_at, shown_at}
 use Rattle.group_state.specs.SoundStates.{Sound, IsGroupSound, are_distinct, passes_or_none, has_joined}
 use Rattle.group_state.specs.HistoryLaws.{is_named}
@@ -59,9 +59,9 @@ flat_any p f (a ∷ items) (suc i) d low any = any_append p (f a) (flat_map f it
 abbrev is_of : (k : ℕ) → ℕ × Stamp × Cause → Bool
 is_of k b = nat_eq b.0 k
 
--- a control that counts, and of which no break is reported, counts behind the form
+-- a controller that counts, and of which no break is reported, counts after the form
 still_counts : (k : ℕ) (cut floor : Stamp) (phase : Phase) → list_any (is_of k) (reported k floor (reported_cause cut floor phase)) ≡ false → counts phase ≡ true → counts (phase_after cut floor phase) ≡ true
-still_counts k cut floor Telling none e = refl
+still_counts k cut floor Unbroken none e = refl
 still_counts k cut floor Reported none e = absurd cc
 still_counts k cut floor (Broken cause) none e = choose (nat_eq floor.0 cut.0) none
   where
@@ -69,8 +69,8 @@ still_counts k cut floor (Broken cause) none e = choose (nat_eq floor.0 cut.0) n
     choose true none = absurd (true≢false (sym (either_left (nat_eq k k) false (eq-eqb k k refl)) ∙ none))
     choose false none = refl
 
-pub counts_behind : (s : Group) (cut : Stamp) (k : ℕ) → IsGroupSound s → k < length s.controls → is_break_of_control k (shown_at cut s) ≡ false → counts (control_at s k).phase ≡ true → counts (control_at (formed_at cut s) k).phase ≡ true
-counts_behind s cut k keeps low none counted =
+pub counts_after : (s : Group) (cut : Stamp) (k : ℕ) → IsGroupSound s → k < length s.controls → is_break_of_control k (shown_at cut s) ≡ false → counts (control_at s k).phase ≡ true → counts (control_at (formed_at cut s) k).phase ≡ true
+counts_after s cut k keeps low none counted =
     let c = control_at s k in
     let own = control_number s k keeps low in
     let here : list_any (is_of k) (reported_break cut c) ≡ false = elim (cases_Bool (list_any (is_of k) (reported_break cut c))) [
@@ -81,8 +81,8 @@ counts_behind s cut k keeps low none counted =
     ∙ still_counts k cut c.floor c.phase (subst (λ i. list_any (is_of k) (reported i c.floor (reported_cause cut c.floor c.phase)) ≡ false) own here) counted
 
 -- what is reported has broken, at the cut
-told_break : (j k : ℕ) (cut floor : Stamp) (phase : Phase) → list_any (is_of k) (reported j floor (reported_cause cut floor phase)) ≡ true → (j ≡ k) × (cut.0 ≡ floor.0) × (is_telling phase ≡ false)
-told_break j k cut floor Telling any = absurd cc
+told_break : (j k : ℕ) (cut floor : Stamp) (phase : Phase) → list_any (is_of k) (reported j floor (reported_cause cut floor phase)) ≡ true → (j ≡ k) × (cut.0 ≡ floor.0) × (is_reporting phase ≡ false)
+told_break j k cut floor Unbroken any = absurd cc
 told_break j k cut floor Reported any = absurd cc
 told_break j k cut floor (Broken cause) any = choose (nat_eq floor.0 cut.0) refl any
   where
@@ -94,13 +94,13 @@ told_break j k cut floor (Broken cause) any = choose (nat_eq floor.0 cut.0) refl
     choose true is any = (eqb-true j k (first (nat_eq j k) any), sym (eqb-true floor.0 cut.0 is), refl)
     choose false is any = absurd cc
 
-pub break_was_told : (s : Group) (cut : Stamp) (k : ℕ) → IsGroupSound s → is_break_of_control k (shown_at cut s) ≡ true → (k < length s.controls) × (cut.0 ≡ (control_at s k).floor.0) × (is_telling (control_at s k).phase ≡ false)
+pub break_was_told : (s : Group) (cut : Stamp) (k : ℕ) → IsGroupSound s → is_break_of_control k (shown_at cut s) ≡ true → (k < length s.controls) × (cut.0 ≡ (control_at s k).floor.0) × (is_reporting (control_at s k).phase ≡ false)
 break_was_told s cut k keeps any =
     let at = any_flat (is_of k) (reported_break cut) s.controls (new_control 0 0 0) any in
     let c = control_at s at.at in
     let told = told_break c.queue.control k cut c.floor c.phase at.any in
     let is : at.at ≡ k = sym (control_number s at.at keeps at.low) ∙ told.0 in
-    (omega (arith, at.low, is), subst (λ i. cut.0 ≡ (control_at s i).floor.0) is told.1, subst (λ i. is_telling (control_at s i).phase ≡ false) is told.2)
+    (omega (arith, at.low, is), subst (λ i. cut.0 ≡ (control_at s i).floor.0) is told.1, subst (λ i. is_reporting (control_at s i).phase ≡ false) is told.2)
 
 -- ---- plans
 

@@ -1,4 +1,4 @@
--- Each break that a form shows is the break of its control's trace.
+-- Each break that a form shows is the break of its controller's trace.
 use Rattle.std.proofs.Common.{◌≡◌, ℕ, zero, suc, ◌+◌, ◌<◌, ◌≤◌, Bool, true, false, cond, nat_eq, List, [], ◌∷◌, length, get_or, map, Some, None, inl, inr, refl, sym, ap, subst, ◌∙◌, arith, true≢false}
 use Rattle.std.specs.Prelude.{option_map, slice_get}
 use Rattle.std.specs.List.{All, flat_map, list_all}
@@ -11,9 +11,9 @@ use Rattle.ckd_track.specs.declared.write.Cause.{Cause}
 use Rattle.write_trace.specs.declared.trace.Trace.{Trace}
 use Rattle.sidefile.specs.Breaks.{break_of, break_time}
 use Rattle.group_state.specs.declared.phase.Phase.{Phase}
-use Rattle.group_state.specs.declared.phase.Phase.TheVariants.{Telling, Broken, Reported}
+use Rattle.group_state.specs.declared.phase.Phase.TheVariants.{Unbroken, Broken, Reported}
 use Rattle.group_state.specs.Calls.{is_by_reader}
-use Rattle.group_state.specs.Controls.{ControlState, new_control, is_telling, reported, reported_break, reported_cause, phase_after, formed, joined, copied, raised, broke, begun_volume, dropped, resumed, forgotten}
+use Rattle.group_state.specs.Controls.{ControlState, new_control, is_reporting, reported, reported_break, reported_cause, phase_after, formed, joined, copied, raised, broke, begun_volume, dropped, resumed, forgotten}
 use Rattle.group_state.specs.Groups.{Group, Shown, control_at, cut_of, formed_at, new_controls, shown_at, with_control}
 use Rattle.group_state.specs.SoundStates.{IsGroupSound}
 use Rattle.group_state.specs.Machine.{Call, Reply}
@@ -35,16 +35,16 @@ use Rattle.fed_logs.proofs.ReadCalls.{answer_of, read_on, fed_own, form_log, dro
 
 -- ---- one call
 
--- a control that tells hasn't broken
-unbroken_tells : (t : Trace) (c : ControlState) → is_telling c.phase ≡ true → BrokeAs t c
-unbroken_tells t c tells cause is = absurd (true≢false (sym tells ∙ ap is_telling is))
+-- a controller that reports hasn't broken
+unbroken_tells : (t : Trace) (c : ControlState) → is_reporting c.phase ≡ true → BrokeAs t c
+unbroken_tells t c tells cause is = absurd (true≢false (sym tells ∙ ap is_reporting is))
 
 one_cause : (a b : Cause) → Broken a ≡ Broken b → a ≡ b
 one_cause a b e = cc
 
 -- what a form leaves broken was broken before
 broken_by_then : (cut floor : Stamp) (phase : Phase) (cause : Cause) → phase_after cut floor phase ≡ Broken cause → phase ≡ Broken cause
-broken_by_then cut floor Telling cause e = e
+broken_by_then cut floor Unbroken cause e = e
 broken_by_then cut floor Reported cause e = e
 broken_by_then cut floor (Broken other) cause e = choose (nat_eq floor.0 cut.0) e
   where
@@ -52,9 +52,9 @@ broken_by_then cut floor (Broken other) cause e = choose (nat_eq floor.0 cut.0) 
     choose true e = absurd cc
     choose false e = e
 
--- a control that isn't there hasn't broken
+-- a controller that isn't there hasn't broken
 none_there : (t : Trace) (controls : List ControlState) (k : ℕ) → length controls ≤ k → BrokeAs t (get_or controls k (new_control 0 0 0))
-none_there t controls k past = unbroken_tells t (get_or controls k (new_control 0 0 0)) (ap (λ (c : ControlState). is_telling c.phase) (get_or_past controls k (new_control 0 0 0) past))
+none_there t controls k past = unbroken_tells t (get_or controls k (new_control 0 0 0)) (ap (λ (c : ControlState). is_reporting c.phase) (get_or_past controls k (new_control 0 0 0) past))
 
 broke_with : (traces : List Trace) (s : Group) (j : ℕ) (change : ControlState → ControlState) → ((k : ℕ) (t : Trace) → j ≡ k → slice_get traces k ≡ Some t → BrokeAs t (control_at s k) → BrokeAs t (change (control_at s k)))
     → BrokeAsTraces traces s → BrokeAsTraces traces (with_control j change s)
@@ -67,10 +67,10 @@ broke_read : (traces : List Trace) (s next : Group) (call : Call) (reply : Reply
     → ((k : ℕ) (t : Trace) → slice_get traces k ≡ Some t → is_by_reader k call ≡ true → has_changed reply ≡ true → IsFedBy t (floor_of s k) call) → BrokeAsTraces traces s → BrokeAsTraces traces next
 broke_read traces s _ _ _ may (Same call reply none) fed h = h
 broke_read traces s _ _ _ may (Joins b) fed h =
-    broke_with traces s b.control (joined b) (λ k t same at was. unbroken_tells t (joined b (control_at s k)) (subst (λ i. is_telling (control_at s i).phase ≡ true) same may.legal.tells.telling)) h
+    broke_with traces s b.control (joined b) (λ k t same at was. unbroken_tells t (joined b (control_at s k)) (subst (λ i. is_reporting (control_at s i).phase ≡ true) same may.legal.tells.reporting)) h
 broke_read traces s _ _ _ may (Copies j v x time slot wanted) fed h = broke_with traces s j (copied v x time slot) (λ k t same at was cause is. was cause is) h
 broke_read traces s _ _ _ may (Raises j upto) fed h =
-    broke_with traces s j (raised upto) (λ k t same at was. unbroken_tells t (raised upto (control_at s k)) (subst (λ i. is_telling (control_at s i).phase ≡ true) same may.1.telling)) h
+    broke_with traces s j (raised upto) (λ k t same at was. unbroken_tells t (raised upto (control_at s k)) (subst (λ i. is_reporting (control_at s i).phase ≡ true) same may.1.reporting)) h
 broke_read traces s _ _ _ may (Breaks j upto cause) fed h =
     broke_with traces s j (broke upto cause)
     (λ k t same at was other is. subst (λ (c : Cause). break_of t ≡ Some (record { cause = c; upto = upto.0 })) (one_cause cause other is) (fed k t at (eq-eqb j k same) refl).1) h
@@ -93,7 +93,7 @@ reported_own : (traces : List Trace) (cut : Stamp) (k : ℕ) (t : Trace) (c : Co
 reported_own traces cut k t c number at broke = by_phase c.phase refl
   where
     by_phase : (phase : Phase) → c.phase ≡ phase → All (IsTracesBreak traces cut) (reported c.queue.control c.floor (reported_cause cut c.floor phase))
-    by_phase Telling is = All-nil (IsTracesBreak traces cut)
+    by_phase Unbroken is = All-nil (IsTracesBreak traces cut)
     by_phase Reported is = All-nil (IsTracesBreak traces cut)
     by_phase (Broken cause) is = choose (nat_eq c.floor.0 cut.0) refl
       where
@@ -208,7 +208,7 @@ groups_break_at_cuts traces s end run group log h was = all_at_cut traces group.
 
 -- ---- from state to state
 
-first_tells : (n first records blocks k : ℕ) → is_telling (get_or (new_controls n first records blocks) k (new_control 0 0 0)).phase ≡ true
+first_tells : (n first records blocks k : ℕ) → is_reporting (get_or (new_controls n first records blocks) k (new_control 0 0 0)).phase ≡ true
 first_tells zero first records blocks k = refl
 first_tells (suc n) first records blocks zero = refl
 first_tells (suc n) first records blocks (suc k) = first_tells n (first + 1) records blocks k

@@ -28,11 +28,11 @@ use Rattle.fed_logs.proofs.Tracks.{tested_with}
 use Rattle.fed_logs.proofs.Keeping.{at_map}
 use Rattle.fed_logs.specs.Moves.{HasRowIn, IsLive, IsDuplex, AreFewer, MayFollow, Plans, plans_with_shown, plans_without, is_plan_shown_done}
 use Rattle.fed_logs.specs.Logs.{Sizes, is_of_size, AreSized, IsPlanDone, Stand}
-use Rattle.fed_logs.proofs.Shown.{counts_behind, shown_done}
+use Rattle.fed_logs.proofs.Shown.{counts_after, shown_done}
 use Rattle.fed_logs.proofs.Went.{WentRead}
 use Rattle.fed_logs.proofs.Went.WentRead.{Same, Joins, Copies, Raises, Breaks}
 
--- ---- one control of the state
+-- ---- one controller of the state
 
 pub at_with : (s : Group) (j k : ℕ) (change : ControlState → ControlState) (P : ControlState → Type 0) → k < length s.controls → (j ≡ k → P (change (control_at s k))) → (nat_eq j k ≡ false → P (control_at s k)) → P (control_at (with_control j change s) k)
 at_with s j k change P low here there = elim (cases_Bool (nat_eq j k)) [
@@ -149,7 +149,7 @@ kept_drop s k v all low keeps = kept_with s k (dropped v all) keeps low (keeps_d
 
 -- ---- plans and rows
 
--- One control is changed so that what is known to be done there stays done, and a control that counts stays so.
+-- One controller is changed so that what is known to be done there stays done, and a controller that counts stays so.
 stands_with : (s : Group) (j : ℕ) (change : ControlState → ControlState) (rows : List PairRow) (done after : Plans) → (counts (control_at s j).phase ≡ true → counts (change (control_at s j)).phase ≡ true)
     → ((k v : ℕ) → HasRowIn IsDuplex k v rows → after k v ≡ true) → ((k v : ℕ) → after k v ≡ true → done k v ≡ true)
     → ((v : ℕ) → after j v ≡ true → IsPlanDone v (control_at s j) → IsPlanDone v (change (control_at s j))) → Stand s rows done → Stand (with_control j change s) rows after
@@ -246,7 +246,7 @@ stands_form s limit rows next done keeps follow h =
       live = λ k v has.
           let was = follow.live k v has in
           let stood = h.live k v was.1 in
-          (omega (arith, stood.0, formed_count s cut), counts_behind s cut k keeps stood.0 was.0 stood.1);
+          (omega (arith, stood.0, formed_count s cut), counts_after s cut k keeps stood.0 was.0 stood.1);
       duplex = λ k v has. elim (follow.duplex k v has) [
         | inl was ↦ either_left (done k v) (is_plan_shown_done k v shown) (h.duplex k v was)
         | inr now ↦ either_right (done k v) (is_plan_shown_done k v shown) now

@@ -37,7 +37,7 @@ use Rattle.group_state.specs.HistoryLaws.{joined_answer}
 use Rattle.fed_logs.specs.Steps.{HandsOver, TakesBatch, IsIdle, primary_at, held_answer, raised_answer, broken_answer, wanted_answer, copied_answer}
 use Rattle.fed_logs.specs.Steps.FeedStep.{Hands, Joins, Lacks, Holds, Passes, Breaks, Wants, Asks, Copies}
 use Rattle.fed_logs.specs.FeedLaws.{StepsReadOn, ReadTracksAreThePrimary, NothingIsReadFirst}
-use Rattle.fed_logs.proofs.FeedEntries.{all_more, all_append, after_then, writes_then, rise_lower, rise_behind, held_between, up_to_time, up_to_more, none_between, up_to_later, above_rises, above_unbroken, same_runs}
+use Rattle.fed_logs.proofs.FeedEntries.{all_more, all_append, after_then, writes_then, rise_lower, rise_after, held_between, up_to_time, up_to_more, none_between, up_to_later, above_rises, above_unbroken, same_runs}
 use Rattle.fed_logs.proofs.Hands.{leaves, could_turn_out, takes_run, waits_above, gives_up}
 use Rattle.fed_logs.proofs.InTurn.{no_halt, unbroken}
 
@@ -58,7 +58,7 @@ module _ (o : Outlook) (rest : List ℕ) (t : Trace) (feed : FeedState) (read : 
   entries = ahead feed.side.waiting feed.side.reader rest
 
   rising : do_rise 0 entries ≡ true
-  rising = rise_behind 0 (read.before ++ read.run) entries (subst (λ (es : List Entry). do_rise 0 es ≡ true) (sym read.all) read.rise)
+  rising = rise_after 0 (read.before ++ read.run) entries (subst (λ (es : List Entry). do_rise 0 es ≡ true) (sym read.all) read.rise)
 
   with_batch : (batch : Batch) → feed.held ≡ Some batch → IsHeldRun (Some batch) read.run feed.primary.time feed.side.upto
   with_batch batch held = subst (λ (h : Option Batch). IsHeldRun h read.run feed.primary.time feed.side.upto) held read.is_held
@@ -146,8 +146,8 @@ module _ (before now : Option (List ℕ)) (limit : ℕ) (old : FeedState) (side 
         let entries = ahead old.side.waiting old.side.reader was in
         let next = ahead side.waiting side.reader later in
         let r = takes_run old.side.control limit old.side.upto cause entries next batch read.later v.hand_is v.runs_left in
-        let rises : do_rise 0 next ≡ true = rise_behind 0 r.run next (subst (λ (es : List Entry). do_rise 0 es ≡ true) r.split (rising o was t old read)) in
-        let behind : do_rise (batch.upto.0 + 1) next ≡ true = above_rises batch.upto.0 next rises r.above in
+        let rises : do_rise 0 next ≡ true = rise_after 0 r.run next (subst (λ (es : List Entry). do_rise 0 es ≡ true) r.split (rising o was t old read)) in
+        let after : do_rise (batch.upto.0 + 1) next ≡ true = above_rises batch.upto.0 next rises r.above in
         let even : old.primary.time ≡ old.side.upto = (with_none o was t old read idle.none).1 in
         let upto = h.upto in
         let same : break_in cause (runs next) ≡ break_of t = r.same ∙ read.break_ahead in
@@ -163,11 +163,11 @@ module _ (before now : Option (List ℕ)) (limit : ℕ) (old : FeedState) (side 
             subst (λ (n : ℕ). list_all (is_between n side.upto) r.run ≡ true) (sym even) (subst (λ (n : ℕ). list_all (is_between old.side.upto n) r.run ≡ true) (sym upto) r.within),
           );
           reported = read.reported;
-          later = subst (λ (n : ℕ). do_rise (n + 1) next ≡ true) (sym upto) behind;
+          later = subst (λ (n : ℕ). do_rise (n + 1) next ≡ true) (sym upto) after;
           tracks = read.tracks;
           ends_so = v.ends_so;
           break_ahead = same;
-          unbroken = ap (has_broken t) upto ∙ ap (λ (b : Option Break). is_below (option_map (λ x. x.upto) b) batch.upto.0) (sym same) ∙ above_unbroken batch.upto.0 cause next behind r.clean;
+          unbroken = ap (has_broken t) upto ∙ ap (λ (b : Option Break). is_below (option_map (λ x. x.upto) b) batch.upto.0) (sym same) ∙ above_unbroken batch.upto.0 cause next after r.clean;
         }
 
   -- ---- the limit
@@ -184,12 +184,12 @@ module _ (before now : Option (List ℕ)) (limit : ℕ) (old : FeedState) (side 
         let next = ahead side.waiting side.reader later in
         let same : next ≡ entries = same_runs next entries v.runs_left in
         let w = waits_above old.side.control limit cause entries v.hand_is in
-        let behind : do_rise (limit + 1) entries ≡ true = above_rises limit entries (rising o was t old read) w.above in
+        let after : do_rise (limit + 1) entries ≡ true = above_rises limit entries (rising o was t old read) w.above in
         let even : old.primary.time ≡ old.side.upto = (with_none o was t old read idle.none).1 in
         let upto = h.upto in
         let all = all_read o was t old read idle.none in
-        let unbroken : has_broken t limit ≡ false = ap (λ (b : Option Break). is_below (option_map (λ x. x.upto) b) limit) (sym read.break_ahead) ∙ above_unbroken limit cause entries behind w.clean in
-        let none : entries_between t old.primary.time limit ≡ [] = ap (filter (is_between old.primary.time limit)) (sym all) ∙ none_between old.primary.time limit read.before entries read.reported behind in (
+        let unbroken : has_broken t limit ≡ false = ap (λ (b : Option Break). is_below (option_map (λ x. x.upto) b) limit) (sym read.break_ahead) ∙ above_unbroken limit cause entries after w.clean in
+        let none : entries_between t old.primary.time limit ≡ [] = ap (filter (is_between old.primary.time limit)) (sym all) ∙ none_between old.primary.time limit read.before entries read.reported after in (
           (
             (subst (λ (n : ℕ). entries_between t old.primary.time n ≡ []) (sym is) none, subst (λ (n : ℕ). has_broken t n ≡ false) (sym is) unbroken),
             tt,
@@ -201,7 +201,7 @@ module _ (before now : Option (List ℕ)) (limit : ℕ) (old : FeedState) (side 
             all = ap (λ (es : List Entry). (read.before ++ []) ++ es) same ∙ all;
             is_held = subst (λ (b : Option Batch). IsHeldRun b [] limit side.upto) (sym idle.none) (refl, sym upto);
             reported = up_to_more old.primary.time limit read.before (omega (arith, even, low)) read.reported;
-            later = subst (λ (n : ℕ). do_rise (n + 1) next ≡ true) (sym upto) (subst (λ (es : List Entry). do_rise (limit + 1) es ≡ true) (sym same) behind);
+            later = subst (λ (n : ℕ). do_rise (n + 1) next ≡ true) (sym upto) (subst (λ (es : List Entry). do_rise (limit + 1) es ≡ true) (sym same) after);
             tracks = read.tracks;
             ends_so = v.ends_so;
             break_ahead = ap (λ (es : List Entry). break_in cause (runs es)) same ∙ read.break_ahead;
@@ -235,13 +235,13 @@ module _ (before now : Option (List ℕ)) (limit : ℕ) (old : FeedState) (side 
         },
       )
 
-  -- the feed behind a break
-  abbrev behind_break : (cause : Cause) → (upto : Stamp) → FeedState
-  behind_break cause upto = record old { side = side; primary = primary_at upto.0 old.primary; halted = Some (halts.Broken cause upto) }
+  -- the feed after a break
+  abbrev after_break : (cause : Cause) → (upto : Stamp) → FeedState
+  after_break cause upto = record old { side = side; primary = primary_at upto.0 old.primary; halted = Some (halts.Broken cause upto) }
 
   -- by a fault of the source
   broken_by_fault : (k : ℕ) (upto : Stamp) → HandsOver before now limit old.side side (hands.Broken ReadFault upto) → (bytes : List ℕ) → IsAhead old.side.reader before bytes
-      → ReadsBytes now old (behind_break ReadFault upto) (broken_answer k upto ReadFault ∷ []) bytes
+      → ReadsBytes now old (after_break ReadFault upto) (broken_answer k upto ReadFault ∷ []) bytes
   broken_by_fault k upto h bytes there =
       let d = h.due bytes there in
       record {
@@ -260,7 +260,7 @@ module _ (before now : Option (List ℕ)) (limit : ℕ) (old : FeedState) (side 
       could front stopped Failing later turn = subst (λ (x : Option Halt). MayTurnOut Failing (front ++ later) x old.side.reader.stopped) (sym idle.goes_on) stopped
 
       reads : (front left : List ℕ) → hands.Broken ReadFault upto ≡ hand old.side.control (Some ReadFault) limit (runs (ahead old.side.waiting old.side.reader front)) → (o : Outlook) (t : Trace) (later : List ℕ)
-          → IsStillToCome o left later → MayTurnOut o later (Some (halts.Broken ReadFault upto)) side.reader.stopped → HasRead o (front ++ later) t old → Went o later t old (behind_break ReadFault upto) (broken_answer k upto ReadFault ∷ [])
+          → IsStillToCome o left later → MayTurnOut o later (Some (halts.Broken ReadFault upto)) side.reader.stopped → HasRead o (front ++ later) t old → Went o later t old (after_break ReadFault upto) (broken_answer k upto ReadFault ∷ [])
       reads front left is Whole t later come turn read = absurd turn
       reads front left is Failing t later come turn read =
           let all : front ++ later ≡ front = ap (λ (x : List ℕ). front ++ x) turn ∙ append-nil front in
@@ -268,7 +268,7 @@ module _ (before now : Option (List ℕ)) (limit : ℕ) (old : FeedState) (side 
           let given : hands.Broken ReadFault upto ≡ hand old.side.control (cause_of t.end) limit (runs (ahead old.side.waiting old.side.reader (front ++ later))) =
           is ∙ ap (λ (c : Option Cause). hand old.side.control c limit (runs (ahead old.side.waiting old.side.reader front))) fault
           ∙ ap (λ (b : List ℕ). hand old.side.control (cause_of t.end) limit (runs (ahead old.side.waiting old.side.reader b))) (sym all) in
-          let b = broken_read k ReadFault upto Failing t (front ++ later) read given (behind_break ReadFault upto) refl in
+          let b = broken_read k ReadFault upto Failing t (front ++ later) read given (after_break ReadFault upto) refl in
           record { fed = b.0; stands = b.1 }
 
   -- A break by the trace itself can't come where its source is to fail.
@@ -277,7 +277,7 @@ module _ (before now : Option (List ℕ)) (limit : ℕ) (old : FeedState) (side 
 
   broken_by_trace : (k : ℕ) (cause : Cause) (upto : Stamp) → IsOfTrace cause → ((rest : List ℕ) → AreLeft now (Some (halts.Broken cause upto)) side.reader rest)
       → ((bytes : List ℕ) → IsAhead old.side.reader before bytes → IsHand old.side.control limit (front_of old.side) bytes (hands.Broken cause upto)) → (bytes : List ℕ) → IsAhead old.side.reader before bytes
-      → ReadsBytes now old (behind_break cause upto) (broken_answer k upto cause ∷ []) bytes
+      → ReadsBytes now old (after_break cause upto) (broken_answer k upto cause ∷ []) bytes
   broken_by_trace k cause upto of left due bytes there =
       record {
         used = bytes;
@@ -290,14 +290,14 @@ module _ (before now : Option (List ℕ)) (limit : ℕ) (old : FeedState) (side 
         reads = λ o t later come turn read. reads o (of upto o later turn) t later come read;
       }
     where
-      reads : (o : Outlook) → o ≡ Whole → (t : Trace) (later : List ℕ) → IsStillToCome o [] later → HasRead o (bytes ++ later) t old → Went o later t old (behind_break cause upto) (broken_answer k upto cause ∷ [])
+      reads : (o : Outlook) → o ≡ Whole → (t : Trace) (later : List ℕ) → IsStillToCome o [] later → HasRead o (bytes ++ later) t old → Went o later t old (after_break cause upto) (broken_answer k upto cause ∷ [])
       reads Whole is t later come read =
           let all : bytes ≡ bytes ++ later = sym (append-nil bytes) ∙ ap (λ (x : List ℕ). bytes ++ x) (sym come) in
           let ends : cause_ahead old.side.reader bytes ≡ cause_of t.end = ap (cause_ahead old.side.reader) all ∙ read.ends_so in
           let given : hands.Broken cause upto ≡ hand old.side.control (cause_of t.end) limit (runs (ahead old.side.waiting old.side.reader (bytes ++ later))) =
           due bytes there ∙ ap (λ (c : Option Cause). hand old.side.control c limit (runs (ahead old.side.waiting old.side.reader bytes))) ends
           ∙ ap (λ (b : List ℕ). hand old.side.control (cause_of t.end) limit (runs (ahead old.side.waiting old.side.reader b))) all in
-          let b = broken_read k cause upto Whole t (bytes ++ later) read given (behind_break cause upto) refl in
+          let b = broken_read k cause upto Whole t (bytes ++ later) read given (after_break cause upto) refl in
           record { fed = b.0; stands = b.1 }
       reads Failing is t later come read = absurd (cc is)
 
@@ -310,7 +310,7 @@ module _ (before now : Option (List ℕ)) (limit : ℕ) (old : FeedState) (side 
   crowded_is_of_trace stamp upto Failing later turn = absurd turn
 
   broken_bytes : (k : ℕ) (cause : Cause) (upto : Stamp) → HandsOver before now limit old.side side (hands.Broken cause upto) → (bytes : List ℕ) → IsAhead old.side.reader before bytes
-      → ReadsBytes now old (behind_break cause upto) (broken_answer k upto cause ∷ []) bytes
+      → ReadsBytes now old (after_break cause upto) (broken_answer k upto cause ∷ []) bytes
   broken_bytes k ReadFault upto h bytes there = broken_by_fault k upto h bytes there
   broken_bytes k (BadTrace place) upto h bytes there = broken_by_trace k (BadTrace place) upto (bad_is_of_trace place) (λ rest. tt) h.due bytes there
   broken_bytes k (Crowded stamp) upto h bytes there = broken_by_trace k (Crowded stamp) upto (crowded_is_of_trace stamp) (λ rest. tt) h.due bytes there
@@ -374,7 +374,7 @@ pub steps_read_on : StepsReadOn
 steps_read_on before now limit _ _ _ (Hands old side batch idle h) = record {
   stays = goes_from before now old (record old { side = side; held = Some batch }) [] idle.goes_on;
   floor = λ not. refl;
-  telling = λ goes. refl;
+  reporting = λ goes. refl;
   told = unbroken old.halted [];
   reads = λ goes bytes there.
       let l = (h.due bytes there).1 in
@@ -384,7 +384,7 @@ steps_read_on before now limit _ _ _ (Hands old side batch idle h) = record {
 steps_read_on before now limit _ _ _ (Joins old batch primary goes held same takes) = record {
   stays = goes_from before now old (record old { primary = primary; held = None }) (joined_answer batch ∷ []) goes;
   floor = λ not. sym takes.time;
-  telling = λ goes. refl;
+  reporting = λ goes. refl;
   told = unbroken old.halted (joined_answer batch ∷ []);
   reads = λ still. still_reads before now old (record old { primary = primary; held = None }) (joined_answer batch ∷ []) goes same goes refl
       (λ o t later read. (joined_fed o later t old batch held read, joined_read o later t old batch held read primary takes));
@@ -392,7 +392,7 @@ steps_read_on before now limit _ _ _ (Joins old batch primary goes held same tak
 steps_read_on before now limit _ _ _ (Lacks old batch primary goes held same) = record {
   stays = goes_from before now old (record old { primary = primary; held = None; halted = Some halts.NoMemory }) (joined_answer batch ∷ []) goes;
   floor = λ not. absurd (not refl);
-  telling = λ goes. absurd cc;
+  reporting = λ goes. absurd cc;
   told = λ goes cause upto broke. absurd (cc broke);
   reads = λ still bytes there. record {
     used = [];
@@ -407,14 +407,14 @@ steps_read_on before now limit _ _ _ (Lacks old batch primary goes held same) = 
 steps_read_on before now limit _ _ _ (Holds old batch room goes held same) = record {
   stays = goes_from before now old old (held_answer batch room ∷ []) goes;
   floor = λ not. refl;
-  telling = λ goes. refl;
+  reporting = λ goes. refl;
   told = unbroken old.halted (held_answer batch room ∷ []);
   reads = λ still. still_reads before now old old (held_answer batch room ∷ []) goes same goes refl (λ o t later read. (tt, read));
 }
 steps_read_on before now limit _ _ _ (Passes old side idle h low) = record {
   stays = goes_from before now old (record old { side = side; primary = primary_at limit.0 old.primary }) (raised_answer old.side.control limit ∷ []) idle.goes_on;
   floor = λ not. refl;
-  telling = λ goes. refl;
+  reporting = λ goes. refl;
   told = unbroken old.halted (raised_answer old.side.control limit ∷ []);
   reads = λ goes bytes there.
       let l = (h.due bytes there).1 in
@@ -424,14 +424,14 @@ steps_read_on before now limit _ _ _ (Passes old side idle h low) = record {
 steps_read_on before now limit _ _ _ (Breaks old side cause upto idle h) = record {
   stays = goes_from before now old (record old { side = side; primary = primary_at upto.0 old.primary; halted = Some (halts.Broken cause upto) }) (broken_answer old.side.control upto cause ∷ []) idle.goes_on;
   floor = λ not. refl;
-  telling = λ goes. absurd cc;
+  reporting = λ goes. absurd cc;
   told = λ goes why at broke. refl;
   reads = λ goes. broken_bytes before now limit.0 old side idle old.side.control cause upto h;
 }
 steps_read_on before now limit _ _ _ (Wants old side idle h) = record {
   stays = goes_from before now old (record old { side = side; halted = Some halts.NoMemory }) [] idle.goes_on;
   floor = λ not. refl;
-  telling = λ goes. absurd cc;
+  reporting = λ goes. absurd cc;
   told = λ goes cause upto broke. absurd (cc broke);
   reads = λ goes bytes there. record {
     used = bytes;
@@ -446,14 +446,14 @@ steps_read_on before now limit _ _ _ (Wants old side idle h) = record {
 steps_read_on before now limit _ _ _ (Asks old k found goes same) = record {
   stays = goes_from before now old old (wanted_answer k found ∷ []) goes;
   floor = λ not. refl;
-  telling = λ goes. refl;
+  reporting = λ goes. refl;
   told = unbroken old.halted (wanted_answer k found ∷ []);
   reads = λ still. still_reads before now old old (wanted_answer k found ∷ []) goes same goes refl (λ o t later read. (tt, read));
 }
 steps_read_on before now limit _ _ _ (Copies old k v x at slot reply goes same is) = record {
   stays = goes_from before now old old (copied_answer k v x at slot reply ∷ []) goes;
   floor = λ not. cond_same (has_changed reply) old.primary.time;
-  telling = λ goes. refl;
+  reporting = λ goes. refl;
   told = unbroken old.halted (copied_answer k v x at slot reply ∷ []);
   reads = λ still. still_reads before now old old (copied_answer k v x at slot reply ∷ []) goes same goes refl
       (λ o t later read. (

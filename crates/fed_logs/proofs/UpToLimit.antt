@@ -27,7 +27,7 @@ use Rattle.fed_logs.specs.Limits.{GoesUpTo, GoesUpToBy, IsHeldUpTo, WentUpTo}
 use Rattle.group_state.specs.HistoryLaws.{joined_answer}
 use Rattle.fed_logs.specs.Steps.{FeedStep, HandsOver, primary_at, held_answer, raised_answer, broken_answer, wanted_answer, copied_answer}
 use Rattle.fed_logs.specs.Steps.FeedStep.{Hands, Joins, Lacks, Holds, Passes, Breaks, Wants, Asks, Copies}
-use Rattle.fed_logs.specs.Tellers.{TellerState, StepsOn, TellsOn, TellsUpTo, copying_answers}
+use Rattle.fed_logs.specs.Reporters.{ReporterState, StepsOn, ReportsOn, ReportsUpTo, copying_answers}
 use Rattle.fed_logs.specs.FeedLaws.{NoCallGoesUpTo, CallsGoUpToInTurn, CopiesGoUpTo}
 use Rattle.fed_logs.proofs.FeedEntries.{all_append}
 use Rattle.fed_logs.proofs.Hands.{leaves, takes_run}
@@ -54,8 +54,8 @@ at_next limit upto (e ∷ entries) goes above = choose (nat_eq upto limit) refl
         and_from (nat_lt upto limit) (list_any (is_entry_at (upto + 1)) (e ∷ entries)) (lt-ltb upto limit (omega (arith, to, other)))
         (or_left (nat_eq (stamp_of e) (upto + 1)) (list_any (is_entry_at (upto + 1)) entries) (eq-eqb (stamp_of e) (upto + 1) (omega (arith, to, low, other))))
 
-any_behind : (time : ℕ) (front entries : List Entry) → list_any (is_entry_at time) entries ≡ true → list_any (is_entry_at time) (front ++ entries) ≡ true
-any_behind time front entries any = list_any-append (is_entry_at time) front entries ∙ or_right (list_any (is_entry_at time) front) (list_any (is_entry_at time) entries) any
+any_after : (time : ℕ) (front entries : List Entry) → list_any (is_entry_at time) entries ≡ true → list_any (is_entry_at time) (front ++ entries) ≡ true
+any_after time front entries any = list_any-append (is_entry_at time) front entries ∙ or_right (list_any (is_entry_at time) front) (list_any (is_entry_at time) entries) any
 
 either_on : (a less b c : Bool) → (b ≡ true → c ≡ true) → (a || (less && b)) ≡ true → (a || (less && c)) ≡ true
 either_on true less b c on is = refl
@@ -74,7 +74,7 @@ module _ (before now : Option (List ℕ)) (limit : ℕ) (old : FeedState) (side 
       let time = batch.upto.0 + 1 in
       either_on (nat_eq batch.upto.0 limit) (nat_lt batch.upto.0 limit) (list_any (is_entry_at time) next) (has_entry_at t time)
       (λ any. subst (λ (es : List Entry). list_any (is_entry_at time) es ≡ true) read.all
-      (any_behind time (read.before ++ read.run) entries (subst (λ (es : List Entry). list_any (is_entry_at time) es ≡ true) (sym r.split) (any_behind time r.run next any))))
+      (any_after time (read.before ++ read.run) entries (subst (λ (es : List Entry). list_any (is_entry_at time) es ≡ true) (sym r.split) (any_after time r.run next any))))
       (at_next limit batch.upto.0 next r.goes r.above)
 
 -- ---- a step
@@ -147,10 +147,10 @@ up_to_in_turn limit before mid now a b c first then h low k next = choose b.halt
               record { calls = all_append (is_up_to_limit limit t) first then one.calls two.calls; held = two.held };
         }
 
--- ---- what a teller gained
+-- ---- what a reporter gained
 
--- What a teller gained is one list.
-up_to_gained : (limit : ℕ) (before now : Option (List ℕ)) (old new : FeedState) (told after : TellerState) (own : List Answer) → after.answers ≡ told.answers ++ own → GoesUpTo limit before now old new own → TellsUpTo limit before now old new told after
+-- What a reporter gained is one list.
+up_to_gained : (limit : ℕ) (before now : Option (List ℕ)) (old new : FeedState) (told after : ReporterState) (own : List Answer) → after.answers ≡ told.answers ++ own → GoesUpTo limit before now old new own → ReportsUpTo limit before now old new told after
 up_to_gained limit before now old new told after own is goes gained again = subst (GoesUpTo limit before now old new) (append_cancel_left told.answers own gained (sym is ∙ again)) goes
 
 pub none_up_to : (limit : ℕ) (left : Option (List ℕ)) (feed : FeedState) → GoesUpTo limit left left feed feed []
@@ -159,16 +159,16 @@ none_up_to limit left feed = by_reads limit left left feed feed [] (reads_nothin
 pub nothing_up_to : NoCallGoesUpTo
 nothing_up_to limit left feed told = up_to_gained limit left left feed feed told told [] (sym (append-nil told.answers)) (none_up_to limit left feed)
 
-pub step_tells_up_to : (before now : Option (List ℕ)) (limit : Stamp) (old new : FeedState) (told after : TellerState) → StepsOn before now limit old new told after → TellsUpTo limit.0 before now old new told after
-step_tells_up_to before now limit old new told after s = up_to_gained limit.0 before now old new told after s.gained s.answers (step_up_to before now limit old new s.gained s.step)
+pub step_reports_up_to : (before now : Option (List ℕ)) (limit : Stamp) (old new : FeedState) (told after : ReporterState) → StepsOn before now limit old new told after → ReportsUpTo limit.0 before now old new told after
+step_reports_up_to before now limit old new told after s = up_to_gained limit.0 before now old new told after s.gained s.answers (step_up_to before now limit old new s.gained s.step)
 
-pub tells_up_to_in_turn : CallsGoUpToInTurn
-tells_up_to_in_turn limit before mid now a b c told next after h low k then =
+pub reports_up_to_in_turn : CallsGoUpToInTurn
+reports_up_to_in_turn limit before mid now a b c told next after h low k then =
     up_to_gained limit before now a c told after (h.gained ++ k.gained) (k.answers ∙ ap (λ (l : List Answer). l ++ k.gained) h.answers ∙ append_assoc told.answers h.gained k.gained)
     (up_to_in_turn limit before mid now a b c h.gained k.gained h.reads_on (low h.gained h.answers) k.reads_on (then k.gained k.answers))
 
-copied_up_to : (limit : ℕ) (left : Option (List ℕ)) (feed : FeedState) (told after : TellerState) (own : List Answer) → TellsOn left left feed feed told after → after.answers ≡ told.answers ++ own → ((t : Trace) → list_all (is_up_to_limit limit t) own ≡ true)
-    → TellsUpTo limit left left feed feed told after
+copied_up_to : (limit : ℕ) (left : Option (List ℕ)) (feed : FeedState) (told after : ReporterState) (own : List Answer) → ReportsOn left left feed feed told after → after.answers ≡ told.answers ++ own → ((t : Trace) → list_all (is_up_to_limit limit t) own ≡ true)
+    → ReportsUpTo limit left left feed feed told after
 copied_up_to limit left feed told after own tells is passes =
     let reads : ReadsOn left left feed feed own = subst (ReadsOn left left feed feed) (append_cancel_left told.answers tells.gained own (sym tells.answers ∙ is)) tells.reads_on in
     up_to_gained limit left left feed feed told after own is (by_reads limit left left feed feed own reads (λ t up. record { calls = passes t; held = up }))

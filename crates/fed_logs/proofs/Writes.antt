@@ -1,4 +1,4 @@
--- The writes of a trace up to a time, in two parts; what fed calls tell.
+-- The writes of a trace up to a time, in two parts; what fed calls report.
 use Rattle.std.proofs.Common.{◌≡◌, ℕ, zero, suc, ◌<◌, ◌≤◌, Bool, true, false, cond, nat_eq, nat_lt, nat_le, ◌&&◌, List, [], ◌∷◌, ◌++◌, Some, ◌⊎◌, inl, inr, refl, sym, ap, subst, ◌∙◌, arith}
 use Rattle.std.specs.Prelude.{filter, slice_get}
 use Rattle.std.proofs.lemmas.Bool.{cases_lt, and_parts, eqb-true, lt-ltb, le-ltb, leb-true, le-leb, lt-leb}
@@ -18,13 +18,13 @@ use Rattle.primary_ctl.proofs.OwnWrites.{own_writes}
 use Rattle.group_state.specs.Machine.Call.{Join, NextWanted, Copied, Raise, Break, Form, Carry, Drop, Resume, Forget}
 use Rattle.fed_logs.specs.ToldTracks.{floor_of, is_write_up_to}
 use Rattle.fed_logs.specs.Feeds.{entries_between, is_between}
-use Rattle.fed_logs.specs.LogLaws.{FedTellTruth}
+use Rattle.fed_logs.specs.LogLaws.{FedReportTruth}
 
--- a write behind one time, up to another
+-- a write after one time, up to another
 abbrev is_write_between : (from to : ℕ) → Write → Bool
 is_write_between from to w = nat_lt from w.stamp.0 && nat_le w.stamp.0 to
 
--- the writes of a trace behind one time, up to another
+-- the writes of a trace after one time, up to another
 abbrev writes_between : Trace → (from to : ℕ) → List Write
 writes_between t from to = filter (is_write_between from to) (writes_of t.entries)
 
@@ -53,7 +53,7 @@ module _ (v x floor upto t : ℕ) (low : floor ≤ t) (high : t ≤ upto) where
   none_and true b e = e
   none_and false b e = refl
 
-  -- behind the floor
+  -- after the floor
   none_early : (last : ℕ) (writes : List Write) → floor < last → writes_never_fall last writes ≡ true → filter (is_write_up_to v x floor) writes ≡ []
   none_early last [] lt rise = refl
   none_early last (w ∷ writes) lt rise =
@@ -70,9 +70,9 @@ module _ (v x floor upto t : ℕ) (low : floor ≤ t) (high : t ≤ upto) where
     where
       choose : (upto < w.stamp.0) ⊎ (w.stamp.0 ≤ upto) → nat_lt floor w.stamp.0 ≡ true → filter (is_write_up_to v x t) writes ≡ filter (is_write_up_to v x t) (filter (is_write_between floor upto) writes)
           → filter (is_write_up_to v x t) (w ∷ writes) ≡ filter (is_write_up_to v x t) (filter (is_write_between floor upto) (w ∷ writes))
-      choose (inl late) behind rest =
+      choose (inl late) after rest =
           simp (none_and (nat_eq w.volume v && nat_eq w.track x) (nat_le w.stamp.0 t) (lt-leb w.stamp.0 t (omega (arith, late, high))), none_and (nat_lt floor w.stamp.0) (nat_le w.stamp.0 upto) (lt-leb w.stamp.0 upto late)) rest
-      choose (inr within) behind rest = simp (behind, le-leb w.stamp.0 upto within) (same (nat_eq w.volume v && nat_eq w.track x && nat_le w.stamp.0 t) rest)
+      choose (inr within) after rest = simp (after, le-leb w.stamp.0 upto within) (same (nat_eq w.volume v && nat_eq w.track x && nat_le w.stamp.0 t) rest)
         where
           same : (b : Bool) → filter (is_write_up_to v x t) writes ≡ filter (is_write_up_to v x t) (filter (is_write_between floor upto) writes)
               → cond b (w ∷ filter (is_write_up_to v x t) writes) (filter (is_write_up_to v x t) writes) ≡ cond b (w ∷ filter (is_write_up_to v x t) (filter (is_write_between floor upto) writes)) (filter (is_write_up_to v x t) (filter (is_write_between floor upto) writes))
@@ -103,7 +103,7 @@ module _ (v x floor upto t : ℕ) (low : floor ≤ t) (high : t ≤ upto) where
           same true rest = ap (λ (ws : List Write). w ∷ ws) rest
           same false rest = rest
 
--- ---- what is told
+-- ---- what is reported
 
 trace_falls : (traces : List Trace) (k : ℕ) (t : Trace) → none_falls traces ≡ true → slice_get traces k ≡ Some t → writes_never_fall 0 (writes_of t.entries) ≡ true
 trace_falls [] k t fall at = absurd cc
@@ -122,33 +122,33 @@ from_floor traces floor upto k v x time t fall at low high =
     ∙ after_then base (filter (is_write_up_to v x floor) writes) late
     ∙ ap (λ (r : List Rec). after_writes r late) (sym (own_writes traces floor k v x t fall at))
 
--- nothing behind the floor
+-- nothing after the floor
 still : (traces : List Trace) (floor upto k v x time : ℕ) (t : Trace) → none_falls traces ≡ true → slice_get traces k ≡ Some t → entries_between t floor upto ≡ [] → floor ≤ time → time ≤ upto
     → primary traces time k v x ≡ primary traces floor k v x
 still traces floor upto k v x time t fall at none low high =
     let writes : writes_between t floor upto ≡ [] = of_entries floor upto t.entries ∙ ap writes_of none in
     from_floor traces floor upto k v x time t fall at low high ∙ ap (λ (ws : List Write). after_writes (primary traces floor k v x) (filter (is_write_up_to v x time) ws)) writes
 
-pub fed_tell_truth : FedTellTruth
-fed_tell_truth traces s (Join b) k t fall at own may fed = λ v x time low high.
+pub fed_report_truth : FedReportTruth
+fed_report_truth traces s (Join b) k t fall at own may fed = λ v x time low high.
     let is : b.control ≡ k = eqb-true b.control k own in
     let here : slice_get traces b.control ≡ Some t = ap (slice_get traces) is ∙ at in
     let floor = floor_of s b.control in
     let writes : b.writes ≡ writes_between t floor b.upto.0 = subst (λ i. b.writes ≡ writes_between t (floor_of s i) b.upto.0) (sym is) (fed.0.writes ∙ sym (of_entries (floor_of s k) b.upto.0 t.entries)) in
     from_floor traces floor b.upto.0 b.control v x time t fall here low high ∙ ap (λ (ws : List Write). after_writes (primary traces floor b.control v x) (filter (is_write_up_to v x time) ws)) (sym writes)
-fed_tell_truth traces s (NextWanted j) k t fall at own may fed = tt
-fed_tell_truth traces s (Copied j v x time slot) k t fall at own may fed =
+fed_report_truth traces s (NextWanted j) k t fall at own may fed = tt
+fed_report_truth traces s (Copied j v x time slot) k t fall at own may fed =
     let is : j ≡ k = eqb-true j k own in
     let floor : floor_of s k ≡ time.0 = ap (floor_of s) (sym is) ∙ ap (λ (m : Stamp). m.0) (sym may.1.floor) in
     fed ∙ sym (own_writes traces (floor_of s k) k v x t fall at) ∙ ap (λ i. primary traces i k v x) floor ∙ ap (λ i. primary traces time.0 i v x) (sym is)
-fed_tell_truth traces s (Raise j upto) k t fall at own may fed = λ v x time.
+fed_report_truth traces s (Raise j upto) k t fall at own may fed = λ v x time.
     let is : j ≡ k = eqb-true j k own in
     subst (λ i. floor_of s i ≤ time → time ≤ upto.0 → primary traces time i v x ≡ primary traces (floor_of s i) i v x) (sym is) (still traces (floor_of s k) upto.0 k v x time t fall at fed.0)
-fed_tell_truth traces s (Break j upto cause) k t fall at own may fed = λ v x time.
+fed_report_truth traces s (Break j upto cause) k t fall at own may fed = λ v x time.
     let is : j ≡ k = eqb-true j k own in
     subst (λ i. floor_of s i ≤ time → time ≤ upto.0 → primary traces time i v x ≡ primary traces (floor_of s i) i v x) (sym is) (still traces (floor_of s k) upto.0 k v x time t fall at fed.0)
-fed_tell_truth traces s (Form limit) k t fall at own may fed = absurd cc
-fed_tell_truth traces s (Carry j v plan) k t fall at own may fed = absurd cc
-fed_tell_truth traces s (Drop j v all) k t fall at own may fed = absurd cc
-fed_tell_truth traces s (Resume j v) k t fall at own may fed = absurd cc
-fed_tell_truth traces s (Forget j v) k t fall at own may fed = absurd cc
+fed_report_truth traces s (Form limit) k t fall at own may fed = absurd cc
+fed_report_truth traces s (Carry j v plan) k t fall at own may fed = absurd cc
+fed_report_truth traces s (Drop j v all) k t fall at own may fed = absurd cc
+fed_report_truth traces s (Resume j v) k t fall at own may fed = absurd cc
+fed_report_truth traces s (Forget j v) k t fall at own may fed = absurd cc

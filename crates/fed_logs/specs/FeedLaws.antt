@@ -9,16 +9,16 @@ use Rattle.write_trace.specs.Starts.{ReadsHeader}
 use Rattle.group_state.specs.declared.joining.CopyJoin.{CopyJoin}
 use Rattle.primary_ctl.specs.States.{track_of, base_in}
 use Rattle.sidefile.specs.AheadEntries.{IsAhead, IsFault, entries_ahead}
-use Rattle.group_state.specs.Controls.{is_telling}
+use Rattle.group_state.specs.Controls.{is_reporting}
 use Rattle.group_state.specs.Groups.{Group, control_at}
 use Rattle.group_state.specs.Runs.{Answer, Runs}
 use Rattle.fed_logs.specs.ToldTracks.{floor_of}
 use Rattle.fed_logs.specs.Feeds.{part_of_reader}
-use Rattle.fed_logs.specs.LaneFeeds.{FeedState, floor_behind_calls, telling_behind_calls}
+use Rattle.fed_logs.specs.LaneFeeds.{FeedState, floor_after_calls, reporting_after_calls}
 use Rattle.fed_logs.specs.Reads.{Outlook, EndsAsAhead, HasRead, HasTracksAt, ReadsOn, do_rise}
 use Rattle.fed_logs.specs.Reads.Outlook.{Whole, Failing}
 use Rattle.fed_logs.specs.Steps.{FeedStep}
-use Rattle.fed_logs.specs.Tellers.{TellerState, TellsOn, TellsUpTo, BreaksBelow, IsCopiedBy}
+use Rattle.fed_logs.specs.Reporters.{ReporterState, ReportsOn, ReportsUpTo, BreaksBelow, IsCopiedBy}
 
 -- Without a call nothing is read.
 abbrev pub NoCallReadsNothing : Type 0
@@ -33,46 +33,46 @@ CallsReadInTurn = (before mid now : Option (List ℕ)) (old next new : FeedState
 abbrev pub StepsReadOn : Type 0
 StepsReadOn = (before now : Option (List ℕ)) (limit : Stamp) (old new : FeedState) (gained : List Answer) → FeedStep before now limit old new gained → ReadsOn before now old new gained
 
--- Without a call no break is told.
+-- Without a call no break is reported.
 abbrev pub NoCallBreaks : Type 0
-NoCallBreaks = (limit : ℕ) (left : Option (List ℕ)) (feed : FeedState) (told : TellerState) → BreaksBelow limit left feed feed told told
+NoCallBreaks = (limit : ℕ) (left : Option (List ℕ)) (feed : FeedState) (told : ReporterState) → BreaksBelow limit left feed feed told told
 
 -- Calls one after another break below a limit if each does.
 abbrev pub CallsBreakBelowInTurn : Type 0
-CallsBreakBelowInTurn = (limit : ℕ) (before mid now : Option (List ℕ)) (old next new : FeedState) (told between after : TellerState) → TellsOn before mid old next told between → BreaksBelow limit before old next told between
-    → TellsOn mid now next new between after → BreaksBelow limit mid next new between after → BreaksBelow limit before old new told after
+CallsBreakBelowInTurn = (limit : ℕ) (before mid now : Option (List ℕ)) (old next new : FeedState) (told between after : ReporterState) → ReportsOn before mid old next told between → BreaksBelow limit before old next told between
+    → ReportsOn mid now next new between after → BreaksBelow limit mid next new between after → BreaksBelow limit before old new told after
 
--- A step of a reader that copies tells no break.
-abbrev pub CopiesTellNoBreak : Type 0
-CopiesTellNoBreak = (limit : ℕ) (left : Option (List ℕ)) (joined : Option CopyJoin) (feed : FeedState) (told after : TellerState) → feed.halted ≡ None → IsCopiedBy joined feed told after → BreaksBelow limit left feed feed told after
+-- A step of a reader that copies reports no break.
+abbrev pub CopiesReportNoBreak : Type 0
+CopiesReportNoBreak = (limit : ℕ) (left : Option (List ℕ)) (joined : Option CopyJoin) (feed : FeedState) (told after : ReporterState) → feed.halted ≡ None → IsCopiedBy joined feed told after → BreaksBelow limit left feed feed told after
 
 -- Without a call nothing goes further.
 abbrev pub NoCallGoesUpTo : Type 0
-NoCallGoesUpTo = (limit : ℕ) (left : Option (List ℕ)) (feed : FeedState) (told : TellerState) → TellsUpTo limit left left feed feed told told
+NoCallGoesUpTo = (limit : ℕ) (left : Option (List ℕ)) (feed : FeedState) (told : ReporterState) → ReportsUpTo limit left left feed feed told told
 
 -- Calls one after another go up to a limit if each does.
 abbrev pub CallsGoUpToInTurn : Type 0
-CallsGoUpToInTurn = (limit : ℕ) (before mid now : Option (List ℕ)) (old next new : FeedState) (told between after : TellerState) → TellsOn before mid old next told between → TellsUpTo limit before mid old next told between
-    → TellsOn mid now next new between after → TellsUpTo limit mid now next new between after → TellsUpTo limit before now old new told after
+CallsGoUpToInTurn = (limit : ℕ) (before mid now : Option (List ℕ)) (old next new : FeedState) (told between after : ReporterState) → ReportsOn before mid old next told between → ReportsUpTo limit before mid old next told between
+    → ReportsOn mid now next new between after → ReportsUpTo limit mid now next new between after → ReportsUpTo limit before now old new told after
 
 -- A step of a reader that copies goes no further, whatever the limit is.
 abbrev pub CopiesGoUpTo : Type 0
-CopiesGoUpTo = (limit : ℕ) (left : Option (List ℕ)) (joined : Option CopyJoin) (feed : FeedState) (told after : TellerState) → TellsOn left left feed feed told after → IsCopiedBy joined feed told after → TellsUpTo limit left left feed feed told after
+CopiesGoUpTo = (limit : ℕ) (left : Option (List ℕ)) (joined : Option CopyJoin) (feed : FeedState) (told after : ReporterState) → ReportsOn left left feed feed told after → IsCopiedBy joined feed told after → ReportsUpTo limit left left feed feed told after
 
--- Behind a run each control's floor is the one that the calls of its reader tell.
-abbrev pub FloorsAreToldByCalls : Type 0
-FloorsAreToldByCalls = (s : Group) (run : List Answer) (end : Group) → Runs s run end → (k : ℕ) → k < length s.controls → floor_of end k ≡ floor_behind_calls (floor_of s k) (part_of_reader k run)
+-- After a run each controller's floor is the one that the calls of its reader report.
+abbrev pub FloorsAreByCalls : Type 0
+FloorsAreByCalls = (s : Group) (run : List Answer) (end : Group) → Runs s run end → (k : ℕ) → k < length s.controls → floor_of end k ≡ floor_after_calls (floor_of s k) (part_of_reader k run)
 
--- Behind a run a control still tells exactly if it did before, and no call of its reader is a break.
-abbrev pub TellingIsToldByCalls : Type 0
-TellingIsToldByCalls = (s : Group) (run : List Answer) (end : Group) → Runs s run end → (k : ℕ) → k < length s.controls
-    → is_telling (control_at end k).phase ≡ telling_behind_calls (is_telling (control_at s k).phase) (part_of_reader k run)
+-- After a run a controller still reports exactly if it did before, and no call of its reader is a break.
+abbrev pub ReportingIsByCalls : Type 0
+ReportingIsByCalls = (s : Group) (run : List Answer) (end : Group) → Runs s run end → (k : ℕ) → k < length s.controls
+    → is_reporting (control_at end k).phase ≡ reporting_after_calls (is_reporting (control_at s k).phase) (part_of_reader k run)
 
 -- What a feed has read makes of its primary what the trace makes of it at the primary's time.
 abbrev pub ReadTracksAreThePrimary : Type 0
 ReadTracksAreThePrimary = (o : Outlook) (rest : List ℕ) (t : Trace) (feed : FeedState) → HasRead o rest t feed → HasTracksAt t feed.primary.time feed.primary
 
--- A feed behind a header, whose primary has the base tracks.
+-- A feed after a header, whose primary has the base tracks.
 pub record IsFirstFeed (head : Header) (feed : FeedState) : Type 0 where
   pub waiting : feed.side.waiting ≡ None
   pub upto : feed.side.upto ≡ 0
@@ -87,7 +87,7 @@ NothingIsReadFirst = (o : Outlook) (rest : List ℕ) (t : Trace) (feed : FeedSta
 
 -- ---- the bytes of a source
 
--- All bytes that are ahead come, or those come behind which the source fails, with some left.
+-- All bytes that are ahead come, or those come after which the source fails, with some left.
 abbrev pub ComeSo : Outlook → ReaderState → (rest later left : List ℕ) → Type 0
 ComeSo Whole reader rest later left = later ≡ rest
 ComeSo Failing reader rest later left = (rest ≡ later ++ left) × IsFault reader later
@@ -97,8 +97,8 @@ abbrev pub IsTraceOf : Outlook → (told left : List ℕ) → Trace → Type 0
 IsTraceOf Whole told left t = trace_of 1 false told ≡ Ok t
 IsTraceOf Failing told left t = trace_of 1 true (take (length told - length left) told) ≡ Ok t
 
--- These bytes are ahead, behind a header that was read of the bytes of a source.
-pub record IsBehindHeader (told : List ℕ) (now : Option (List ℕ)) (head : Header) (feed : FeedState) (rest : List ℕ) : Type 0 where
+-- These bytes are ahead, after a header that was read of the bytes of a source.
+pub record IsAfterHeader (told : List ℕ) (now : Option (List ℕ)) (head : Header) (feed : FeedState) (rest : List ℕ) : Type 0 where
   pub reads : ReadsHeader (Some told) now head feed.side.reader
   pub first : IsFirstFeed head feed
   pub there : IsAhead feed.side.reader now rest
@@ -110,7 +110,7 @@ pub record BeginsTrace (o : Outlook) (told later left : List ℕ) (head : Header
   pub is : IsTraceOf o told left trace
   pub unread : HasRead o later trace feed
 
--- A feed behind a header has read nothing of the trace that its source's bytes are, whether all of them come or the source fails.
+-- A feed after a header has read nothing of the trace that its source's bytes are, whether all of them come or the source fails.
 abbrev pub HeadersBeginTraces : Type 0
-HeadersBeginTraces = (told : List ℕ) (now : Option (List ℕ)) (head : Header) (feed : FeedState) (rest : List ℕ) → IsBehindHeader told now head feed rest
+HeadersBeginTraces = (told : List ℕ) (now : Option (List ℕ)) (head : Header) (feed : FeedState) (rest : List ℕ) → IsAfterHeader told now head feed rest
     → (o : Outlook) (later left : List ℕ) → ComeSo o feed.side.reader rest later left → BeginsTrace o told later left head feed

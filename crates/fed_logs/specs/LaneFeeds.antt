@@ -4,10 +4,10 @@ use Rattle.ckd_track.specs.declared.write.Batch.{Batch}
 use Rattle.primary_ctl.specs.States.{PrimaryState}
 use Rattle.sidefile.specs.declared.hand.Halt.{Halt}
 use Rattle.sidefile.specs.States.{SidefileState, IsRunOf, is_past}
-use Rattle.group_state.specs.Calls.{telling_after}
+use Rattle.group_state.specs.Calls.{reporting_after}
 use Rattle.group_state.specs.Runs.{Answer}
 use Rattle.fed_logs.specs.ToldTracks.{has_changed}
-use Rattle.fed_logs.specs.Feeds.{floor_behind}
+use Rattle.fed_logs.specs.Feeds.{floor_after_call}
 
 -- A lane's feed: its sidefile, its primary volumes, the batch that was handed over and isn't joined, and why it reads no further. It
 -- reads no further where its sidefile hands over no more, or where its primary had no memory.
@@ -17,7 +17,7 @@ pub record FeedState : Type 0 where
   pub held : Option Batch
   pub halted : Option Halt
 
--- A batch that is held is the run behind the primary's time, and goes up to the time that the sidefile has reported. Where none is held
+-- A batch that is held is the run after the primary's time, and goes up to the time that the sidefile has reported. Where none is held
 -- the primary has come to that time.
 abbrev pub IsHeldAt : Option Batch → SidefileState → (time : ℕ) → Type 0
 IsHeldAt None side time = time ≡ side.upto
@@ -38,12 +38,12 @@ IsFeedSound (Some halt) side primary held = Unit {0}
 abbrev pub has_nothing_to : (limit : ℕ) → FeedState → Bool
 has_nothing_to limit f = is_some f.halted || (is_none f.held && is_past limit f.side)
 
--- the floor behind answered calls of a reader
-abbrev pub floor_behind_calls : (floor : ℕ) → List Answer → ℕ
-floor_behind_calls floor [] = floor
-floor_behind_calls floor (answer ∷ run) = floor_behind_calls (if has_changed answer.reply then floor_behind floor answer.call else floor) run
+-- the floor after answered calls of a reader
+abbrev pub floor_after_calls : (floor : ℕ) → List Answer → ℕ
+floor_after_calls floor [] = floor
+floor_after_calls floor (answer ∷ run) = floor_after_calls (if has_changed answer.reply then floor_after_call floor answer.call else floor) run
 
--- whether a control still tells behind answered calls of its reader
-abbrev pub telling_behind_calls : (telling : Bool) → List Answer → Bool
-telling_behind_calls telling [] = telling
-telling_behind_calls telling (answer ∷ run) = telling_behind_calls (telling_after answer.call telling) run
+-- whether a controller still reports after answered calls of its reader
+abbrev pub reporting_after_calls : (reporting : Bool) → List Answer → Bool
+reporting_after_calls reporting [] = reporting
+reporting_after_calls reporting (answer ∷ run) = reporting_after_calls (reporting_after answer.call reporting) run

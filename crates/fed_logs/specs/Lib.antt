@@ -11,5 +11,5 @@ pub mod Reads
 pub mod Limits
 pub mod Steps
 pub mod Readings
-pub mod Tellers
+pub mod Reporters
 pub mod FeedLaws

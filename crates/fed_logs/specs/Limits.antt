@@ -15,12 +15,12 @@ abbrev pub IsHeldUpTo : (limit : ℕ) → Trace → Option Batch → Type 0
 IsHeldUpTo limit t None = Unit {0}
 IsHeldUpTo limit t (Some batch) = IsTrue (goes_up_to limit t (Join batch))
 
--- Calls on a feed went as far towards a limit as its trace lets them, and so does the batch that is held behind them.
+-- Calls on a feed went as far towards a limit as its trace lets them, and so does the batch that is held after them.
 pub record WentUpTo (limit : ℕ) (t : Trace) (new : FeedState) (gained : List Answer) : Type 0 where
   pub calls : IsTrue (list_all (is_up_to_limit limit t) gained)
   pub held : IsHeldUpTo limit t new.held
 
--- Calls on a feed used some of the bytes that were ahead of it. However the trace turns out behind them, they went so far, if the batch that was held
+-- Calls on a feed used some of the bytes that were ahead of it. However the trace turns out after them, they went so far, if the batch that was held
 -- at first does.
 pub record GoesUpToBy (limit : ℕ) (now : Option (List ℕ)) (old new : FeedState) (gained : List Answer) (bytes : List ℕ) : Type 0 where
   pub reads : ReadsBytes now old new gained bytes

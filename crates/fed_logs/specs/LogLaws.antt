@@ -10,37 +10,37 @@ use Rattle.group_state.specs.SoundStates.{IsGroupSound}
 use Rattle.group_state.specs.Machine.{Call}
 use Rattle.group_state.specs.Machine.Call.{Join, NextWanted, Copied, Raise, Break, Form, Carry, Drop, Resume, Forget}
 use Rattle.group_state.specs.Runs.{Answer, Runs, May, shown_by}
-use Rattle.fed_logs.specs.ToldTracks.{HeldTracks, TellsTruth, floor_of}
-use Rattle.record_rows.specs.Deeds.{Deed, rows_by_deed, rows_behind, time_meant_behind}
-use Rattle.fed_logs.specs.Deeds.{held_behind}
+use Rattle.fed_logs.specs.ToldTracks.{HeldTracks, ReportsTruth, floor_of}
+use Rattle.record_rows.specs.Deeds.{Deed, rows_by_deed, rows_after_deeds, time_meant_after}
+use Rattle.fed_logs.specs.Deeds.{held_after_deeds}
 use Rattle.record_rows.specs.Deeds.Deed.{Logged}
 use Rattle.fed_logs.specs.Feeds.{truth_of, part_of_mover, IsFedBy}
 use Rattle.group_state.specs.Calls.{is_by_reader}
-use Rattle.fed_logs.specs.Moves.{Plans, MayFollow, MakesDeeds, MakesAllDeeds, AreEntriesLive, LiveByDeeds, is_break_of_control, is_mark_due_behind}
+use Rattle.fed_logs.specs.Moves.{Plans, MayFollow, MakesDeeds, MakesAllDeeds, AreEntriesLive, LiveByDeeds, is_break_of_control, is_mark_due_after}
 use Rattle.fed_logs.specs.Logs.{Sizes, IsFedLog, BeginsLog, HoldTruth, AwaitsBreak}
 
 -- ---- tracks
 
--- A call that is fed by its control's trace tells what is true of the primary.
-abbrev pub FedTellTruth : Type 0
-FedTellTruth = (traces : List Trace) (s : Group) (call : Call) (k : ℕ) (t : Trace) → IsTrue (none_falls traces) → slice_get traces k ≡ Some t → IsTrue (is_by_reader k call) → May s call
-    → IsFedBy t (floor_of s k) call → TellsTruth (truth_of traces) s call
+-- A call that is fed by its controller's trace reports what is true of the primary.
+abbrev pub FedReportTruth : Type 0
+FedReportTruth = (traces : List Trace) (s : Group) (call : Call) (k : ℕ) (t : Trace) → IsTrue (none_falls traces) → slice_get traces k ≡ Some t → IsTrue (is_by_reader k call) → May s call
+    → IsFedBy t (floor_of s k) call → ReportsTruth (truth_of traces) s call
 
--- Behind each of the deeds each duplex row's volume holds its primary's tracks at the time that is then meant.
+-- After each of the deeds each duplex row's volume holds its primary's tracks at the time that is then meant.
 abbrev pub LogsBear : Type 0
 LogsBear = (size : Sizes) (traces : List Trace) (held : HeldTracks) (s end : Group) (run : List Answer) (time : ℕ) (rows : List PairRow) (done : Plans) (deeds : List Deed)
     → IsFedLog traces s end run → BeginsLog size traces held s time rows done → MakesDeeds time rows done (part_of_mover run) deeds → (n : ℕ) → n ≤ length deeds
-    → HoldTruth size (truth_of traces) (held_behind (take n deeds) held) (rows_behind (take n deeds) rows) (time_meant_behind (take n deeds) time)
+    → HoldTruth size (truth_of traces) (held_after_deeds (take n deeds) held) (rows_after_deeds (take n deeds) rows) (time_meant_after (take n deeds) time)
 
 -- Where all calls of the mover were kept, what a log began with holds again at its end.
 abbrev pub ReachedHolds : Type 0
 ReachedHolds = (size : Sizes) (traces : List Trace) (held : HeldTracks) (s end : Group) (run : List Answer) (time ended : ℕ) (rows last : List PairRow) (done known : Plans) (deeds : List Deed)
     → IsFedLog traces s end run → BeginsLog size traces held s time rows done → MakesAllDeeds time rows done (part_of_mover run) deeds ended last known
-    → (last ≡ rows_behind deeds rows) × (ended ≡ time_meant_behind deeds time) × IsGroupSound end × BeginsLog size traces (held_behind deeds held) end ended last known
+    → (last ≡ rows_after_deeds deeds rows) × (ended ≡ time_meant_after deeds time) × IsGroupSound end × BeginsLog size traces (held_after_deeds deeds held) end ended last known
 
--- Deeds one behind the other have entries of live rows if each part has, by the rows and the mark that the first one leaves.
+-- Deeds one after the other have entries of live rows if each part has, by the rows and the mark that the first one leaves.
 abbrev pub LiveEntriesInTurn : Type 0
-LiveEntriesInTurn = (due : Bool) (rows : List PairRow) (first then : List Deed) → LiveByDeeds rows first → AreEntriesLive due rows first → AreEntriesLive (is_mark_due_behind due first) (rows_behind first rows) then
+LiveEntriesInTurn = (due : Bool) (rows : List PairRow) (first then : List Deed) → LiveByDeeds rows first → AreEntriesLive due rows first → AreEntriesLive (is_mark_due_after due first) (rows_after_deeds first rows) then
     → AreEntriesLive due rows (first ++ then)
 
 -- ---- times
@@ -65,7 +65,7 @@ is_limited time answer = is_limit_up_to time answer.call
 abbrev pub TimesRise : Type 0
 TimesRise = (time limit : ℕ) (s end : Group) (run : List Answer) (rows : List PairRow) (done : Plans) (deeds : List Deed) (n m : ℕ)
     → Runs s run end → MakesDeeds time rows done (part_of_mover run) deeds → time ≤ limit → IsTrue (list_all (is_limited limit) run) → n ≤ m → m ≤ length deeds
-    → (time_meant_behind (take n deeds) time ≤ time_meant_behind (take m deeds) time) × (time_meant_behind (take m deeds) time ≤ limit)
+    → (time_meant_after (take n deeds) time ≤ time_meant_after (take m deeds) time) × (time_meant_after (take m deeds) time ≤ limit)
 
 -- ---- breaks
 
@@ -81,9 +81,9 @@ pub data ReportsBreak (run : List Answer) (k b : ℕ) : List PairRow → List De
       → ReportsBreak run k b rows (Logged shown.cut.0 shown.entries next ∷ deeds)
   Later : (rows : List PairRow) (deed : Deed) (deeds : List Deed) → ReportsBreak run k b (rows_by_deed deed) deeds → ReportsBreak run k b rows (deed ∷ deeds)
 
--- Behind each of the deeds a control with a break time below the time that is then meant, and from the start's time on, has a group
+-- After each of the deeds a controller with a break time below the time that is then meant, and from the start's time on, has a group
 -- among them that reports it, at that time.
 abbrev pub BreaksCome : Type 0
 BreaksCome = (traces : List Trace) (s end : Group) (run : List Answer) (time : ℕ) (rows : List PairRow) (done : Plans) (deeds : List Deed) (k b : ℕ) (t : Trace)
     → IsFedLog traces s end run → MakesDeeds time rows done (part_of_mover run) deeds → slice_get traces k ≡ Some t → break_time t ≡ Some b → AwaitsBreak s k b → time ≤ b
-    → (n : ℕ) → n ≤ length deeds → b < time_meant_behind (take n deeds) time → ReportsBreak run k b rows (take n deeds)
+    → (n : ℕ) → n ≤ length deeds → b < time_meant_after (take n deeds) time → ReportsBreak run k b rows (take n deeds)

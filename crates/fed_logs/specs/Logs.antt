@@ -7,7 +7,7 @@ use Rattle.pending_queue.specs.Entries.{is_copy_of}
 use Rattle.primary_ctl.specs.Primaries.{none_falls}
 use Rattle.group_state.specs.declared.volume.Volume.{Volume}
 use Rattle.group_state.specs.Volumes.{volume_of, passes, is_wanted}
-use Rattle.group_state.specs.Controls.{ControlState, counts, is_telling}
+use Rattle.group_state.specs.Controls.{ControlState, counts, is_reporting}
 use Rattle.group_state.specs.Groups.{Group, control_at}
 use Rattle.group_state.specs.SoundStates.{IsGroupSound, passes_or_none}
 use Rattle.group_state.specs.Runs.{Answer, Runs}
@@ -16,7 +16,7 @@ use Rattle.fed_logs.specs.Feeds.{truth_of, is_call_of_reader, AllAreFed}
 use Rattle.group_state.specs.Calls.{is_by_mover}
 use Rattle.fed_logs.specs.Moves.{HasRowIn, IsLive, IsDuplex, Plans}
 
--- how many tracks a control's volume has
+-- how many tracks a controller's volume has
 abbrev pub Sizes : Type 0
 Sizes = (control volume : ℕ) → ℕ
 
@@ -37,7 +37,7 @@ pub record IsPlanDone (v : ℕ) (c : ControlState) : Type 0 where
   pub unwanted : (x : ℕ) → is_wanted v x c.volumes ≡ false
   pub copies : IsTrue (list_all (λ entry. not (is_copy_of v entry)) c.queue.waiting)
 
--- Rows and plans stand on a state: the controls of live rows count, plans of duplex rows are known to be done, and plans that are known
+-- Rows and plans stand on a state: the controllers of live rows count, plans of duplex rows are known to be done, and plans that are known
 -- to be done are.
 pub record Stand (s : Group) (rows : List PairRow) (done : Plans) : Type 0 where
   pub live : (k v : ℕ) → HasRowIn IsLive k v rows → (k < length s.controls) × IsTrue (counts (control_at s k).phase)
@@ -57,7 +57,7 @@ pub record IsFedLog (traces : List Trace) (s end : Group) (run : List Answer) : 
   pub seats : IsTrue (list_all is_call_of_seat run)
   pub fed : AllAreFed traces s run
 
--- What an epoch begins with: what is held was told, up to a cut that isn't above the time that is meant.
+-- What an epoch begins with: what is held was reported, up to a cut that isn't above the time that is meant.
 pub record BeginsLog (size : Sizes) (traces : List Trace) (held : HeldTracks) (s : Group) (time : ℕ) (rows : List PairRow) (done : Plans) : Type 0 where
   pub sized : AreSized size s
   pub holds : AllHold (truth_of traces) held s
@@ -65,9 +65,9 @@ pub record BeginsLog (size : Sizes) (traces : List Trace) (held : HeldTracks) (s
   pub stand : Stand s rows done
   pub truth : HoldTruth size (truth_of traces) held rows time
 
--- A control with this break time counts, and has told no later time. Once it has broken, its floor is that time.
+-- A controller with this break time counts, and has reported no later time. Once it has broken, its floor is that time.
 pub record AwaitsBreak (s : Group) (k b : ℕ) : Type 0 where
   pub low : k < length s.controls
   pub counted : IsTrue (counts (control_at s k).phase)
   pub up_to : floor_of s k ≤ b
-  pub broken : is_telling (control_at s k).phase ≡ false → floor_of s k ≡ b
+  pub broken : is_reporting (control_at s k).phase ≡ false → floor_of s k ≡ b

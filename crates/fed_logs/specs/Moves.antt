@@ -18,7 +18,7 @@ use Rattle.record_rows.specs.Deeds.Deed.{Logged, Changed, Marked}
 
 -- ---- rows
 
--- A row of a control's volume is among these, in a state that passes.
+-- A row of a controller's volume is among these, in a state that passes.
 pub record HasRowIn (is : PairState → Type 0) (k v : ℕ) (rows : List PairRow) : Type 0 where
   pub row : PairRow
   pub among : Contains rows row
@@ -53,14 +53,14 @@ is_break_of_control k shown = list_any (λ b. b.0 == k) shown.breaks
 abbrev pub is_plan_shown_done : (control volume : ℕ) → Shown → Bool
 is_plan_shown_done k v shown = list_any (is_named k v) shown.done
 
--- Behind a group those rows are live that were and of whose controls no break is reported, and those are duplex that were or whose plans
+-- After a group those rows are live that were and of whose controllers no break is reported, and those are duplex that were or whose plans
 -- are done with it.
 pub record MayFollow (shown : Shown) (rows next : List PairRow) : Type 0 where
   pub live : (k v : ℕ) → HasRowIn IsLive k v next → (is_break_of_control k shown ≡ false) × HasRowIn IsLive k v rows
   pub duplex : (k v : ℕ) → HasRowIn IsDuplex k v next → HasRowIn IsDuplex k v rows ⊎ IsTrue (is_plan_shown_done k v shown)
 
 -- A form that shows nothing new to a site: no entry, and a cut up to the time that is meant. It makes no row duplex that is pending or copying.
--- It reports no break of a live row's control, and none at all but below that time, as while a session starts.
+-- It reports no break of a live row's controller, and none at all but below that time, as while a session starts.
 pub record ShowsNothing (time : ℕ) (rows : List PairRow) (shown : Shown) : Type 0 where
   pub at : shown.cut.0 ≤ time
   pub entries : shown.entries ≡ []
@@ -87,8 +87,8 @@ is_mark_at_most (Marked spot ended rows ∷ deed ∷ deeds) = false
 
 -- ---- entries of live rows
 
--- The entries of each group are of rows that were live when the group was formed, by the rows that were seen last then. A mark is due behind a
--- group, and tells rows that the next form sees. A mark that isn't due may be made for a group that was formed before it.
+-- The entries of each group are of rows that were live when the group was formed, by the rows that were seen last then. A mark is due after a
+-- group, and reports rows that the next form sees. A mark that isn't due may be made for a group that was formed before it.
 abbrev pub AreEntriesLive : (due : Bool) → (seen : List PairRow) → List Deed → Type 0
 AreEntriesLive due seen [] = Unit {0}
 AreEntriesLive due seen (Logged cut entries next ∷ deeds) = All (IsOfLiveRow seen) entries × AreEntriesLive true next deeds
@@ -100,17 +100,17 @@ AreEntriesLive false seen (Marked spot ended next ∷ deeds) = AreEntriesLive fa
 abbrev pub AreLiveIn : (wider rows : List PairRow) → Type 0
 AreLiveIn wider rows = (k v : ℕ) → HasRowIn IsLive k v rows → HasRowIn IsLive k v wider
 
--- Behind each deed rows are live only where rows before it were.
+-- After each deed rows are live only where rows before it were.
 abbrev pub LiveByDeeds : List PairRow → List Deed → Type 0
 LiveByDeeds rows [] = Unit {0}
 LiveByDeeds rows (deed ∷ deeds) = AreLiveIn rows (rows_by_deed deed) × LiveByDeeds (rows_by_deed deed) deeds
 
--- whether a mark is due behind deeds
-abbrev pub is_mark_due_behind : (due : Bool) → List Deed → Bool
-is_mark_due_behind due [] = due
-is_mark_due_behind due (Logged cut entries rows ∷ deeds) = is_mark_due_behind true deeds
-is_mark_due_behind due (Changed time rows ∷ deeds) = is_mark_due_behind due deeds
-is_mark_due_behind due (Marked spot ended rows ∷ deeds) = is_mark_due_behind false deeds
+-- whether a mark is due after deeds
+abbrev pub is_mark_due_after : (due : Bool) → List Deed → Bool
+is_mark_due_after due [] = due
+is_mark_due_after due (Logged cut entries rows ∷ deeds) = is_mark_due_after true deeds
+is_mark_due_after due (Changed time rows ∷ deeds) = is_mark_due_after due deeds
+is_mark_due_after due (Marked spot ended rows ∷ deeds) = is_mark_due_after false deeds
 
 -- ---- plans
 

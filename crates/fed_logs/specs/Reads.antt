@@ -21,7 +21,7 @@ use Rattle.sidefile.specs.declared.hand.Halt.TheVariants as halts
 use Rattle.group_state.specs.Runs.{Answer}
 use Rattle.fed_logs.specs.ToldTracks.{is_write_up_to}
 use Rattle.fed_logs.specs.Feeds.{AreFedBy, IsBatchOf, is_between}
-use Rattle.fed_logs.specs.LaneFeeds.{FeedState, floor_behind_calls, telling_behind_calls}
+use Rattle.fed_logs.specs.LaneFeeds.{FeedState, floor_after_calls, reporting_after_calls}
 
 -- How the trace of a source turns out: all bytes that the source holds, or those that it gives before it fails.
 pub data Outlook : Type 0 where
@@ -43,7 +43,7 @@ abbrev pub EndsAsAhead : Outlook → Trace → ReaderState → (rest : List ℕ)
 EndsAsAhead Whole t reader rest = cause_ahead reader rest ≡ cause_of t.end
 EndsAsAhead Failing t reader rest = t.end ≡ ends.ReadFault
 
--- The held batch is that of this run, which is behind the primary's time, up to the time that the sidefile has reported. Where none is held
+-- The held batch is that of this run, which is after the primary's time, up to the time that the sidefile has reported. Where none is held
 -- these times are one.
 abbrev pub IsHeldRun : Option Batch → (run : List Entry) → (time upto : ℕ) → Type 0
 IsHeldRun None run time upto = (run ≡ []) × (time ≡ upto)
@@ -51,7 +51,7 @@ IsHeldRun (Some batch) run time upto = IsBatchOf run batch × (batch.upto.0 ≡ 
 
 -- A feed that reads on has read so much of a trace of which these bytes are still ahead of its reader.
 --   all: the trace's good entries are those whose writes the primary has, then the run that is held, then those ahead
---   reported, later: the first are up to the primary's time, and those ahead are behind the time that the sidefile has reported
+--   reported, later: the first are up to the primary's time, and those ahead are after the time that the sidefile has reported
 --   break_ahead: the break is still ahead, if there is one
 pub record HasRead (o : Outlook) (rest : List ℕ) (t : Trace) (feed : FeedState) : Type 0 where
   pub rise : IsTrue (do_rise 0 t.entries)
@@ -76,10 +76,10 @@ pub record HasBroken (t : Trace) (cause : Cause) (upto : ℕ) (feed : FeedState)
   pub is : break_of t ≡ Some (record { cause = cause; upto = upto })
   pub tracks : HasTracksAt t upto feed.primary
 
--- ---- how a trace may turn out behind calls
+-- ---- how a trace may turn out after calls
 
 -- A source may turn out so of which these bytes are still to come. It holds all its bytes where the feed hasn't broken by a fault. It fails
--- behind them where the reader hasn't come to its end, or where the feed broke by the fault and none is to come.
+-- after them where the reader hasn't come to its end, or where the feed broke by the fault and none is to come.
 abbrev pub MayTurnOut : Outlook → (later : List ℕ) → Option Halt → (stopped : Option Stopped) → Type 0
 MayTurnOut Whole later None stopped = Unit {0}
 MayTurnOut Whole later (Some (halts.Broken ReadFault upto)) stopped = ⊥
@@ -93,7 +93,7 @@ MayTurnOut Failing later (Some halts.NoMemory) stopped = ⊥
 abbrev pub MayTurnOutOf : Outlook → (later : List ℕ) → FeedState → Type 0
 MayTurnOutOf o later feed = MayTurnOut o later feed.halted feed.side.reader.stopped
 
--- The source fails behind these bytes: an entry is cut there. Where the feed broke by the fault none is to come.
+-- The source fails after these bytes: an entry is cut there. Where the feed broke by the fault none is to come.
 abbrev pub IsToFail : (later : List ℕ) → Option Halt → ReaderState → Type 0
 IsToFail later None reader = (reader.stopped ≡ None) × IsFault reader later
 IsToFail later (Some (halts.Broken ReadFault upto)) reader = later ≡ []
@@ -108,13 +108,13 @@ abbrev pub IsStillToCome : Outlook → (rest later : List ℕ) → Type 0
 IsStillToCome Whole rest later = later ≡ rest
 IsStillToCome Failing rest later = Unit {0}
 
--- How a feed stands behind calls. Nothing is said where there was no memory.
+-- How a feed stands after calls. Nothing is said where there was no memory.
 abbrev pub StandsSo : Outlook → (later : List ℕ) → Trace → FeedState → Option Halt → Type 0
 StandsSo o later t feed None = HasRead o later t feed
 StandsSo o later t feed (Some (halts.Broken cause upto)) = HasBroken t cause upto.0 feed
 StandsSo o later t feed (Some halts.NoMemory) = Unit {0}
 
--- The calls on a feed were fed by its trace, and it stands so behind them.
+-- The calls on a feed were fed by its trace, and it stands so after them.
 pub record Went (o : Outlook) (later : List ℕ) (t : Trace) (old new : FeedState) (gained : List Answer) : Type 0 where
   pub fed : AreFedBy t old.primary.time gained
   pub stands : StandsSo o later t new new.halted
@@ -128,9 +128,9 @@ AreLeft now (Some (halts.Broken ReadFault upto)) reader rest = now ≡ Some rest
 AreLeft now (Some (halts.Broken cause upto)) reader rest = Unit {0}
 AreLeft now (Some halts.NoMemory) reader rest = Unit {0}
 
--- Calls on a feed used some of the bytes that were ahead of it. However the trace turns out behind them, the calls were fed by it.
+-- Calls on a feed used some of the bytes that were ahead of it. However the trace turns out after them, the calls were fed by it.
 --   could: the trace might turn out so before the calls too
---   fails: where the source fails behind the calls, it failed so behind them all
+--   fails: where the source fails after the calls, it failed so after them all
 pub record ReadsBytes (now : Option (List ℕ)) (old new : FeedState) (gained : List Answer) (bytes : List ℕ) : Type 0 where
   pub used : List ℕ
   pub rest : List ℕ
@@ -142,11 +142,11 @@ pub record ReadsBytes (now : Option (List ℕ)) (old new : FeedState) (gained : 
 
 -- Calls on a feed read on.
 --   stays: a feed that reads no further makes no call and asks its source for nothing
---   floor: the primary stands at the floor that the calls tell
---   telling, told: while the feed reads on no call told a break, and if it broke one did
+--   floor: the primary stands at the floor that the calls report
+--   reporting, told: while the feed reads on no call reported a break, and if it broke one did
 pub record ReadsOn (before now : Option (List ℕ)) (old new : FeedState) (gained : List Answer) : Type 0 where
   pub stays : (halt : Halt) → old.halted ≡ Some halt → (new ≡ old) × (gained ≡ []) × (now ≡ before)
-  pub floor : (new.halted ≡ Some halts.NoMemory → ⊥) → floor_behind_calls old.primary.time gained ≡ new.primary.time
-  pub telling : new.halted ≡ None → IsTrue (telling_behind_calls true gained)
-  pub told : old.halted ≡ None → (cause : Cause) (upto : Stamp) → new.halted ≡ Some (halts.Broken cause upto) → telling_behind_calls true gained ≡ false
+  pub floor : (new.halted ≡ Some halts.NoMemory → ⊥) → floor_after_calls old.primary.time gained ≡ new.primary.time
+  pub reporting : new.halted ≡ None → IsTrue (reporting_after_calls true gained)
+  pub told : old.halted ≡ None → (cause : Cause) (upto : Stamp) → new.halted ≡ Some (halts.Broken cause upto) → reporting_after_calls true gained ≡ false
   pub reads : old.halted ≡ None → (bytes : List ℕ) → IsAhead old.side.reader before bytes → ReadsBytes now old new gained bytes

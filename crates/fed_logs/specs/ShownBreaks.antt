@@ -8,7 +8,7 @@ use Rattle.sidefile.specs.Breaks.{break_of, break_time}
 use Rattle.pending_queue.specs.Groups.{FormedGroup}
 use Rattle.group_state.specs.declared.phase.Phase.TheVariants.{Broken}
 use Rattle.group_state.specs.Calls.{is_by_seat}
-use Rattle.group_state.specs.Controls.{ControlState, is_telling}
+use Rattle.group_state.specs.Controls.{ControlState, is_reporting}
 use Rattle.group_state.specs.Groups.{Group, control_at, new_group, Shown, shown_in}
 use Rattle.group_state.specs.Machine.{Call, Reply, steps}
 use Rattle.group_state.specs.Machine.Call.{Join, NextWanted, Copied, Raise, Break, Form, Carry, Drop, Resume, Forget}
@@ -18,15 +18,15 @@ use Rattle.record_rows.specs.GroupRows.{are_breaks_at_cut}
 use Rattle.fed_logs.specs.Logs.{AwaitsBreak, IsFedLog}
 use Rattle.fed_logs.specs.LogLaws.{WasShown}
 
--- If a control has broken, and its break wasn't reported yet, the break is the trace's: by this cause, at the control's floor.
+-- If a controller has broken, and its break wasn't reported yet, the break is the trace's: by this cause, at the controller's floor.
 abbrev pub BrokeAs : Trace → ControlState → Type 0
 BrokeAs t c = (cause : Cause) → c.phase ≡ Broken cause → break_of t ≡ Some (record { cause = cause; upto = c.floor.0 })
 
--- Each control with a trace broke as that does.
+-- Each controller with a trace broke as that does.
 abbrev pub BrokeAsTraces : List Trace → Group → Type 0
 BrokeAsTraces traces s = (k : ℕ) (t : Trace) → slice_get traces k ≡ Some t → BrokeAs t (control_at s k)
 
--- A break that is shown is the break of its control's trace: its cause is the trace's, and its time is the cut and the trace's break time.
+-- A break that is shown is the break of its controller's trace: its cause is the trace's, and its time is the cut and the trace's break time.
 pub record IsTracesBreak (traces : List Trace) (cut : Stamp) (found : ℕ × Stamp × Cause) : Type 0 where
   pub trace : Trace
   pub own : slice_get traces found.0 ≡ Some trace
@@ -47,11 +47,11 @@ GroupsBreakAtCuts = (traces : List Trace) (s end : Group) (run : List Answer) (g
 
 -- ---- from state to state
 
--- No control of a new state has broken.
+-- No controller of a new state has broken.
 abbrev pub NewGroupsAreUnbroken : Type 0
 NewGroupsAreUnbroken = (traces : List Trace) (controls records blocks : ℕ) → BrokeAsTraces traces (new_group controls records blocks)
 
--- A fed log ends with controls that broke as their traces do, if it begins so.
+-- A fed log ends with controllers that broke as their traces do, if it begins so.
 abbrev pub LogsBreakAsTraces : Type 0
 LogsBreakAsTraces = (traces : List Trace) (s end : Group) (run : List Answer) → IsFedLog traces s end run → BrokeAsTraces traces s → BrokeAsTraces traces end
 
@@ -61,15 +61,15 @@ OtherCallsKeepBreaks = (traces : List Trace) (s next : Group) (call : Call) (rep
 
 -- ---- breaks to come
 
--- A control still tells, and has told up to a time at most.
-pub record StillTells (s : Group) (k b : ℕ) : Type 0 where
+-- A controller still reports, and has reported up to a time at most.
+pub record StillReports (s : Group) (k b : ℕ) : Type 0 where
   pub low : k < length s.controls
-  pub telling : IsTrue (is_telling (control_at s k).phase)
+  pub reporting : IsTrue (is_reporting (control_at s k).phase)
   pub up_to : floor_of s k ≤ b
 
--- Each control still tells whose trace's break time isn't below a time.
+-- Each controller still reports whose trace's break time isn't below a time.
 abbrev pub BreaksAreToCome : List Trace → (time : ℕ) → Group → Type 0
-BreaksAreToCome traces time s = (k b : ℕ) (t : Trace) → slice_get traces k ≡ Some t → break_time t ≡ Some b → time ≤ b → StillTells s k b
+BreaksAreToCome traces time s = (k b : ℕ) (t : Trace) → slice_get traces k ≡ Some t → break_time t ≡ Some b → time ≤ b → StillReports s k b
 
 -- where a call is a break, it is below a limit
 abbrev pub is_break_below : (limit : ℕ) → Answer → Bool
@@ -88,13 +88,13 @@ is_break_below limit answer = elim answer.call [
 
 -- A break to come is awaited.
 abbrev pub BreaksToComeAreAwaited : Type 0
-BreaksToComeAreAwaited = (s : Group) (k b : ℕ) → StillTells s k b → AwaitsBreak s k b
+BreaksToComeAreAwaited = (s : Group) (k b : ℕ) → StillReports s k b → AwaitsBreak s k b
 
 -- In a new state all breaks are to come.
 abbrev pub AllBreaksAreToCome : Type 0
 AllBreaksAreToCome = (traces : List Trace) (controls records blocks : ℕ) → length traces ≡ controls → BreaksAreToCome traces 0 (new_group controls records blocks)
 
--- If the breaks that readers tell are below a limit, the others are still to come behind the log.
+-- If the breaks that readers report are below a limit, the others are still to come after the log.
 abbrev pub LaterBreaksAreToCome : Type 0
 LaterBreaksAreToCome = (traces : List Trace) (s end : Group) (run : List Answer) (time limit : ℕ) → IsFedLog traces s end run → IsTrue (list_all (is_break_below limit) run) → time ≤ limit
     → BreaksAreToCome traces time s → BreaksAreToCome traces limit end

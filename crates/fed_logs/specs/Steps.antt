@@ -67,7 +67,7 @@ pub record IsIdle (feed : FeedState) : Type 0 where
 --   Breaks: the trace is given up
 --   Wants: the sidefile has no memory
 --   Asks: a wanted track is asked for
---   Copies: a track of the primary is told at the floor, whatever is replied
+--   Copies: a track of the primary is reported at the floor, whatever is replied
 pub data FeedStep (before now : Option (List ℕ)) (limit : Stamp) : (old new : FeedState) → List Answer → Type 0 where
   Hands : (old : FeedState) (side : SidefileState) (batch : Batch) → IsIdle old → HandsOver before now limit.0 old.side side (hands.Batch batch)
       → FeedStep before now limit old (record old { side = side; held = Some batch }) []

@@ -8,10 +8,10 @@ ghost use Rattle.fed_logs.specs.declared.reading.Reading.TheVariants as readings
 ghost use Rattle.fed_logs.specs.LaneFeeds.{has_nothing_to};
 ghost use Rattle.fed_logs.specs.Steps.{IsIdle};
 ghost use Rattle.pending_queue.specs.declared.room.Room.{Room as RoomIs};
-ghost use Rattle.fed_logs.specs.Tellers.{IsToldBy, HoldsBatch, IsRefusedBy, StandsAs, StandsAsOrHolds, HasFaultBy, StepsOn, TellsOn, TellsUpTo, BreaksBelow, IsCopiedBy};
+ghost use Rattle.fed_logs.specs.Reporters.{IsToldBy, HoldsBatch, IsRefusedBy, StandsAs, StandsAsOrHolds, HasFaultBy, StepsOn, ReportsOn, ReportsUpTo, BreaksBelow, IsCopiedBy};
 
 use crate::reading::Reading;
-use crate::teller::Teller;
+use crate::reporter::Reporter;
 use ckd_track::{Batch, Cause, Slot};
 use group_state::{CopyJoin, RunJoin};
 use primary_ctl::Primary;
@@ -21,7 +21,7 @@ use std::marker::Model;
 use tod_stamp::Stamp;
 use xrc_edge::Source;
 
-/// What a control's lane reads of its trace: its sidefile, its primary volumes, and the batch that was handed over and isn't joined yet.
+/// What a controller's lane reads of its trace: its sidefile, its primary volumes, and the batch that was handed over and isn't joined yet.
 /// The primary takes a batch over once it is joined.
 #[derive(Drop)]
 pub struct Feed {
@@ -93,22 +93,22 @@ impl Feed {
     }
 
     /// Joins the batch that is held, if there is room for it. Then the primary takes it over.
-    fn join_held<T: Teller>(&mut self, alloc: Global, teller: &mut T) -> Reading
+    fn join_held<T: Reporter>(&mut self, alloc: Global, reporter: &mut T) -> Reading
         requires goes_on { self.old.halted ≡ None }
         requires held { HoldsBatch self.old.held }
-        requires told { IsToldBy self.old (T.state teller.old) }
-        ensures steps { (left : Option (List ℕ)) (limit : _) → StepsOn left left limit self.old self.new (T.state teller.old) (T.state teller.new) }
-        ensures told { IsToldBy self.new (T.state teller.new) }
+        requires told { IsToldBy self.old (T.state reporter.old) }
+        ensures steps { (left : Option (List ℕ)) (limit : _) → StepsOn left left limit self.old self.new (T.state reporter.old) (T.state reporter.new) }
+        ensures told { IsToldBy self.new (T.state reporter.new) }
         ensures side { self.new.side ≡ self.old.side }
         ensures stands { (limit : ℕ) → StandsAs result limit self.new }
         ensures fault { (n : ℕ) → HasFaultBy n n self.new.halted }
-        ensures refused { IsRefusedBy result self.new (T.state teller.old) (T.state teller.new) }
+        ensures refused { IsRefusedBy result self.new (T.state reporter.old) (T.state reporter.new) }
         ensures rises { result ≡ readings.Joined → self.old.primary.time < self.new.primary.time }
     {
         let Some(batch) = self.held.take() else {
             return Reading::Joined;
         };
-        match teller.join(&batch) {
+        match reporter.join(&batch) {
             RunJoin::Joined => match self.primary.step(alloc, &batch) {
                 Ok(()) => Reading::Joined,
                 Err(_) => {
@@ -124,25 +124,25 @@ impl Feed {
     }
 
     /// Hands over what is due up to a limit. A batch is held at first; then there is no answer yet.
-    fn hand_over<S: Source, T: Teller>(
+    fn hand_over<S: Source, T: Reporter>(
         &mut self,
         alloc: Global,
         source: &mut S,
-        teller: &mut T,
+        reporter: &mut T,
         limit: Stamp,
     ) -> Option<Reading>
         requires idle { IsIdle self.old }
-        requires told { IsToldBy self.old (T.state teller.old) }
+        requires told { IsToldBy self.old (T.state reporter.old) }
         requires limit { self.old.side.upto ≤ limit.0 }
-        ensures steps { StepsOn (S.left source.old) (S.left source.new) limit self.old self.new (T.state teller.old) (T.state teller.new) }
-        ensures told { IsToldBy self.new (T.state teller.new) }
+        ensures steps { StepsOn (S.left source.old) (S.left source.new) limit self.old self.new (T.state reporter.old) (T.state reporter.new) }
+        ensures told { IsToldBy self.new (T.state reporter.new) }
         ensures within { self.new.side.upto ≤ limit.0 }
         ensures stands { StandsAsOrHolds result limit.0 self.new }
         ensures fault { HasFaultBy (S.faults source.old) (S.faults source.new) self.new.halted }
         ensures time { result ≡ None → self.new.primary.time ≡ self.old.primary.time }
         ensures joins_none { result ≡ Some readings.Joined → ⊥ }
         ensures refuses_none { (room : RoomIs) → result ≡ Some (readings.Held room) → ⊥ }
-        ensures untold { result ≡ None → teller.new ≡ teller.old }
+        ensures untold { result ≡ None → reporter.new ≡ reporter.old }
     {
         match self.side.handover(alloc, source, limit) {
             Hand::Batch(batch) => {
@@ -150,12 +150,12 @@ impl Feed {
                 None
             }
             Hand::AtLimit => {
-                teller.raise(limit);
+                reporter.raise(limit);
                 self.primary.pass(limit);
                 Some(Reading::AtLimit)
             }
             Hand::Broken { cause, upto } => {
-                teller.mark_broken(upto, cause);
+                reporter.mark_broken(upto, cause);
                 self.primary.pass(upto);
                 self.halted = Some(Halt::Broken { cause, upto });
                 Some(Reading::Broken)
@@ -169,51 +169,51 @@ impl Feed {
 
     /// One step of a reader towards a limit: it joins the batch that is held, or takes one over and joins it, or comes to the limit. A feed
     /// that reads no further answers so again, and asks its source for nothing.
-    pub fn read_once<S: Source, T: Teller>(
+    pub fn read_once<S: Source, T: Reporter>(
         &mut self,
         alloc: Global,
         source: &mut S,
-        teller: &mut T,
+        reporter: &mut T,
         limit: Stamp,
     ) -> Reading
-        requires told { IsToldBy self.old (T.state teller.old) }
+        requires told { IsToldBy self.old (T.state reporter.old) }
         requires limit { self.old.side.upto ≤ limit.0 }
-        ensures reads { TellsOn (S.left source.old) (S.left source.new) self.old self.new (T.state teller.old) (T.state teller.new) }
+        ensures reads { ReportsOn (S.left source.old) (S.left source.new) self.old self.new (T.state reporter.old) (T.state reporter.new) }
         // Each handover takes the limit.
-        ensures up_to { TellsUpTo limit.0 (S.left source.old) (S.left source.new) self.old self.new (T.state teller.old) (T.state teller.new) }
-        ensures below { BreaksBelow limit.0 (S.left source.old) self.old self.new (T.state teller.old) (T.state teller.new) }
-        ensures told { IsToldBy self.new (T.state teller.new) }
+        ensures up_to { ReportsUpTo limit.0 (S.left source.old) (S.left source.new) self.old self.new (T.state reporter.old) (T.state reporter.new) }
+        ensures below { BreaksBelow limit.0 (S.left source.old) self.old self.new (T.state reporter.old) (T.state reporter.new) }
+        ensures told { IsToldBy self.new (T.state reporter.new) }
         ensures within { self.new.side.upto ≤ limit.0 }
         ensures stands { StandsAs result limit.0 self.new }
         ensures fault { self.old.halted ≡ None → HasFaultBy (S.faults source.old) (S.faults source.new) self.new.halted }
         ensures unasked { (halt : HaltIs) → self.old.halted ≡ Some halt → source.new ≡ source.old }
-        // A batch that is held was told in this step.
-        ensures refused { IsRefusedBy result self.new (T.state teller.old) (T.state teller.new) }
+        // A batch that is held was reported in this step.
+        ensures refused { IsRefusedBy result self.new (T.state reporter.old) (T.state reporter.new) }
         ensures rises { result ≡ readings.Joined → self.old.primary.time < self.new.primary.time }
     {
         if let Some(halt) = self.halted {
             return Reading::again(halt);
         }
         if self.held.is_some() {
-            return self.join_held(alloc, teller);
+            return self.join_held(alloc, reporter);
         }
-        match self.hand_over(alloc, source, teller, limit) {
+        match self.hand_over(alloc, source, reporter, limit) {
             Some(reading) => reading,
-            None => self.join_held(alloc, teller),
+            None => self.join_held(alloc, reporter),
         }
     }
 
-    /// One step of a reader that copies: it asks which track is wanted next, and tells that track as the primary has it at the floor. None
-    /// where no track is wanted. `slot` is the buffer for the track.
-    pub fn copy_once<T: Teller>(&self, teller: &mut T, slot: &mut Slot) -> Option<CopyJoin>
+    /// One step of a reader that copies: it asks which track is wanted next, and reports that track as the primary has it at the floor.
+    /// None where no track is wanted. `slot` is the buffer for the track.
+    pub fn copy_once<T: Reporter>(&self, reporter: &mut T, slot: &mut Slot) -> Option<CopyJoin>
         requires goes_on { self.now.halted ≡ None }
-        requires told { IsToldBy self.now (T.state teller.old) }
-        ensures reads { (left : Option (List ℕ)) → TellsOn left left self.now self.now (T.state teller.old) (T.state teller.new) }
-        ensures told { IsToldBy self.now (T.state teller.new) }
-        ensures copied { IsCopiedBy result self.now (T.state teller.old) (T.state teller.new) }
+        requires told { IsToldBy self.now (T.state reporter.old) }
+        ensures reads { (left : Option (List ℕ)) → ReportsOn left left self.now self.now (T.state reporter.old) (T.state reporter.new) }
+        ensures told { IsToldBy self.now (T.state reporter.new) }
+        ensures copied { IsCopiedBy result self.now (T.state reporter.old) (T.state reporter.new) }
     {
-        let (volume, track) = teller.next_wanted()?;
+        let (volume, track) = reporter.next_wanted()?;
         let at = self.primary.read_track(volume, track, slot);
-        Some(teller.join_copy(volume, track, at, slot))
+        Some(reporter.join_copy(volume, track, at, slot))
     }
 }

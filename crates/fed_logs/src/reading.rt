@@ -11,9 +11,9 @@ use sidefile::Halt;
 pub enum Reading {
     /// A batch was joined. More may be left up to the limit.
     Joined,
-    /// The batch doesn't fit the control's free room, which is named. It stays held.
+    /// The batch doesn't fit the controller's free room, which is named. It stays held.
     Held(Room),
-    /// Nothing is left up to the limit, which is the control's floor now.
+    /// Nothing is left up to the limit, which is the controller's floor now.
     AtLimit,
     /// The trace was given up. It is answered again from then on.
     Broken,

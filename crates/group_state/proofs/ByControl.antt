@@ -1,4 +1,4 @@
--- A history's entries control by control, put in order, are its entries put in order.
+-- A history's entries controller by controller, put in order, are its entries put in order.
 use Rattle.std.proofs.Common.{◌≡◌, ℕ, zero, suc, ◌+◌, ◌<◌, ◌≤◌, Bool, true, false, cond, nat_eq, nat_lt, ◌&&◌, List, [], ◌∷◌, ◌++◌, length, get_or, inl, inr, refl, sym, ap, subst, ◌∙◌, append-nil, arith}
 use Rattle.std.specs.Prelude.{◌==◌, nat_le, filter}
 use Rattle.std.specs.List.{list_all, flat_map}
@@ -17,7 +17,7 @@ use Rattle.group_state.proofs.SoundLaws.{all_kept}
 use Rattle.group_state.specs.Histories.{AreSeen}
 use Rattle.group_state.proofs.Seen.{seen_append, seen_filter}
 
--- Of two entries of different controls one stands before the other.
+-- Of two entries of different controllers one stands before the other.
 entries_apart : (a b : CarriedEntry) → (a.control == b.control) ≡ false → comes_before a b ≡ false → comes_before b a ≡ true
 entries_apart a b other ab =
     let parts = or_parts (nat_lt a.stamp b.stamp) (nat_eq a.stamp b.stamp && nat_lt a.control b.control) ab in
@@ -35,9 +35,9 @@ entries_apart a b other ab =
           (and_from (nat_eq b.stamp a.stamp) (nat_lt b.control a.control) (eq-eqb b.stamp a.stamp (sym is)) (lt-ltb b.control a.control under))
     ]
 
--- ---- control by control
+-- ---- controller by controller
 
--- the entries of so many controls, from one on
+-- the entries of so many controllers, from one on
 abbrev pub by_control : (first n : ℕ) → List CarriedEntry → List CarriedEntry
 by_control k zero es = []
 by_control k (suc n) es = filter (is_of_control k) es ++ by_control (k + 1) n es
@@ -96,7 +96,7 @@ alike n es all j = elim (cases_lt j n) [
 pub order_by_control : (n : ℕ) (es : List CarriedEntry) → list_all (λ e. nat_lt e.control n) es ≡ true → in_order comes_before (by_control 0 n es) ≡ in_order comes_before es
 order_by_control n es all = order_apart comes_before before_order (λ e. e.control) entries_apart (by_control 0 n es) es (alike n es all)
 
--- ---- what is due of each control
+-- ---- what is due of each controller
 
 pub due_seen : (cut : Stamp) (entries : List CarriedEntry) (first : ℕ) (controls : List ControlState) (d : ControlState)
     → ((i : ℕ) → i < length controls → AreSeen (get_or controls i d).queue.waiting (filter (is_of_control (first + i)) entries))

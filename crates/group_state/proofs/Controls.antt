@@ -1,4 +1,4 @@
--- After each call on a control, and each form, what is kept of it is what the longer history says.
+-- After each call on a controller, and each form, what is kept of it is what the longer history says.
 use Rattle.std.proofs.Common.{◌≡◌, ℕ, Bool, true, false, not, cond, nat_eq, nat_lt, nat_le, ◌&&◌, ◌||◌, List, [], ◌∷◌, ◌++◌, length, map, Option, Some, None, refl, sym, ap, subst, ◌∙◌}
 use Rattle.std.specs.Prelude.{◌==◌, filter}
 use Rattle.std.specs.List.{list_any}
@@ -22,11 +22,11 @@ use Rattle.cut_core.proofs.Ends.{stays, breaks_at}
 use Rattle.cut_core.proofs.Shares.{shares_wait}
 use Rattle.cut_core.proofs.Plain.{any_waits}
 use Rattle.group_state.specs.declared.phase.Phase.{Phase}
-use Rattle.group_state.specs.declared.phase.Phase.TheVariants.{Telling, Broken, Reported}
+use Rattle.group_state.specs.declared.phase.Phase.TheVariants.{Unbroken, Broken, Reported}
 use Rattle.group_state.specs.declared.volume.Volume.{Volume}
 use Rattle.group_state.specs.Volumes.{volume_of, passes, carries, is_carried}
-use Rattle.group_state.specs.Controls.{ControlState, carried_writes, joined, copied, raised, broke, begun_volume, dropped, resumed, forgotten, formed, due_of, is_telling, counts}
-use Rattle.group_state.specs.SoundStates.{passes_or_none, are_distinct, is_track_within, are_within, MayTell, MayJoin, MayCarry, is_dropped}
+use Rattle.group_state.specs.Controls.{ControlState, carried_writes, joined, copied, raised, broke, begun_volume, dropped, resumed, forgotten, formed, due_of, is_reporting, counts}
+use Rattle.group_state.specs.SoundStates.{passes_or_none, are_distinct, is_track_within, are_within, MayReport, MayJoin, MayCarry, is_dropped}
 use Rattle.group_state.proofs.SoundLaws.{all_kept}
 use Rattle.group_state.proofs.FormLaws.{later_not}
 use Rattle.group_state.specs.Runs.{tracks_in}
@@ -44,12 +44,12 @@ shares_after : (k : ℕ) (past : List Event) (x : Event) (volumes : List Volume)
     → (v y : ℕ) → IsShareOf (volume_of v volumes) y (share k v y (past ++ x ∷ []))
 shares_after k past x volumes by v y = subst (IsShareOf (volume_of v volumes) y) (sym (share_snoc k v y past x)) (by v y)
 
-telling_counts : (phase : Phase) → is_telling phase ≡ true → counts phase ≡ true
-telling_counts Telling e = refl
-telling_counts (Broken cause) e = absurd cc
-telling_counts Reported e = absurd cc
+reporting_counts : (phase : Phase) → is_reporting phase ≡ true → counts phase ≡ true
+reporting_counts Unbroken e = refl
+reporting_counts (Broken cause) e = absurd cc
+reporting_counts Reported e = absurd cc
 
--- an event by which the control tells nothing, and none of its entries goes or comes
+-- an event by which the controller reports nothing, and none of its entries goes or comes
 module _ (k : ℕ) (past : List Event) (x : Event) (c : ControlState) (q : IsQuiet k x) (h : IsControlOf k past c) where
   pub quietly : (new : ControlState) → new.floor ≡ c.floor → new.phase ≡ c.phase → ((v y : ℕ) → IsShareOf (volume_of v new.volumes) y (share_by k v y (share k v y past) x))
       → AreSeen new.queue.waiting (filter (is_of_control k) (waiting_in [] (past ++ x ∷ []))) → IsControlOf k (past ++ x ∷ []) new
@@ -57,7 +57,7 @@ module _ (k : ℕ) (past : List Event) (x : Event) (c : ControlState) (q : IsQui
       let t = told_quiet k past x c.floor c.phase q (told_of k past c h) in
       record {
         told = ap (λ (s : Stamp). s.0) floor ∙ t.told;
-        telling = ap is_telling phase ∙ t.telling;
+        reporting = ap is_reporting phase ∙ t.reporting;
         live = ap counts phase ∙ t.live;
         volumes = shares_after k past x new.volumes volumes;
         waiting = waiting;
@@ -92,11 +92,11 @@ joined_seen j k past volumes (w ∷ writes) is within h =
 pub control_joined : (past : List Event) (b : Batch) (c : ControlState) → c.queue.control ≡ b.control → MayJoin c b → IsControlOf b.control past c → IsControlOf b.control (past ++ Join b ∷ []) (joined b c)
 control_joined past b c number may h =
     let k = b.control in
-    let tells = may.tells.telling in
-    let t = told_next k past (Join b) c.floor b.upto c.phase c.phase false (λ c. refl) refl (rw (itself k) refl) (told_of k past c h) tells may.tells.up tells (telling_counts c.phase tells) in
+    let tells = may.tells.reporting in
+    let t = told_next k past (Join b) c.floor b.upto c.phase c.phase false (λ c. refl) refl (rw (itself k) refl) (told_of k past c h) tells may.tells.up tells (reporting_counts c.phase tells) in
     record {
       told = t.told;
-      telling = t.telling;
+      reporting = t.reporting;
       live = t.live;
       volumes = shares_after k past (Join b) (joined b c).volumes (λ v y. rw (itself k) (all_written v y b.writes c.volumes (share k v y past) (h.volumes v y)));
       waiting = waiting_next k past (Join b) c.queue.waiting (entries_of c.queue.control (carried_writes c b)) (all_stay k past (Join b) c.queue.waiting (λ e is. refl) h.waiting)
@@ -105,23 +105,23 @@ control_joined past b c number may h =
 
 -- ---- a raise and a break
 
-pub control_raised : (k : ℕ) (past : List Event) (upto : Stamp) (c : ControlState) → MayTell c upto → IsControlOf k past c → IsControlOf k (past ++ Raise k upto.0 ∷ []) (raised upto c)
+pub control_raised : (k : ℕ) (past : List Event) (upto : Stamp) (c : ControlState) → MayReport c upto → IsControlOf k past c → IsControlOf k (past ++ Raise k upto.0 ∷ []) (raised upto c)
 control_raised k past upto c may h =
-    let t = told_next k past (Raise k upto.0) c.floor upto c.phase c.phase false (λ c. refl) refl (rw (itself k) refl) (told_of k past c h) may.telling may.up may.telling (telling_counts c.phase may.telling) in
+    let t = told_next k past (Raise k upto.0) c.floor upto c.phase c.phase false (λ c. refl) refl (rw (itself k) refl) (told_of k past c h) may.reporting may.up may.reporting (reporting_counts c.phase may.reporting) in
     record {
       told = t.told;
-      telling = t.telling;
+      reporting = t.reporting;
       live = t.live;
       volumes = shares_after k past (Raise k upto.0) c.volumes h.volumes;
       waiting = waiting_less k past (Raise k upto.0) c.queue.waiting (all_stay k past (Raise k upto.0) c.queue.waiting (λ e is. refl) h.waiting) refl;
     }
 
-pub control_broke : (k : ℕ) (past : List Event) (upto : Stamp) (cause : Cause) (c : ControlState) → MayTell c upto → IsControlOf k past c → IsControlOf k (past ++ Break k upto.0 ∷ []) (broke upto cause c)
+pub control_broke : (k : ℕ) (past : List Event) (upto : Stamp) (cause : Cause) (c : ControlState) → MayReport c upto → IsControlOf k past c → IsControlOf k (past ++ Break k upto.0 ∷ []) (broke upto cause c)
 control_broke k past upto cause c may h =
-    let t = told_next k past (Break k upto.0) c.floor upto c.phase (Broken cause) true (λ c. refl) (itself k) (rw (itself k) refl) (told_of k past c h) may.telling may.up refl refl in
+    let t = told_next k past (Break k upto.0) c.floor upto c.phase (Broken cause) true (λ c. refl) (itself k) (rw (itself k) refl) (told_of k past c h) may.reporting may.up refl refl in
     record {
       told = t.told;
-      telling = t.telling;
+      reporting = t.reporting;
       live = t.live;
       volumes = shares_after k past (Break k upto.0) c.volumes h.volumes;
       waiting = waiting_less k past (Break k upto.0) c.queue.waiting (all_stay k past (Break k upto.0) c.queue.waiting (λ e is. refl) h.waiting) refl;
@@ -206,7 +206,7 @@ control_formed k past cut c breaks h =
     let t = told_formed k past cut c.floor c.phase breaks (told_of k past c h) in
     record {
       told = t.told;
-      telling = t.telling;
+      reporting = t.reporting;
       live = t.live;
       volumes = shares_after k past (Form cut.0) (formed cut c).volumes
           (λ v y. same_share (volume_of v (formed cut c).volumes) y (filter (λ stamp. nat_lt cut.0 stamp) (share k v y past).waiting) (share k v y past)

@@ -17,7 +17,7 @@ use Rattle.group_state.specs.Machine.{Call, group_after, reply_to, steps}
 use Rattle.group_state.specs.Machine.Call.{Join, NextWanted, Copied, Raise, Break, Form, Carry, Drop, Resume, Forget}
 use Rattle.group_state.specs.Machine.Reply.{Joined}
 use Rattle.group_state.specs.Runs.{Answer, May, Runs, history}
-use Rattle.group_state.specs.HistoryLaws.{answered, answered_copy, WasCopied, CopiesWereTold}
+use Rattle.group_state.specs.HistoryLaws.{answered, answered_copy, WasCopied, CopiesWereReported}
 use Rattle.group_state.proofs.Stands.{Stands, at_each, stands_first}
 use Rattle.group_state.proofs.Steps.{step}
 use Rattle.group_state.proofs.RunLaws.{split, form_shows}
@@ -150,8 +150,8 @@ first_waiting (suc n) first records blocks (suc k) = first_waiting n (first + 1)
 first_copied : (n records blocks : ℕ) → WereCopied [] (new_group n records blocks)
 first_copied n records blocks k = subst (Each (IfCopied [])) (sym (first_waiting n 0 records blocks k)) tt
 
-pub copies_were_told : CopiesWereTold
-copies_were_told n before later limit shown f =
+pub copies_were_reported : CopiesWereReported
+copies_were_reported n before later limit shown f =
     let first = new_group n f.records f.blocks in
     let parts = split first before (answered limit f.reply ∷ later) f.last f.runs in
     let middle = parts.middle in

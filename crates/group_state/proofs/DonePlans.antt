@@ -19,7 +19,7 @@ use Rattle.group_state.specs.SoundStates.{passes_or_none, has_sizes, are_distinc
 use Rattle.group_state.proofs.SoundLaws.{all_kept, all_true, count_cons, count_append, count_none}
 use Rattle.group_state.specs.Runs.{history}
 use Rattle.group_state.specs.Histories.{IsShareOf, IsControlOf}
-use Rattle.group_state.specs.HistoryLaws.{answered, tracks_told, is_copy_on, is_plan_done, is_named, DonePlansAreShown}
+use Rattle.group_state.specs.HistoryLaws.{answered, tracks_reported, is_copy_on, is_plan_done, is_named, DonePlansAreShown}
 use Rattle.group_state.proofs.Seen.{seen_any}
 use Rattle.group_state.proofs.Controls.{any_of}
 use Rattle.group_state.proofs.Stands.{stands_first}
@@ -62,7 +62,7 @@ counted_found v done (u ∷ volumes) distinct =
         let here : cond {A = ℕ} (done u && is_numbered v u) 1 0 ≡ 0 = ap {B = ℕ} (λ b. cond b 1 0) (ap (λ b. done u && b) is ∙ and-false (done u)) in
         omega (arith, here, h, count_cons (λ u. done u && is_numbered v u) u volumes)
 
--- one control's done volumes
+-- one controller's done volumes
 own_count : (k v : ℕ) (c : ControlState) → c.queue.control ≡ k → are_distinct c.volumes ≡ true → count_by (is_named k v) (done_of c) ≡ cond (passes is_volume_done (volume_of v c.volumes)) 1 0
 own_count k v c number distinct =
     counted_map (is_named k v) (λ (u : Volume). (c.queue.control, u.number)) is_volume_done c.volumes
@@ -178,9 +178,9 @@ done_plans_are_shown n before later limit shown k v f =
     let after = stands_formed n (history before) middle limit stands parts.second.1 in
     let state = formed_at cut middle in
     let c = control_at state k in
-    let tracks = tracks_told k v before in
+    let tracks = tracks_reported k v before in
     let have = tracks_after n [] before first middle (first_tracks n f.records f.blocks) (stands_first n f.records f.blocks) parts.first in
-    let told : passes_or_none (has_tracks tracks) (volume_of v c.volumes) ≡ true = forms (λ k v. tracks_told k v before) middle have cut k v in
+    let told : passes_or_none (has_tracks tracks) (volume_of v c.volumes) ≡ true = forms (λ k v. tracks_reported k v before) middle have cut k v in
     let numbers : (i : ℕ) → i < length state.controls → (control_at state i).queue.control ≡ 0 + i = λ i lt. after.numbers i (omega (arith, lt, after.follows.count)) ∙ omega arith in
     let counted : count_by (is_named k v) (shown_at cut middle).done ≡ cond (is_plan_done k v tracks past) 1 0 = elim (cases_lt k n) [
       | inl below ↦ all_count k v 0 k state.controls (new_control 0 0 0) numbers (omega (arith, below, after.follows.count)) (omega arith)

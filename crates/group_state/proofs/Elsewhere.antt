@@ -1,4 +1,4 @@
--- An event of another control changes nothing of a control.
+-- An event of another controller changes nothing of a controller.
 use Rattle.std.proofs.Common.{◌≡◌, ℕ, Bool, true, false, nat_eq, List, [], ◌∷◌, ◌++◌, map, refl, sym, subst, ◌∙◌}
 use Rattle.std.specs.Prelude.{filter}
 use Rattle.std.proofs.lemmas.Bool.{eqb-true}
@@ -19,11 +19,11 @@ use Rattle.group_state.proofs.Told.{IsTold, IsQuiet, told_quiet, all_stay, waiti
 pub share_snoc : (k v x : ℕ) (past : List Event) (y : Event) → share k v x (past ++ y ∷ []) ≡ share_by k v x (share k v x past) y
 share_snoc k v x past y = fold-append (share_by k v x) no_share past (y ∷ [])
 
--- floor and phase of a control that follows
+-- floor and phase of a controller that follows
 pub told_of : (k : ℕ) (past : List Event) (c : ControlState) → IsControlOf k past c → IsTold k past c.floor c.phase
-told_of k past c h = record { told = h.told; telling = h.telling; live = h.live }
+told_of k past c h = record { told = h.told; reporting = h.reporting; live = h.live }
 
--- ---- an event of another control
+-- ---- an event of another controller
 
 pub record IsElsewhere (k : ℕ) (past : List Event) (x : Event) : Type 0 where
   pub quiet : IsQuiet k x
@@ -36,7 +36,7 @@ control_aside k past x c e h =
     let t = told_quiet k past x c.floor c.phase e.quiet (told_of k past c h) in
     record {
       told = t.told;
-      telling = t.telling;
+      reporting = t.reporting;
       live = t.live;
       volumes = λ v y. subst (IsShareOf (volume_of v c.volumes) y) (sym (share_snoc k v y past x ∙ e.shares v y (share k v y past))) (h.volumes v y);
       waiting = waiting_less k past x c.queue.waiting (all_stay k past x c.queue.waiting e.stay h.waiting) e.none;

@@ -1,4 +1,4 @@
--- A form leaves a control sound; which plans are done after it.
+-- A form leaves a controller sound; which plans are done after it.
 use Rattle.std.proofs.Common.{inl, inr, ◌≡◌, ℕ, suc, zero, ◌<◌, ◌+◌, ◌-◌, Bool, true, false, not, cond, nat_eq, ◌&&◌, ◌||◌, List, [], ◌∷◌, ◌++◌, length, get_or, take, Option, Some, None, refl, sym, ap, ◌∙◌, arith}
 use Rattle.std.specs.Prelude.{◌==◌, nat_lt, nat_le, map, filter}
 use Rattle.std.specs.List.{list_all, list_any, count_by}
@@ -263,7 +263,7 @@ done_is cut c s =
     ∙ ap (numbers_of c.queue.control) (filter_same_where (λ u. has_joined (count_by (is_copy_of u.number) waiting) u) (λ u. is_volume_done (formed_by taken u)) (is_done_after cut waiting) c.volumes (done_one cut waiting)
     (found_each (λ v u. has_joined (count_by (is_copy_of v) waiting) u) c.volumes s.distinct s.counts))
 
--- what one control shows of a form, before it is made
+-- what one controller shows of a form, before it is made
 pub announced : (cut : Stamp) (c : ControlState) (out : FormedGroup) → Sound c
     → (let told = record out { breaks = out.breaks ++ reported_break cut c } in record told { done = told.done ++ numbers_of c.queue.control (filter (is_done_after cut c.queue.waiting) c.volumes) }) ≡ with_news cut (c ∷ []) out
 announced cut c out s = λ i. record out { breaks = out.breaks ++ sym (append-nil (reported_break cut c)) i; done = out.done ++ (sym (done_is cut c s) ∙ sym (append-nil (done_of (formed cut c)))) i }

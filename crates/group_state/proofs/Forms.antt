@@ -17,8 +17,8 @@ use Rattle.cut_core.proofs.Legality.{legal_snoc}
 use Rattle.cut_core.proofs.Kept.{legal_kept}
 use Rattle.cut_core.proofs.Least.{least_is_legal}
 use Rattle.group_state.specs.declared.phase.Phase.{Phase}
-use Rattle.group_state.specs.declared.phase.Phase.TheVariants.{Telling, Broken, Reported}
-use Rattle.group_state.specs.Controls.{ControlState, new_control, counts, is_telling, lesser, formed, due_of, reported_cause, reported, reported_break}
+use Rattle.group_state.specs.declared.phase.Phase.TheVariants.{Unbroken, Broken, Reported}
+use Rattle.group_state.specs.Controls.{ControlState, new_control, counts, is_reporting, lesser, formed, due_of, reported_cause, reported, reported_break}
 use Rattle.group_state.specs.Groups.{Group, control_at, cut_of, formed_at, shown_at}
 use Rattle.group_state.specs.SoundStates.{Sound}
 use Rattle.group_state.proofs.FormLaws.{sound_formed}
@@ -89,26 +89,26 @@ entries_shown n past s cut h =
     subst (AreSeen (shown_at cut s).entries) (order_by_control (length s.controls) due below)
     (seen_order (flat_map (due_of cut) s.controls) (by_control 0 (length s.controls) due) seen)
 
--- the break of one control
+-- the break of one controller
 break_is : (k : ℕ) (past : List Event) (cut : Stamp) (c : ControlState) → c.queue.control ≡ k → breaks_at k (floor k past) past ≡ true → IsControlOf k past c
     → map named (reported_break cut c) ≡ map (break_at_floor past) (filter (ends_with_form cut.0 past) (k ∷ []))
 break_is k past cut c number breaks h =
-    rw (done_form k (floor k past) cut.0 past breaks) (by_phase c.phase (is_done k past) (is_broken_after k past) (cut.0 == floor k past) (c.floor.0 == cut.0) (at_cut c.floor.0 cut.0 (floor k past) h.told) refl h.telling h.live)
+    rw (done_form k (floor k past) cut.0 past breaks) (by_phase c.phase (is_done k past) (is_broken_after k past) (cut.0 == floor k past) (c.floor.0 == cut.0) (at_cut c.floor.0 cut.0 (floor k past) h.told) refl h.reporting h.live)
   where
-    by_phase : (phase : Phase) (d b same at : Bool) → at ≡ same → (c.floor.0 == cut.0) ≡ at → is_telling phase ≡ not b → counts phase ≡ not d
+    by_phase : (phase : Phase) (d b same at : Bool) → at ≡ same → (c.floor.0 == cut.0) ≡ at → is_reporting phase ≡ not b → counts phase ≡ not d
         → map named (reported c.queue.control c.floor (reported_cause cut c.floor phase)) ≡ map (break_at_floor past) (cond (not d && not (not (d || (b && same)))) (k ∷ []) [])
-    by_phase Telling d b same at is here telling live = none d b telling live
+    by_phase Unbroken d b same at is here reporting live = none d b reporting live
       where
         none : (d b : Bool) → true ≡ not b → true ≡ not d → map named [] ≡ map (break_at_floor past) (cond (not d && not (not (d || (b && same)))) (k ∷ []) [])
         none false false e f = refl
         none d true e f = absurd cc
         none true false e f = absurd cc
-    by_phase Reported d b same at is here telling live = none d live
+    by_phase Reported d b same at is here reporting live = none d live
       where
         none : (d : Bool) → false ≡ not d → map named [] ≡ map (break_at_floor past) (cond (not d && not (not (d || (b && same)))) (k ∷ []) [])
         none true e = refl
         none false e = absurd cc
-    by_phase (Broken cause) d b same at is here telling live = rw (here, is) (one d b same telling live)
+    by_phase (Broken cause) d b same at is here reporting live = rw (here, is) (one d b same reporting live)
       where
         one : (d b same : Bool) → false ≡ not b → true ≡ not d
             → map named (reported c.queue.control c.floor (cond same (Some cause) None)) ≡ map (break_at_floor past) (cond (not d && not (not (d || (b && same)))) (k ∷ []) [])

@@ -1,4 +1,4 @@
--- Controls stand by their numbers after each change.
+-- Controllers stand by their numbers after each change.
 use Rattle.std.proofs.lemmas.List.{take_more, append-nil, get_or-append_right, get_or-drop, length-take-le}
 use Rattle.std.proofs.lemmas.Grind.{flat_map-append}
 use Rattle.std.proofs.Common.{◌≡◌, ℕ, zero, suc, ◌-◌, take, drop, append_assoc, length-append, ◌+◌, ◌≤◌, ◌<◌, true, ◌&&◌, List, [], ◌∷◌, ◌++◌, length, get_or, set, map, refl, sym, ap, subst, ◌∙◌, arith, length-set, add-one}
@@ -25,7 +25,7 @@ pub record SameQueue (new old : ControlState) : Type 0 where
 pub same_queue : (new old : ControlState) → new ≡ old → SameQueue new old
 same_queue new old e = record { control = ap (λ (c : ControlState). c.queue.control) e; records = ap (λ (c : ControlState). c.queue.records) e }
 
--- ---- one control
+-- ---- one controller
 
 numbered_set : (first k : ℕ) (controls : List ControlState) (new d : ControlState) → are_numbered first controls ≡ true → k < length controls → SameQueue new (get_or controls k d) → are_numbered first (set controls k new) ≡ true
 numbered_set first k [] new d e lt s = absurd (omega arith)
@@ -43,11 +43,11 @@ kept_set controls k new d keeps lt s = record {
   numbered = numbered_set 0 k controls new d keeps.numbered lt s;
 }
 
--- the same of a control that was read there and changed
+-- the same of a controller that was read there and changed
 pub kept_change : (controls : List ControlState) (k : ℕ) (new old : ControlState) → AreControlsSound controls → k < length controls → old ≡ get_or controls k old → SameQueue new old → AreControlsSound (set controls k new)
 kept_change controls k new old keeps lt is s = kept_set controls k new old keeps lt (subst (SameQueue new) is s)
 
--- ---- all controls
+-- ---- all controllers
 
 numbered_formed : (cut : Stamp) (first : ℕ) (controls : List ControlState) → are_numbered first (map (formed cut) controls) ≡ are_numbered first controls
 numbered_formed cut first [] = refl
@@ -91,9 +91,9 @@ numbered_new (suc n) first records blocks le =
 pub kept_new : (n records blocks : ℕ) → 1 ≤ n → n ≤ MOST_CONTROLS → records ≤ WRITES_OF_RUN → AreControlsSound (new_controls n 0 records blocks)
 kept_new n records blocks some few le = record { some = omega (arith, some, length_new n 0 records blocks); few = omega (arith, few, length_new n 0 records blocks); numbered = numbered_new n 0 records blocks le }
 
--- ---- a form over the controls, one after another
+-- ---- a form over the controllers, one after another
 
--- a control that isn't formed yet
+-- a controller that isn't formed yet
 pub not_yet : (cut : Stamp) (old now : List ControlState) (k : ℕ) (c : ControlState) → now ≡ map (formed cut) (take k old) ++ drop k old → k < length old → c ≡ get_or now k c → c ≡ get_or old k c
 not_yet cut old now k c is lt read =
     let front : length (map (formed cut) (take k old)) ≡ k = length_formed cut (take k old) ∙ length-take-le k old (omega (arith, lt)) in

@@ -13,26 +13,26 @@ use Rattle.ckd_track.specs.declared.write.Batch.{Batch}
 use Rattle.ckd_track.specs.declared.write.Cause.{Cause}
 use Rattle.copy_plan.specs.Plans.{PlanState}
 use Rattle.group_state.specs.declared.phase.Phase.{Phase}
-use Rattle.group_state.specs.declared.phase.Phase.TheVariants.{Telling, Broken, Reported}
+use Rattle.group_state.specs.declared.phase.Phase.TheVariants.{Unbroken, Broken, Reported}
 use Rattle.group_state.specs.Volumes.{is_wanted}
-use Rattle.group_state.specs.Controls.{ControlState, new_control, counts, fits, fits_track, is_telling, lesser, phase_after, joined, copied, raised, broke, begun_volume, dropped, resumed, forgotten, formed}
+use Rattle.group_state.specs.Controls.{ControlState, new_control, counts, fits, fits_track, is_reporting, lesser, phase_after, joined, copied, raised, broke, begun_volume, dropped, resumed, forgotten, formed}
 use Rattle.group_state.specs.Groups.{Group, new_controls, control_at, with_control, cut_of, formed_at}
 use Rattle.group_state.specs.Machine.{Call, group_after}
 use Rattle.group_state.specs.Machine.Call.{Join, NextWanted, Copied, Raise, Break, Form, Carry, Drop, Resume, Forget}
 use Rattle.group_state.specs.Runs.{May}
-use Rattle.group_state.specs.SoundStates.{Sound, has_told, IsGroupSound, is_track_within, MayTell, MayJoin, MayCarry, is_dropped}
+use Rattle.group_state.specs.SoundStates.{Sound, has_reported, IsGroupSound, is_track_within, MayReport, MayJoin, MayCarry, is_dropped}
 use Rattle.group_state.proofs.SoundLaws.{sound_joined, sound_copied, sound_raised, sound_broke, sound_begun, sound_dropped, sound_resumed, sound_forgotten}
 use Rattle.group_state.proofs.FormLaws.{all_at, sound_formed}
 use Rattle.group_state.proofs.GroupLaws.{SameQueue, same_queue, kept_change, kept_formed, kept_new, length_new}
 use Rattle.group_state.proofs.Stands.{new_at, new_sound}
 
--- ---- one control
+-- ---- one controller
 
--- What a change of a control keeps, of what makes a group state sound.
+-- What a change of a controller keeps, of what makes a group state sound.
 pub record KeepsOne (cut : Stamp) (new old : ControlState) : Type 0 where
   pub same : SameQueue new old
   pub sound : Sound old → Sound new
-  pub told : has_told cut old ≡ true → has_told cut new ≡ true
+  pub told : has_reported cut old ≡ true → has_reported cut new ≡ true
 
 pub keeps_old : (cut : Stamp) (new old : ControlState) → new ≡ old → KeepsOne cut new old
 keeps_old cut new old e = subst (λ (c : ControlState). KeepsOne cut c old) (sym e) (record { same = same_queue old old refl; sound = λ s. s; told = λ t. t })
@@ -44,15 +44,15 @@ pub keeps_result : {A E : Type 0} (cut : Stamp) (r : Result A E) (new then old :
 keeps_result cut (Ok a) new then old ok err k = keeps_then cut new then old ok k
 keeps_result cut (Err e) new then old ok err k = keeps_old cut new old err
 
--- a control that counts no longer than before, and has told no less
+-- a controller that counts no longer than before, and has reported no less
 told_up : (counted counts : Bool) (cut floor upto : ℕ) → floor ≤ upto → (counts ≡ true → counted ≡ true) → (not counted || nat_le cut floor) ≡ true → (not counts || nat_le cut upto) ≡ true
 told_up counted false cut floor upto up still told = refl
 told_up counted true cut floor upto up still told = le-leb cut upto (omega (arith, up, leb-true cut floor (ap (λ b. not b || nat_le cut floor) (sym (still refl)) ∙ told)))
 
-telling_counts : (phase : Phase) → is_telling phase ≡ true → counts phase ≡ true
-telling_counts Telling e = refl
-telling_counts (Broken cause) e = absurd cc
-telling_counts Reported e = absurd cc
+reporting_counts : (phase : Phase) → is_reporting phase ≡ true → counts phase ≡ true
+reporting_counts Unbroken e = refl
+reporting_counts (Broken cause) e = absurd cc
+reporting_counts Reported e = absurd cc
 
 pub keeps_joined : (cut : Stamp) (b : Batch) (c : ControlState) → MayJoin c b → KeepsOne cut (joined b c) c
 keeps_joined cut b c may = record {
@@ -64,18 +64,18 @@ keeps_joined cut b c may = record {
 pub keeps_copied : (cut : Stamp) (v x : ℕ) (at : Stamp) (recs : List Rec) (c : ControlState) → at ≡ c.floor → is_wanted v x c.volumes ≡ true → is_track_within c.volumes v x ≡ true → KeepsOne cut (copied v x at recs c) c
 keeps_copied cut v x at recs c floor wanted within = record { same = record { control = refl; records = refl }; sound = λ s. sound_copied v x at recs c s floor wanted within; told = λ t. t }
 
-pub keeps_raised : (cut : Stamp) (upto : Stamp) (c : ControlState) → MayTell c upto → KeepsOne cut (raised upto c) c
+pub keeps_raised : (cut : Stamp) (upto : Stamp) (c : ControlState) → MayReport c upto → KeepsOne cut (raised upto c) c
 keeps_raised cut upto c may = record {
   same = record { control = refl; records = refl };
   sound = λ s. sound_raised upto c s may;
   told = told_up (counts c.phase) (counts c.phase) cut.0 c.floor.0 upto.0 may.up (λ e. e);
 }
 
-pub keeps_broke : (cut : Stamp) (upto : Stamp) (cause : Cause) (c : ControlState) → MayTell c upto → KeepsOne cut (broke upto cause c) c
+pub keeps_broke : (cut : Stamp) (upto : Stamp) (cause : Cause) (c : ControlState) → MayReport c upto → KeepsOne cut (broke upto cause c) c
 keeps_broke cut upto cause c may = record {
   same = record { control = refl; records = refl };
   sound = λ s. sound_broke upto cause c s may;
-  told = told_up (counts c.phase) true cut.0 c.floor.0 upto.0 may.up (λ e. telling_counts c.phase may.telling);
+  told = told_up (counts c.phase) true cut.0 c.floor.0 upto.0 may.up (λ e. reporting_counts c.phase may.reporting);
 }
 
 pub keeps_begun : (cut : Stamp) (v : ℕ) (plan : PlanState) (c : ControlState) → MayCarry c v plan → KeepsOne cut (begun_volume v plan c) c
@@ -90,7 +90,7 @@ keeps_resumed cut v c gone = record { same = record { control = refl; records = 
 pub keeps_forgotten : (cut : Stamp) (v : ℕ) (c : ControlState) → is_dropped v c.volumes ≡ true → KeepsOne cut (forgotten v c) c
 keeps_forgotten cut v c gone = record { same = record { control = refl; records = refl }; sound = λ s. sound_forgotten v c s gone; told = λ t. t }
 
--- ---- a call on one control
+-- ---- a call on one controller
 
 all_set : {A : Type 0} (test : A → Bool) (items : List A) (k : ℕ) (a : A) → test a ≡ true → list_all test items ≡ true → list_all test (set items k a) ≡ true
 all_set test [] k a here e = refl
@@ -99,7 +99,7 @@ all_set test (x ∷ items) (suc k) a here e =
     let parts = and_parts (test x) (list_all test items) e in
     and_from (test x) (list_all test (set items k a)) parts.0 (all_set test items k a here parts.1)
 
--- the control that is read at a number of a state
+-- the controller that is read at a number of a state
 pub control_here : (s now : Group) (k : ℕ) (old : ControlState) → s ≡ now → k < length now.controls → old ≡ get_or s.controls k old → old ≡ control_at now k
 control_here s now k old is below here =
     here ∙ get_or_default s.controls k old (new_control 0 0 0) (omega (arith, below, ap (λ (g : Group). length g.controls) is)) ∙ ap (λ (g : Group). control_at g k) is
@@ -113,7 +113,7 @@ kept_call s now k new old keeps is below here change =
     record {
       controls_kept = kept_change s.controls k new old keeps.controls_kept lt here one.same;
       sound = All-set Sound s.controls k new (one.sound (subst Sound (sym here) (All-get_or Sound s.controls k old lt keeps.sound))) keeps.sound;
-      told = all_set (has_told s.last) s.controls k new (one.told (ap (has_told s.last) here ∙ all_at (has_told s.last) s.controls k old keeps.told lt)) keeps.told;
+      told = all_set (has_reported s.last) s.controls k new (one.told (ap (has_reported s.last) here ∙ all_at (has_reported s.last) s.controls k old keeps.told lt)) keeps.told;
     }
 
 -- ---- a form
@@ -126,18 +126,18 @@ least_within limit (c ∷ controls) = omega (arith, least_within (lesser limit c
     less true = omega arith
     less false = omega arith
 
--- the cut is at most the floor of each control that counts
-told_formed : (cut : Stamp) (limit : ℕ) (controls : List ControlState) → cut.0 ≤ fold lesser limit controls → list_all (has_told cut) (map (formed cut) controls) ≡ true
+-- the cut is at most the floor of each controller that counts
+told_formed : (cut : Stamp) (limit : ℕ) (controls : List ControlState) → cut.0 ≤ fold lesser limit controls → list_all (has_reported cut) (map (formed cut) controls) ≡ true
 told_formed cut limit [] le = refl
 told_formed cut limit (c ∷ controls) le =
-    and_from (has_told cut (formed cut c)) (list_all (has_told cut) (map (formed cut) controls))
+    and_from (has_reported cut (formed cut c)) (list_all (has_reported cut) (map (formed cut) controls))
     (here c.phase (omega (arith, le, least_within (lesser limit c) controls))) (told_formed cut (lesser limit c) controls le)
   where
     up : cut.0 ≤ min limit c.floor.0 → nat_le cut.0 c.floor.0 ≡ true
     up le = le-leb cut.0 c.floor.0 (omega (arith, le))
 
     here : (phase : Phase) → cut.0 ≤ cond (counts phase) (min limit c.floor.0) limit → (not (counts (phase_after cut c.floor phase)) || nat_le cut.0 c.floor.0) ≡ true
-    here Telling le = up le
+    here Unbroken le = up le
     here Reported le = refl
     here (Broken cause) le = choose (nat_eq c.floor.0 cut.0)
       where
@@ -181,7 +181,7 @@ kept_next s (Forget k v) keeps may = kept_with s k (forgotten v) keeps may.0 (ke
 
 -- ---- the first state
 
-told_new : (n first records blocks : ℕ) → list_all (has_told (record { 0 = 0 })) (new_controls n first records blocks) ≡ true
+told_new : (n first records blocks : ℕ) → list_all (has_reported (record { 0 = 0 })) (new_controls n first records blocks) ≡ true
 told_new zero first records blocks = refl
 told_new (suc n) first records blocks = told_new n (first + 1) records blocks
 

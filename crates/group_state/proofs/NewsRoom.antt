@@ -1,4 +1,4 @@
--- The breaks and the done plans of a form fit the room of its group: of each control one break, and few done plans.
+-- The breaks and the done plans of a form fit the room of its group: of each controller one break, and few done plans.
 use Rattle.std.proofs.lemmas.List.{take_more, length-map, map-append}
 use Rattle.std.proofs.lemmas.Grind.{flat_map-append}
 use Rattle.std.proofs.lemmas.List.Sums.{length-filter, count_by-le-length}
@@ -14,12 +14,12 @@ use Rattle.group_state.specs.Volumes.{numbers_of}
 use Rattle.group_state.specs.Controls.{ControlState, formed, reported_break, done_of}
 use Rattle.group_state.specs.Groups.{HasRoomForNews, with_news}
 
--- ---- the done plans of one control
+-- ---- the done plans of one controller
 
 done_count : (k : ℕ) (test : Volume → Bool) (volumes : List Volume) → length (numbers_of k (filter test volumes)) ≤ length volumes
 done_count k test volumes = omega (arith, length-map {B = ℕ × ℕ} (filter test volumes) (λ (u : Volume). (k, u.number)), length-filter test volumes, count_by-le-length test volumes)
 
--- one more fits, of a control whose volumes all fit
+-- one more fits, of a controller whose volumes all fit
 pub one_done_fits : (first out : FormedGroup) (k : ℕ) (test : Volume → Bool) (volumes : List Volume) (place : ℕ) → out ≡ record first { done = first.done ++ numbers_of k (filter test (take place volumes)) } → place < length volumes
     → length first.done + length volumes ≤ most_done_of_control * first.controls → HasRoomForDone out 1
 one_done_fits first out k test volumes place is lt room = less most_done_of_control room
@@ -29,7 +29,7 @@ one_done_fits first out k test volumes place is lt room = less most_done_of_cont
         let more = length-append first.done (numbers_of k (filter test (take place volumes))) in
         omega (arith, room, lt, ap (λ (o : FormedGroup). length o.done) is, ap (λ (o : FormedGroup). most * o.controls) is, more, done_count k test (take place volumes), length-take-le place volumes (omega (arith, lt)))
 
--- all volumes of a control fit
+-- all volumes of a controller fit
 pub done_fits : (group : FormedGroup) (controls done volumes : ℕ) → HasRoomForNews group 1 → controls ≡ group.controls → done ≡ length group.done → volumes ≤ most_done_of_control → done + volumes ≤ most_done_of_control * controls
 done_fits group controls done volumes room same is few = less most_done_of_control room.done_room few
   where
@@ -42,7 +42,7 @@ done_grow k test volumes old few = less most_done_of_control few
     less : (most : ℕ) → length volumes ≤ most → length (old ++ numbers_of k (filter test volumes)) ≤ length old + most
     less most few = omega (arith, few, length-append old (numbers_of k (filter test volumes)), done_count k test volumes)
 
--- ---- the controls, one after another
+-- ---- the controllers, one after another
 
 pub room_first : (group : FormedGroup) (n : ℕ) → length group.breaks ≡ 0 → length group.done ≡ 0 → n ≤ group.controls → HasRoomForNews group n
 room_first group n breaks done le = record { breaks_room = omega (arith, breaks, le); done_room = omega (arith, done, mul-le-mul_left most_done_of_control le) }
@@ -77,7 +77,7 @@ formed_more cut controls k c lt is =
     ∙ flat_map-append done_of (map (formed cut) (take k controls)) (map (formed cut) (get_or controls k c ∷ []))
     ∙ ap (λ (x : ControlState). flat_map done_of (map (formed cut) (take k controls)) ++ flat_map done_of (map (formed cut) (x ∷ []))) (sym is)
 
--- one control more
+-- one controller more
 pub news_more : (cut : Stamp) (controls : List ControlState) (k : ℕ) (c : ControlState) (group : FormedGroup) → k < length controls → c ≡ get_or controls k c
     → with_news cut (c ∷ []) (with_news cut (take k controls) group) ≡ with_news cut (take (k + 1) controls) group
 news_more cut controls k c group lt is =

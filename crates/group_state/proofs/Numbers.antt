@@ -1,4 +1,4 @@
--- The volumes of a control have numbers of 16 bits, which no change alters. So a control has few volumes.
+-- The volumes of a controller have numbers of 16 bits, which no change alters. So a controller has few volumes.
 use Rattle.std.proofs.Common.{◌≡◌, ℕ, ◌<◌, ◌≤◌, Bool, true, false, not, ◌||◌, nat_eq, List, [], ◌∷◌, length, map, ap, refl, ◌∙◌, arith}
 use Rattle.std.specs.Prelude.{nat_lt}
 use Rattle.std.specs.List.{list_all, list_any, IsDistinct, AllByRecursion}
@@ -16,7 +16,7 @@ use Rattle.pending_queue.specs.Groups.{most_done_of_control}
 use Rattle.group_state.specs.declared.volume.Volume.{Volume}
 use Rattle.group_state.specs.Volumes.{has_volume, begun, noted_write, with_write, with_writes, copied_track, dropped_volume, resumed_volume, formed_track, with_formed_copy, with_formed_copies, is_wanted}
 use Rattle.group_state.specs.Controls.{ControlState, due_of, joined, copied, raised, broke, begun_volume, dropped, resumed, forgotten, formed}
-use Rattle.group_state.specs.SoundStates.{are_distinct, has_number, AreVolumesSound, is_track_within, MayTell, MayJoin, MayCarry, is_dropped}
+use Rattle.group_state.specs.SoundStates.{are_distinct, has_number, AreVolumesSound, is_track_within, MayReport, MayJoin, MayCarry, is_dropped}
 use Rattle.group_state.proofs.VolumeLaws.{all_with, all_without}
 use Rattle.group_state.proofs.SoundLaws.{swapped, all_joined, written_keeps, sound_joined, sound_copied, sound_raised, sound_broke, sound_begun, sound_dropped, sound_resumed, sound_forgotten}
 use Rattle.group_state.proofs.FormLaws.{sound_formed}
@@ -41,10 +41,10 @@ pub volumes_copied : (v x : ℕ) (at : Stamp) (recs : List Rec) (c : ControlStat
 volumes_copied v x at recs c k floor wanted within =
     record { sound = sound_copied v x at recs c k.sound floor wanted within; numbers = all_with has_number v (copied_track x) (λ u ok. ok) c.volumes k.numbers }
 
-pub volumes_raised : (upto : Stamp) (c : ControlState) → AreVolumesSound c → MayTell c upto → AreVolumesSound (raised upto c)
+pub volumes_raised : (upto : Stamp) (c : ControlState) → AreVolumesSound c → MayReport c upto → AreVolumesSound (raised upto c)
 volumes_raised upto c k may = record { sound = sound_raised upto c k.sound may; numbers = k.numbers }
 
-pub volumes_broke : (upto : Stamp) (cause : Cause) (c : ControlState) → AreVolumesSound c → MayTell c upto → AreVolumesSound (broke upto cause c)
+pub volumes_broke : (upto : Stamp) (cause : Cause) (c : ControlState) → AreVolumesSound c → MayReport c upto → AreVolumesSound (broke upto cause c)
 volumes_broke upto cause c k may = record { sound = sound_broke upto cause c k.sound may; numbers = k.numbers }
 
 pub volumes_begun : (v : ℕ) (plan : PlanState) (c : ControlState) → AreVolumesSound c → MayCarry c v plan → v < most_done_of_control → AreVolumesSound (begun_volume v plan c)

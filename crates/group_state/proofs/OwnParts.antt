@@ -1,4 +1,4 @@
--- What a form shows of one control is what was due in its queue.
+-- What a form shows of one controller is what was due in its queue.
 use Rattle.std.proofs.Common.{◌≡◌, ℕ, zero, suc, ◌+◌, ◌<◌, ◌≤◌, Bool, true, false, not, nat_eq, nat_le, nat_lt, ◌&&◌, ◌||◌, List, [], ◌∷◌, ◌++◌, length, get_or, refl, sym, ap, subst, ◌∙◌, arith, true≢false}
 use Rattle.std.specs.Prelude.{filter}
 use Rattle.std.specs.List.{list_all, flat_map}
@@ -32,7 +32,7 @@ number_at first (suc i) (c ∷ controls) d numbered low =
 pub control_number : (s : Group) (k : ℕ) → IsGroupSound s → k < length s.controls → (control_at s k).queue.control ≡ k
 control_number s k keeps low = number_at 0 k s.controls (new_control 0 0 0) keeps.controls_kept.numbered low ∙ omega arith
 
--- ---- entries of one control
+-- ---- entries of one controller
 
 all_own : (k : ℕ) (entries : List WaitingEntry) → list_all (is_entry_of_control k) entries ≡ true → filter (is_entry_of_control k) entries ≡ entries
 all_own k [] own = refl
@@ -47,7 +47,7 @@ none_own k j (e ∷ entries) other own =
     let not_here : is_entry_of_control k e ≡ false = ap (λ n. nat_eq n k) (eqb-true e.head.control j parts.0) ∙ other in
     rw not_here (none_own k j entries other parts.1)
 
--- what waits in each queue is of its own control
+-- what waits in each queue is of its own controller
 abbrev Owned : List ControlState → Type 0
 Owned controls = (i : ℕ) → i < length controls → let c = get_or controls i (new_control 0 0 0) in list_all (is_entry_of_control c.queue.control) c.queue.waiting ≡ true
 
@@ -59,13 +59,13 @@ number_of first c controls numbered =
     let parts = and_parts (nat_eq c.queue.control first && has_few c) (are_numbered (first + 1) controls) numbered in
     (eqb-true c.queue.control first (and_parts (nat_eq c.queue.control first) (has_few c) parts.0).0, parts.1)
 
-none_behind : (cut : Stamp) (k first : ℕ) (controls : List ControlState) → k < first → are_numbered first controls ≡ true → Owned controls → filter (is_entry_of_control k) (flat_map (due_of cut) controls) ≡ []
-none_behind cut k first [] lt numbered owned = refl
-none_behind cut k first (c ∷ controls) lt numbered owned =
+none_after : (cut : Stamp) (k first : ℕ) (controls : List ControlState) → k < first → are_numbered first controls ≡ true → Owned controls → filter (is_entry_of_control k) (flat_map (due_of cut) controls) ≡ []
+none_after cut k first [] lt numbered owned = refl
+none_after cut k first (c ∷ controls) lt numbered owned =
     let parts = number_of first c controls numbered in
     filter-append (is_entry_of_control k) (due_of cut c) (flat_map (due_of cut) controls)
     ∙ ap (λ (es : List WaitingEntry). es ++ filter (is_entry_of_control k) (flat_map (due_of cut) controls)) (none_own k first (due_of cut c) (ne_eqb first k (λ e. omega (arith, lt, e))) (own_of_due cut k first c parts.0 (owned 0 (omega arith))))
-    ∙ none_behind cut k (first + 1) controls (omega (arith, lt)) parts.1 (λ i low. owned (suc i) (omega (arith, low)))
+    ∙ none_after cut k (first + 1) controls (omega (arith, lt)) parts.1 (λ i low. owned (suc i) (omega (arith, low)))
 
 own_due : (cut : Stamp) (i first : ℕ) (controls : List ControlState) → are_numbered first controls ≡ true → Owned controls → i < length controls
     → filter (is_entry_of_control (first + i)) (flat_map (due_of cut) controls) ≡ due_of cut (get_or controls i (new_control 0 0 0))
@@ -76,7 +76,7 @@ own_due cut zero first (c ∷ controls) numbered owned low =
     subst (λ n. filter (is_entry_of_control n) (due_of cut c ++ flat_map (due_of cut) controls) ≡ due_of cut c) (sym at)
     (filter-append (is_entry_of_control first) (due_of cut c) (flat_map (due_of cut) controls)
     ∙ ap (λ (es : List WaitingEntry). es ++ filter (is_entry_of_control first) (flat_map (due_of cut) controls)) (all_own first (due_of cut c) (own_of_due cut first first c parts.0 (owned 0 (omega arith))))
-    ∙ ap (λ (es : List WaitingEntry). due_of cut c ++ es) (none_behind cut first (first + 1) controls (omega arith) parts.1 (λ i low. owned (suc i) (omega (arith, low))))
+    ∙ ap (λ (es : List WaitingEntry). due_of cut c ++ es) (none_after cut first (first + 1) controls (omega arith) parts.1 (λ i low. owned (suc i) (omega (arith, low))))
     ∙ append-nil (due_of cut c))
 own_due cut (suc i) first (c ∷ controls) numbered owned low =
     let parts = number_of first c controls numbered in
@@ -87,7 +87,7 @@ own_due cut (suc i) first (c ∷ controls) numbered owned low =
     (none_own ((first + 1) + i) first (due_of cut c) (ne_eqb first ((first + 1) + i) (λ e. omega (arith, e))) (own_of_due cut i first c parts.0 (owned 0 (omega arith))))
     ∙ own_due cut i (first + 1) controls parts.1 (λ j lt. owned (suc j) (omega (arith, lt))) (omega (arith, low)))
 
--- ---- entries of one control stand in order
+-- ---- entries of one controller stand in order
 
 none_before : (k last : ℕ) (a : WaitingEntry) (entries : List WaitingEntry) → is_entry_of_control k a ≡ true → entry_stamp a ≤ last → entries_never_fall last entries ≡ true → list_all (is_entry_of_control k) entries ≡ true
     → list_all (λ b. not (stands_before b a)) entries ≡ true

@@ -17,7 +17,7 @@ use Rattle.group_state.specs.declared.volume.Volume.{Volume}
 use Rattle.group_state.specs.Volumes.{volume_of, has_volume, with_volume, without_number, passes, begun, noted_write, with_write, with_writes, copied_track, formed_track, with_formed_copies, dropped_map, dropped_volume, resumed_volume}
 use Rattle.group_state.specs.SoundStates.{are_distinct, is_dropped}
 use Rattle.group_state.proofs.SoundLaws.{length_dropped}
-use Rattle.group_state.proofs.VolumeLaws.{Keeps, found_with, found_behind, found_without, none_found}
+use Rattle.group_state.proofs.VolumeLaws.{Keeps, found_with, found_after, found_without, none_found}
 use Rattle.group_state.specs.Runs.{tracks_in}
 use Rattle.group_state.specs.Histories.{IsShareOf}
 
@@ -236,7 +236,7 @@ unknown_wants_none x (Some u) s none h = absurd cc
 pub all_begun : (v w x : ℕ) (plan : PlanState) (volumes : List Volume) (s : Share) → has_volume v volumes ≡ false → IsShareOf (volume_of w volumes) x s
     → IsShareOf (volume_of w (volumes ++ begun v plan ∷ [])) x (cond (nat_eq v w) (share_carry (list_any (λ y. y == x) (tracks_in plan.wanted)) s) s)
 all_begun v w x plan volumes s unknown h =
-    subst (λ o. IsShareOf o x (cond (nat_eq v w) (share_carry (list_any (λ y. y == x) (tracks_in plan.wanted)) s) s)) (sym (found_behind w volumes (begun v plan) unknown)) (choose (nat_eq v w) refl)
+    subst (λ o. IsShareOf o x (cond (nat_eq v w) (share_carry (list_any (λ y. y == x) (tracks_in plan.wanted)) s) s)) (sym (found_after w volumes (begun v plan) unknown)) (choose (nat_eq v w) refl)
   where
     choose : (t : Bool) → nat_eq v w ≡ t → IsShareOf (cond t (Some (begun v plan)) (volume_of w volumes)) x (cond t (share_carry (list_any (λ y. y == x) (tracks_in plan.wanted)) s) s)
     choose false other = h

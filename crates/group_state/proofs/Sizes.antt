@@ -1,4 +1,4 @@
--- How many tracks a kept volume has, under which numbers controls and volumes stand, and how many tracks a resume owes.
+-- How many tracks a kept volume has, under which numbers controllers and volumes stand, and how many tracks a resume owes.
 use Rattle.std.proofs.Common.{inl, inr, ◌≡◌, ℕ, suc, ◌+◌, ◌<◌, Bool, true, not, cond, List, [], ◌∷◌, length, Option, Some, None, refl, sym, ap, subst, ◌∙◌, arith}
 use Rattle.std.specs.Prelude.{IfSome}
 use Rattle.std.specs.List.{count_by, range_with_len}
@@ -16,7 +16,7 @@ use Rattle.group_state.specs.Machine.Reply.{Owed}
 use Rattle.group_state.proofs.SoundLaws.{count_cons}
 use Rattle.group_state.specs.Runs.{history}
 use Rattle.group_state.specs.Histories.{IsShareOf}
-use Rattle.group_state.specs.HistoryLaws.{tracks_told, IsOfTracks, SizesAreTold, NumbersAreKept, answered_resume, mapped_of, ResumesOweMapped}
+use Rattle.group_state.specs.HistoryLaws.{tracks_reported, IsOfTracks, SizesAreTold, NumbersAreKept, answered_resume, mapped_of, ResumesOweMapped}
 use Rattle.group_state.proofs.Stands.{stands_first}
 use Rattle.group_state.proofs.RunLaws.{split, stands_after}
 use Rattle.group_state.proofs.Tracks.{has_tracks, tracks_after, first_tracks}
@@ -36,8 +36,8 @@ sizes_are_told n records blocks run s k v runs =
     let stands = stands_after n [] first run s (stands_first n records blocks) runs in
     let told = tracks_after n [] run first s (first_tracks n records blocks) (stands_first n records blocks) runs k v in
     elim (cases_lt k n) [
-      | inl lt ↦ of_tracks (tracks_told k v run) (volume_of v (control_at s k).volumes) told (found_passes has_sizes v (control_at s k).volumes (stands.sound k lt).sizes)
-      | inr past ↦ subst (λ (c : ControlState). IfSome (volume_of v c.volumes) (IsOfTracks (tracks_told k v run))) (sym (get_or_past s.controls k (new_control 0 0 0) (omega (arith, past, stands.follows.count)))) tt
+      | inl lt ↦ of_tracks (tracks_reported k v run) (volume_of v (control_at s k).volumes) told (found_passes has_sizes v (control_at s k).volumes (stands.sound k lt).sizes)
+      | inr past ↦ subst (λ (c : ControlState). IfSome (volume_of v c.volumes) (IsOfTracks (tracks_reported k v run))) (sym (get_or_past s.controls k (new_control 0 0 0) (omega (arith, past, stands.follows.count)))) tt
     ]
 
 pub numbers_are_kept : NumbersAreKept
@@ -73,7 +73,7 @@ resumes_owe_mapped controls records blocks before later s k v n runs =
     let told = tracks_after controls [] before first middle (first_tracks controls records blocks) (stands_first controls records blocks) parts.first k v in
     let volumes = (control_at middle k).volumes in
     same_owed n (owed v volumes) parts.second.2.0
-    ∙ owed_mapped k v (tracks_told k v before) (history before) (volume_of v volumes) parts.second.1.1 ((stands.follows.each k lt).volumes v) told
+    ∙ owed_mapped k v (tracks_reported k v before) (history before) (volume_of v volumes) parts.second.1.1 ((stands.follows.each k lt).volumes v) told
   where
     same_owed : (m n : ℕ) → Owed m ≡ Owed n → m ≡ n
     same_owed m n e = cc

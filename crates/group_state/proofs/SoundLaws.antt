@@ -1,4 +1,4 @@
--- Each change leaves a control sound.
+-- Each change leaves a controller sound.
 use Rattle.std.proofs.Common.{◌≡◌, ℕ, ◌≤◌, ◌+◌, Bool, true, false, not, cond, nat_eq, ◌&&◌, ◌||◌, List, [], ◌∷◌, ◌++◌, length, take, Option, Some, None, refl, sym, ap, subst, ◌∙◌, arith, true≢false, length-set}
 use Rattle.std.specs.Prelude.{◌==◌, nat_lt, nat_le, map, filter}
 use Rattle.std.specs.Option.{option_map}
@@ -25,8 +25,8 @@ use Rattle.pending_queue.proofs.VolumeLaws.{carried_never_fall, pushed_rises, wi
 use Rattle.group_state.specs.declared.volume.Volume.{Volume}
 use Rattle.group_state.specs.Volumes.{is_numbered, volume_of, has_volume, with_volume, without_number, passes, carries, is_carried, is_wanted, wants, begun, noted_write, with_write, with_writes, copied_track, dropped_map, dropped_volume, resumed_volume}
 use Rattle.group_state.specs.Controls.{ControlState, carried_writes, joined, copied, raised, broke, begun_volume, dropped, resumed, forgotten}
-use Rattle.group_state.specs.SoundStates.{passes_or_none, has_sizes, are_distinct, may_wait, is_entry_of, is_entry_of_control, has_joined, are_up_to, Sound, is_track_within, are_within, MayTell, MayJoin, MayCarry, is_dropped}
-use Rattle.group_state.proofs.VolumeLaws.{Keeps, found_with, distinct_with, all_with, passes_with, same_or_none, or_none_with, none_found, has_found, found_behind, distinct_behind, distinct_without, all_without, found_without}
+use Rattle.group_state.specs.SoundStates.{passes_or_none, has_sizes, are_distinct, may_wait, is_entry_of, is_entry_of_control, has_joined, are_up_to, Sound, is_track_within, are_within, MayReport, MayJoin, MayCarry, is_dropped}
+use Rattle.group_state.proofs.VolumeLaws.{Keeps, found_with, distinct_with, all_with, passes_with, same_or_none, or_none_with, none_found, has_found, found_after, distinct_after, distinct_without, all_without, found_without}
 use Rattle.ckd_track.specs.Writes.{is_earlier, writes_never_fall}
 
 -- ---- tests over lists
@@ -263,10 +263,10 @@ sound_joined b c s may =
 
 -- ---- a raise and a break
 
-pub sound_raised : (upto : Stamp) (c : ControlState) → Sound c → MayTell c upto → Sound (raised upto c)
+pub sound_raised : (upto : Stamp) (c : ControlState) → Sound c → MayReport c upto → Sound (raised upto c)
 sound_raised upto c s may = record { own = s.own; rises = s.rises; stamps = later c.floor upto c.queue.waiting may.up s.stamps; sizes = s.sizes; distinct = s.distinct; entries = s.entries; counts = s.counts }
 
-pub sound_broke : (upto : Stamp) (cause : Cause) (c : ControlState) → Sound c → MayTell c upto → Sound (broke upto cause c)
+pub sound_broke : (upto : Stamp) (cause : Cause) (c : ControlState) → Sound c → MayReport c upto → Sound (broke upto cause c)
 sound_broke upto cause c s may = record { own = s.own; rises = s.rises; stamps = later c.floor upto c.queue.waiting may.up s.stamps; sizes = s.sizes; distinct = s.distinct; entries = s.entries; counts = s.counts }
 
 -- ---- a copied track
@@ -339,8 +339,8 @@ sound_copied v x at recs c s floor wanted within =
 -- ---- a volume that begins
 
 -- an entry stays where a volume is added
-entry_behind : (volumes : List Volume) (u : Volume) → has_volume u.number volumes ≡ false → (e : WaitingEntry) → is_entry_of volumes e ≡ true → is_entry_of (volumes ++ u ∷ []) e ≡ true
-entry_behind volumes u none e is = rw (found_behind e.head.volume volumes u none) (choose (is_numbered e.head.volume u) refl)
+entry_after : (volumes : List Volume) (u : Volume) → has_volume u.number volumes ≡ false → (e : WaitingEntry) → is_entry_of volumes e ≡ true → is_entry_of (volumes ++ u ∷ []) e ≡ true
+entry_after volumes u none e is = rw (found_after e.head.volume volumes u none) (choose (is_numbered e.head.volume u) refl)
   where
     choose : (t : Bool) → is_numbered e.head.volume u ≡ t → passes (may_wait e) (cond t (Some u) (volume_of e.head.volume volumes)) ≡ true
     choose false other = is
@@ -384,9 +384,9 @@ sound_begun v plan c s may =
       rises = s.rises;
       stamps = s.stamps;
       sizes = all_joined has_sizes c.volumes (u ∷ []) s.sizes (and_from (has_sizes u) true (eq-eqb (length (no_track (length plan.wanted))) (length plan.wanted) (length-replicate (length plan.wanted) false)) refl);
-      distinct = distinct_behind c.volumes u none s.distinct;
-      entries = all_up (is_entry_of c.volumes) (is_entry_of (c.volumes ++ u ∷ [])) c.queue.waiting (entry_behind c.volumes u none) s.entries;
-      counts = λ w. rw (found_behind w c.volumes u none) (choose w (is_numbered w u) refl);
+      distinct = distinct_after c.volumes u none s.distinct;
+      entries = all_up (is_entry_of c.volumes) (is_entry_of (c.volumes ++ u ∷ [])) c.queue.waiting (entry_after c.volumes u none) s.entries;
+      counts = λ w. rw (found_after w c.volumes u none) (choose w (is_numbered w u) refl);
     }
   where
     choose : (w : ℕ) (t : Bool) → is_numbered w (begun v plan) ≡ t → passes_or_none (has_joined (count_by (is_copy_of w) c.queue.waiting)) (cond t (Some (begun v plan)) (volume_of w c.volumes)) ≡ true

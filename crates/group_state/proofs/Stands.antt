@@ -1,5 +1,5 @@
--- What is kept through a run: the state follows the history, controls stand by their numbers and keep their rules, and all that
--- waits is of one of them. A call on one control keeps it.
+-- What is kept through a run: the state follows the history, controllers stand by their numbers and keep their rules, and all that
+-- waits is of one of them. A call on one controller keeps it.
 use Rattle.std.proofs.Common.{inl, inr, ◌≡◌, ℕ, zero, suc, ◌+◌, ◌<◌, ◌≤◌, Bool, true, false, nat_eq, nat_lt, List, [], ◌∷◌, ◌++◌, length, get_or, map, refl, sym, ap, subst, ◌∙◌, arith, length-set}
 use Rattle.std.specs.Prelude.{filter}
 use Rattle.std.specs.List.{list_all}
@@ -21,7 +21,7 @@ use Rattle.group_state.specs.Histories.{IsControlOf, FollowsHistory}
 use Rattle.group_state.proofs.GroupLaws.{length_new}
 use Rattle.group_state.proofs.Elsewhere.{IsElsewhere, control_aside, share_snoc}
 
--- all entries are of the first controls
+-- all entries are of the first controllers
 abbrev pub are_below : (controls : ℕ) → List CarriedEntry → Bool
 are_below n entries = list_all (λ e. nat_lt e.control n) entries
 
@@ -30,7 +30,7 @@ pub record Stands (n : ℕ) (past : List Event) (s : Group) : Type 0 where
   pub numbers : (k : ℕ) → k < n → (control_at s k).queue.control ≡ k
   pub sound : (k : ℕ) → k < n → Sound (control_at s k)
   pub below : are_below n (waiting_in [] past) ≡ true
-  -- the history has nothing of any other control
+  -- the history has nothing of any other controller
   pub beyond : (k v x : ℕ) → n ≤ k → share k v x past ≡ no_share
 
 pub below_next : (n : ℕ) (past : List Event) (x : Event) → are_below n (waiting_in [] past) ≡ true → are_below n (carried_by past x) ≡ true → are_below n (waiting_in [] (past ++ x ∷ [])) ≡ true
@@ -42,9 +42,9 @@ pub written_below : (n k : ℕ) (writes : List Write) → k < n → are_below n 
 written_below n k [] lt = refl
 written_below n k (w ∷ writes) lt = and_from (nat_lt k n) (are_below n (map (carried_entry k) writes)) (lt-ltb k n lt) (written_below n k writes lt)
 
--- ---- a call on one control
+-- ---- a call on one controller
 
--- what holds of the changed control and of the others
+-- what holds of the changed controller and of the others
 pub at_each : (P : ℕ → ControlState → Type 0) (s : Group) (j : ℕ) (change : ControlState → ControlState) → j < length s.controls → P j (change (control_at s j)) → ((k : ℕ) → nat_eq j k ≡ false → P k (control_at s k))
     → (k : ℕ) → P k (control_at (with_control j change s) k)
 at_each P s j change lt here there k = elim (cases_Bool (nat_eq j k)) [
@@ -82,7 +82,7 @@ new_at (suc n) first records blocks (suc k) d lt = new_at n (first + 1) records 
 new_follows : (k records blocks : ℕ) → IsControlOf k [] (new_control k records blocks)
 new_follows k records blocks = record {
   told = refl;
-  telling = refl;
+  reporting = refl;
   live = refl;
   volumes = λ v y. record { carried = refl; dropped = refl; wanted = λ e. refl; mapped = λ e. refl };
   waiting = tt;

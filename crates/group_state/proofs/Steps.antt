@@ -12,11 +12,11 @@ use Rattle.cut_core.specs.Events.{Event, floor, is_broken_after}
 use Rattle.cut_core.specs.Events.Event.{Join as Joins, Copied as Copies, Break as Breaks, Raise as Raises, Drop as Drops, Carry as Carries, Resume as Resumes, Forget as Forgets}
 use Rattle.cut_core.specs.Groups.{is_write_carried}
 use Rattle.cut_core.specs.Shares.{share}
-use Rattle.cut_core.specs.LegalHistories.{are_in, may_tell, is_legal_next}
+use Rattle.cut_core.specs.LegalHistories.{are_in, may_report, is_legal_next}
 use Rattle.group_state.specs.Volumes.{is_wanted}
-use Rattle.group_state.specs.Controls.{ControlState, is_telling, fits, fits_track, room_of, joined, copied, raised, broke, begun_volume, dropped, resumed, forgotten}
+use Rattle.group_state.specs.Controls.{ControlState, is_reporting, fits, fits_track, room_of, joined, copied, raised, broke, begun_volume, dropped, resumed, forgotten}
 use Rattle.group_state.specs.Groups.{Group, control_at, with_control, cut_of, gives_nothing, formed_at, shown_at}
-use Rattle.group_state.specs.SoundStates.{MayTell}
+use Rattle.group_state.specs.SoundStates.{MayReport}
 use Rattle.group_state.specs.Machine.{Call, Reply, reply_to, group_after, steps}
 use Rattle.group_state.specs.Machine.Call.{Join, NextWanted, Copied, Raise, Break, Form, Carry, Drop, Resume, Forget}
 use Rattle.group_state.specs.Machine.Reply.{Joined, Held, Stale, Formed, Nothing}
@@ -36,13 +36,13 @@ with_event past (Some x) = past ++ x ∷ []
 
 -- ---- legal events
 
-tells : (n k : ℕ) (past : List Event) (c : ControlState) → k < n → is_telling c.phase ≡ true → IsControlOf k past c → may_tell n k past ≡ true
-tells n k past c lt telling h = and_from (nat_lt k n) (not (is_broken_after k past)) (lt-ltb k n lt) (sym h.telling ∙ telling)
+tells : (n k : ℕ) (past : List Event) (c : ControlState) → k < n → is_reporting c.phase ≡ true → IsControlOf k past c → may_report n k past ≡ true
+tells n k past c lt reporting h = and_from (nat_lt k n) (not (is_broken_after k past)) (lt-ltb k n lt) (sym h.reporting ∙ reporting)
 
-told : (n k : ℕ) (past : List Event) (upto : Stamp) (c : ControlState) → k < n → MayTell c upto → IsControlOf k past c → (may_tell n k past && nat_le (floor k past) upto.0) ≡ true
-told n k past upto c lt may h = and_from (may_tell n k past) (nat_le (floor k past) upto.0) (tells n k past c lt may.telling h) (le-leb (floor k past) upto.0 (omega (arith, h.told, may.up)))
+told : (n k : ℕ) (past : List Event) (upto : Stamp) (c : ControlState) → k < n → MayReport c upto → IsControlOf k past c → (may_report n k past && nat_le (floor k past) upto.0) ≡ true
+told n k past upto c lt may h = and_from (may_report n k past) (nat_le (floor k past) upto.0) (tells n k past c lt may.reporting h) (le-leb (floor k past) upto.0 (omega (arith, h.told, may.up)))
 
--- ---- the calls that are events of one control
+-- ---- the calls that are events of one controller
 
 stands_joined : (n : ℕ) (past : List Event) (s : Group) (b : Batch) → Stands n past s → May s (Join b) → Stands n (past ++ Joins b ∷ []) (with_control b.control (joined b) s)
 stands_joined n past s b h may =
@@ -52,9 +52,9 @@ stands_joined n past s b h may =
     let f = h.follows.each k lt in
     let inside : are_in (floor k past) b.upto.0 b.writes ≡ true = subst (λ t. are_in t b.upto.0 b.writes ≡ true) f.told may.legal.within in
     let legal : is_legal_next n past (Joins b) ≡ true =
-    and_from (may_tell n k past && are_in (floor k past) b.upto.0 b.writes && is_in_order is_earlier b.writes) (nat_le (floor k past) b.upto.0)
-    (and_from (may_tell n k past && are_in (floor k past) b.upto.0 b.writes) (is_in_order is_earlier b.writes)
-    (and_from (may_tell n k past) (are_in (floor k past) b.upto.0 b.writes) (tells n k past c lt may.legal.tells.telling f) inside) may.legal.order)
+    and_from (may_report n k past && are_in (floor k past) b.upto.0 b.writes && is_in_order is_earlier b.writes) (nat_le (floor k past) b.upto.0)
+    (and_from (may_report n k past && are_in (floor k past) b.upto.0 b.writes) (is_in_order is_earlier b.writes)
+    (and_from (may_report n k past) (are_in (floor k past) b.upto.0 b.writes) (tells n k past c lt may.legal.tells.reporting f) inside) may.legal.order)
     (le-leb (floor k past) b.upto.0 (omega (arith, f.told, may.legal.tells.up))) in
     stands_next n past (Joins b) k (joined b) s h lt legal refl (λ i other. join_elsewhere b i past other)
     (written_below n k (filter (is_write_carried past k) b.writes) lt) refl (sound_joined b c (h.sound k lt) may.legal) (control_joined past b c (h.numbers k lt) may.legal f)
@@ -67,8 +67,8 @@ stands_copied n past s k v x at slot h may wanted =
     let f = h.follows.each k lt in
     let wants : (share k v x past).is_wanted ≡ true = sym ((f.volumes v x).wanted may.1.track) ∙ wanted in
     let legal : is_legal_next n past (Copies k v x at.0) ≡ true =
-    and_from (may_tell n k past && (share k v x past).is_wanted) (at.0 == floor k past)
-    (and_from (may_tell n k past) (share k v x past).is_wanted (tells n k past c lt may.1.telling f) wants)
+    and_from (may_report n k past && (share k v x past).is_wanted) (at.0 == floor k past)
+    (and_from (may_report n k past) (share k v x past).is_wanted (tells n k past c lt may.1.reporting f) wants)
     (eq-eqb at.0 (floor k past) (ap (λ (t : Stamp). t.0) may.1.floor ∙ f.told)) in
     stands_next n past (Copies k v x at.0) k (copied v x at slot) s h lt legal refl (λ i other. copied_elsewhere k v x at.0 i past other)
     (and_from (nat_lt k n) true (lt-ltb k n lt) refl) refl (sound_copied v x at slot c (h.sound k lt) may.1.floor wanted may.1.track) (control_copied k v x past at slot c (h.numbers k lt) f)

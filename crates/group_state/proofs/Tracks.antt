@@ -1,4 +1,4 @@
--- A volume that is kept has as many tracks as the run told when it last began to be carried.
+-- A volume that is kept has as many tracks as the run reported when it last began to be carried.
 use Rattle.std.proofs.Common.{inl, inr, ◌≡◌, ℕ, zero, suc, ◌+◌, ◌<◌, Bool, true, false, cond, nat_eq, ◌&&◌, List, [], ◌∷◌, ◌++◌, length, get_or, map, Some, None, refl, sym, ap, subst, ◌∙◌, arith, append_assoc, append-nil, length-set}
 use Rattle.std.specs.Prelude.{◌==◌}
 use Rattle.std.proofs.lemmas.Bool.{cases_lt, eq-eqb}
@@ -18,10 +18,10 @@ use Rattle.group_state.specs.SoundStates.{passes_or_none, are_distinct, Sound}
 use Rattle.group_state.specs.Machine.{Call, group_after, reply_to, steps}
 use Rattle.group_state.specs.Machine.Call.{Join, NextWanted, Copied, Raise, Break, Form, Carry, Drop, Resume, Forget}
 use Rattle.group_state.specs.Machine.Reply.{Made}
-use Rattle.group_state.proofs.VolumeLaws.{same_or_none, found_behind, found_without}
+use Rattle.group_state.proofs.VolumeLaws.{same_or_none, found_after, found_without}
 use Rattle.group_state.proofs.SoundLaws.{length_dropped}
 use Rattle.group_state.specs.Runs.{Answer, May, Runs, event_of, history}
-use Rattle.group_state.specs.HistoryLaws.{tracks_by, tracks_told}
+use Rattle.group_state.specs.HistoryLaws.{tracks_by, tracks_reported}
 use Rattle.group_state.proofs.Shares.{written_number}
 use Rattle.group_state.proofs.Stands.{Stands, at_each}
 use Rattle.group_state.proofs.Steps.{with_event, step}
@@ -30,7 +30,7 @@ use Rattle.group_state.proofs.RunLaws.{event_first}
 abbrev pub has_tracks : (tracks : ℕ) → Volume → Bool
 has_tracks n u = length u.map == n
 
--- each volume of the control has so many tracks, where it is kept
+-- each volume of the controller has so many tracks, where it is kept
 abbrev pub Have : (ℕ → ℕ) → List Volume → Type 0
 Have tracks volumes = (v : ℕ) → passes_or_none (has_tracks (tracks v)) (volume_of v volumes) ≡ true
 
@@ -55,7 +55,7 @@ have_formed tracks (e ∷ formed) volumes h =
 
 have_begun : (tracks : ℕ → ℕ) (v : ℕ) (plan : PlanState) (volumes : List Volume) → has_volume v volumes ≡ false → Have tracks volumes → Have (λ w. cond (nat_eq v w) (length plan.wanted) (tracks w)) (volumes ++ begun v plan ∷ [])
 have_begun tracks v plan volumes unknown h w =
-    subst (λ o. passes_or_none (has_tracks (cond (nat_eq v w) (length plan.wanted) (tracks w))) o ≡ true) (sym (found_behind w volumes (begun v plan) unknown)) (choose (nat_eq v w))
+    subst (λ o. passes_or_none (has_tracks (cond (nat_eq v w) (length plan.wanted) (tracks w))) o ≡ true) (sym (found_after w volumes (begun v plan) unknown)) (choose (nat_eq v w))
   where
     choose : (t : Bool) → passes_or_none (has_tracks (cond t (length plan.wanted) (tracks w))) (cond t (Some (begun v plan)) (volume_of w volumes)) ≡ true
     choose true = eq-eqb (length (begun v plan).map) (length plan.wanted) (length-replicate (length plan.wanted) false)
@@ -71,12 +71,12 @@ have_forgotten tracks v volumes distinct h w = subst (λ o. passes_or_none (has_
 -- ---- each call
 
 abbrev pub HaveTracks : List Answer → Group → Type 0
-HaveTracks run s = (k : ℕ) → Have (λ v. tracks_told k v run) (control_at s k).volumes
+HaveTracks run s = (k : ℕ) → Have (λ v. tracks_reported k v run) (control_at s k).volumes
 
-told_more : (run : List Answer) (a : Answer) (k v : ℕ) → tracks_told k v (run ++ a ∷ []) ≡ tracks_by k v (tracks_told k v run) a.call a.reply
+told_more : (run : List Answer) (a : Answer) (k v : ℕ) → tracks_reported k v (run ++ a ∷ []) ≡ tracks_by k v (tracks_reported k v run) a.call a.reply
 told_more run a k v = fold_push (λ n (answer : Answer). tracks_by k v n answer.call answer.reply) 0 run a
 
--- the volumes of each control have so many tracks
+-- the volumes of each controller have so many tracks
 abbrev pub HaveAll : (ℕ → ℕ → ℕ) → Group → Type 0
 HaveAll tracks s = (k : ℕ) → Have (tracks k) (control_at s k).volumes
 
@@ -117,9 +117,9 @@ module _ (tracks : ℕ → ℕ → ℕ) (s : Group) (h : HaveAll tracks s) where
 step_tracks : (run : List Answer) (a : Answer) (s next : Group) → HaveTracks run s → May s a.call → ((k : ℕ) → k < length s.controls → Sound (control_at s k)) → steps s a.call a.reply next → HaveTracks (run ++ a ∷ []) next
 step_tracks run a s next h may sound made k v =
     subst (λ n. passes_or_none (has_tracks n) (volume_of v (control_at next k).volumes) ≡ true)
-    (sym (told_more run a k v ∙ ap (tracks_by k v (tracks_told k v run) a.call) made.0))
-    (subst (λ (t : Group). passes_or_none (has_tracks (tracks_by k v (tracks_told k v run) a.call (reply_to s a.call))) (volume_of v (control_at t k).volumes) ≡ true) (sym made.1)
-    (by_call (λ k v. tracks_told k v run) s h a.call may sound k v))
+    (sym (told_more run a k v ∙ ap (tracks_by k v (tracks_reported k v run) a.call) made.0))
+    (subst (λ (t : Group). passes_or_none (has_tracks (tracks_by k v (tracks_reported k v run) a.call (reply_to s a.call))) (volume_of v (control_at t k).volumes) ≡ true) (sym made.1)
+    (by_call (λ k v. tracks_reported k v run) s h a.call may sound k v))
 
 -- ---- runs
 

@@ -161,11 +161,11 @@ or_none_with test after v w change keeps here there volumes e = rw (found_with v
 
 -- ---- one more, and one less
 
-pub found_behind : (w : ℕ) (volumes : List Volume) (u : Volume) → has_volume u.number volumes ≡ false → volume_of w (volumes ++ u ∷ []) ≡ cond (is_numbered w u) (Some u) (volume_of w volumes)
-found_behind w [] u none = refl
-found_behind w (x ∷ volumes) u none =
+pub found_after : (w : ℕ) (volumes : List Volume) (u : Volume) → has_volume u.number volumes ≡ false → volume_of w (volumes ++ u ∷ []) ≡ cond (is_numbered w u) (Some u) (volume_of w volumes)
+found_after w [] u none = refl
+found_after w (x ∷ volumes) u none =
     let parts = or_parts (is_numbered u.number x) (has_volume u.number volumes) none in
-    choose (is_numbered w x) refl (is_numbered w u) refl parts.0 (found_behind w volumes u parts.1)
+    choose (is_numbered w x) refl (is_numbered w u) refl parts.0 (found_after w volumes u parts.1)
   where
     choose : (t : Bool) → is_numbered w x ≡ t → (s : Bool) → is_numbered w u ≡ s → is_numbered u.number x ≡ false → volume_of w (volumes ++ u ∷ []) ≡ cond (is_numbered w u) (Some u) (volume_of w volumes)
         → cond t (Some x) (volume_of w (volumes ++ u ∷ [])) ≡ cond s (Some u) (cond t (Some x) (volume_of w volumes))
@@ -174,25 +174,25 @@ found_behind w (x ∷ volumes) u none =
     choose false at true is other rest = rest ∙ rw is refl
     choose false at false is other rest = rest ∙ rw is refl
 
-pub has_behind : (w : ℕ) (volumes : List Volume) (u : Volume) → has_volume w (volumes ++ u ∷ []) ≡ (has_volume w volumes || is_numbered w u)
-has_behind w [] u = choose (is_numbered w u)
+pub has_after : (w : ℕ) (volumes : List Volume) (u : Volume) → has_volume w (volumes ++ u ∷ []) ≡ (has_volume w volumes || is_numbered w u)
+has_after w [] u = choose (is_numbered w u)
   where
     choose : (t : Bool) → (t || false) ≡ (false || t)
     choose true = refl
     choose false = refl
-has_behind w (x ∷ volumes) u = choose (is_numbered w x) (has_behind w volumes u)
+has_after w (x ∷ volumes) u = choose (is_numbered w x) (has_after w volumes u)
   where
     choose : (t : Bool) → has_volume w (volumes ++ u ∷ []) ≡ (has_volume w volumes || is_numbered w u) → (t || has_volume w (volumes ++ u ∷ [])) ≡ ((t || has_volume w volumes) || is_numbered w u)
     choose true rest = refl
     choose false rest = rest
 
-pub distinct_behind : (volumes : List Volume) (u : Volume) → has_volume u.number volumes ≡ false → are_distinct volumes ≡ true → are_distinct (volumes ++ u ∷ []) ≡ true
-distinct_behind [] u none e = refl
-distinct_behind (x ∷ volumes) u none e =
+pub distinct_after : (volumes : List Volume) (u : Volume) → has_volume u.number volumes ≡ false → are_distinct volumes ≡ true → are_distinct (volumes ++ u ∷ []) ≡ true
+distinct_after [] u none e = refl
+distinct_after (x ∷ volumes) u none e =
     let parts = or_parts (is_numbered u.number x) (has_volume u.number volumes) none in
     let both = and_parts (not (has_volume x.number volumes)) (are_distinct volumes) e in
     let other : is_numbered x.number u ≡ false = swapped u.number x.number parts.0 in
-    and_from (not (has_volume x.number (volumes ++ u ∷ []))) (are_distinct (volumes ++ u ∷ [])) (ap not (has_behind x.number volumes u ∙ ap (λ b. has_volume x.number volumes || b) other ∙ or_no (has_volume x.number volumes)) ∙ both.0) (distinct_behind volumes u parts.1 both.1)
+    and_from (not (has_volume x.number (volumes ++ u ∷ []))) (are_distinct (volumes ++ u ∷ [])) (ap not (has_after x.number volumes u ∙ ap (λ b. has_volume x.number volumes || b) other ∙ or_no (has_volume x.number volumes)) ∙ both.0) (distinct_after volumes u parts.1 both.1)
   where
     or_no : (b : Bool) → (b || false) ≡ b
     or_no true = refl

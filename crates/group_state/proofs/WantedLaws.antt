@@ -1,4 +1,4 @@
--- The next wanted track of a control's volumes is wanted, and there is none exactly where no volume wants one.
+-- The next wanted track of a controller's volumes is wanted, and there is none exactly where no volume wants one.
 use Rattle.std.proofs.Common.{◌≡◌, ℕ, Bool, true, false, true≢false, cond, ◌&&◌, not, List, [], ◌∷◌, Option, Some, None, refl, sym, ap, subst, ◌∙◌, arith}
 use Rattle.std.specs.Prelude.{IfSome, ◌↔◌}
 use Rattle.std.proofs.lemmas.Bool.{and_parts, not-true, eqb-true, eq-eqb}
@@ -27,9 +27,9 @@ none_wants u is x = choose u.carried is
 
 -- ---- all volumes
 
--- What a volume behind the first one wants is wanted, since no two have one number.
-wanted_behind : (u : Volume) (volumes : List Volume) → has_volume u.number volumes ≡ false → (v x : ℕ) → is_wanted v x volumes ≡ true → is_wanted v x (u ∷ volumes) ≡ true
-wanted_behind u volumes none v x wanted = choose (is_numbered v u) refl
+-- What a volume after the first one wants is wanted, since no two have one number.
+wanted_after : (u : Volume) (volumes : List Volume) → has_volume u.number volumes ≡ false → (v x : ℕ) → is_wanted v x volumes ≡ true → is_wanted v x (u ∷ volumes) ≡ true
+wanted_after u volumes none v x wanted = choose (is_numbered v u) refl
   where
     choose : (t : Bool) → is_numbered v u ≡ t → passes (wants x) (cond t (Some u) (volume_of v volumes)) ≡ true
     choose true is = absurd (true≢false (sym wanted ∙ ap (passes (wants x)) (none_found v volumes (ap (λ n. has_volume n volumes) (sym (eqb-true u.number v is)) ∙ none))))
@@ -44,7 +44,7 @@ next_is (u ∷ volumes) distinct =
     choose : (o : Option ℕ) → next_in u ≡ o → (later : Option (ℕ × ℕ)) → has_volume u.number volumes ≡ false → IfSome later (λ p. is_wanted p.0 p.1 volumes ≡ true)
         → IfSome (first_wanted u.number o later) (λ p. is_wanted p.0 p.1 (u ∷ volumes) ≡ true)
     choose None is None none rest = tt
-    choose None is (Some p) none rest = wanted_behind u volumes none p.0 p.1 rest
+    choose None is (Some p) none rest = wanted_after u volumes none p.0 p.1 rest
     choose (Some x) is later none rest = rw (eq-eqb u.number u.number refl) (next_wants u x is)
 
 none_next : (volumes : List Volume) → next_wanted volumes ≡ None → (v x : ℕ) → is_wanted v x volumes ≡ false

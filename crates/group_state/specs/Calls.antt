@@ -1,9 +1,9 @@
--- Who makes a call on the shared state, and whether its control still tells behind it.
+-- Who makes a call on the shared state, and whether its controller still reports after it.
 use Rattle.std.specs.Prelude.{ℕ, ◌==◌, Bool, true, false}
 use Rattle.group_state.specs.Machine.{Call}
 use Rattle.group_state.specs.Machine.Call.{Join, NextWanted, Copied, Raise, Break, Form, Carry, Drop, Resume, Forget}
 
--- a call of control k's reader
+-- a call of controller k's reader
 abbrev pub is_by_reader : (control : ℕ) → Call → Bool
 is_by_reader k (Join b) = b.control == k
 is_by_reader k (NextWanted j) = j == k
@@ -35,15 +35,15 @@ is_by_seat (Resume k v) = false
 is_by_seat (Forget k v) = false
 is_by_seat call = true
 
--- whether a control still tells behind a call of its reader
-abbrev pub telling_after : Call → (telling : Bool) → Bool
-telling_after (Join b) telling = telling
-telling_after (NextWanted k) telling = telling
-telling_after (Copied k v x at slot) telling = telling
-telling_after (Raise k upto) telling = telling
-telling_after (Break k upto cause) telling = false
-telling_after (Form limit) telling = telling
-telling_after (Carry k v plan) telling = telling
-telling_after (Drop k v all) telling = telling
-telling_after (Resume k v) telling = telling
-telling_after (Forget k v) telling = telling
+-- whether a controller still reports after a call of its reader
+abbrev pub reporting_after : Call → (reporting : Bool) → Bool
+reporting_after (Join b) reporting = reporting
+reporting_after (NextWanted k) reporting = reporting
+reporting_after (Copied k v x at slot) reporting = reporting
+reporting_after (Raise k upto) reporting = reporting
+reporting_after (Break k upto cause) reporting = false
+reporting_after (Form limit) reporting = reporting
+reporting_after (Carry k v plan) reporting = reporting
+reporting_after (Drop k v all) reporting = reporting
+reporting_after (Resume k v) reporting = reporting
+reporting_after (Forget k v) reporting = reporting

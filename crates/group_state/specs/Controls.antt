@@ -1,4 +1,4 @@
--- A control of a group state, and what each call makes of it.
+-- A controller of a group state, and what each call makes of it.
 use Rattle.std.specs.Prelude.{ℕ, ◌==◌, ◌||◌, not, List, [], ◌∷◌, ◌++◌, length, filter, Bool, true, false, Option, Some, None, if◌then◌else◌, min, is_some}
 use Rattle.tod_stamp.specs.declared.stamp.Stamp.{Stamp}
 use Rattle.ckd_track.specs.declared.rec.Rec.{Rec}
@@ -11,33 +11,33 @@ use Rattle.pending_queue.specs.Entries.{WaitingEntry, entries_of, copy_of, copy_
 use Rattle.pending_queue.specs.Queues.{QueueState, empty_queue, with_waiting, free_room}
 use Rattle.pending_queue.specs.Rooms.{has_room, has_room_for_track}
 use Rattle.group_state.specs.declared.phase.Phase.{Phase}
-use Rattle.group_state.specs.declared.phase.Phase.TheVariants.{Telling, Broken, Reported}
+use Rattle.group_state.specs.declared.phase.Phase.TheVariants.{Unbroken, Broken, Reported}
 use Rattle.group_state.specs.declared.volume.Volume.{Volume}
 use Rattle.group_state.specs.Volumes.{with_volume, without_number, is_carried, with_writes, copied_track, dropped_volume, resumed_volume, begun, with_formed_copies, is_volume_done, numbers_of}
 
 pub record ControlState : Type 0 where
   -- the entries that wait, and the room for them
   pub queue : QueueState
-  -- the time up to which the control has told; once it has broken, its break time
+  -- the time up to which the controller has reported; once it has broken, its break time
   pub floor : Stamp
-  -- whether it still tells, has broken, or has broken and was reported
+  -- whether it still reports, has broken, or has broken and was reported
   pub phase : Phase
   -- the volumes that are carried, and those that were dropped and aren't forgotten
   pub volumes : List Volume
 
 abbrev pub new_control : (control records blocks : ℕ) → ControlState
-new_control k records blocks = record { queue = empty_queue k records blocks; floor = record { 0 = 0 }; phase = Telling; volumes = [] }
+new_control k records blocks = record { queue = empty_queue k records blocks; floor = record { 0 = 0 }; phase = Unbroken; volumes = [] }
 
 -- ---- reading
 
-abbrev pub is_telling : Phase → Bool
-is_telling Telling = true
-is_telling (Broken cause) = false
-is_telling Reported = false
+abbrev pub is_reporting : Phase → Bool
+is_reporting Unbroken = true
+is_reporting (Broken cause) = false
+is_reporting Reported = false
 
--- A control counts for the cut until its break is reported.
+-- A controller counts for the cut until its break is reported.
 abbrev pub counts : Phase → Bool
-counts Telling = true
+counts Unbroken = true
 counts (Broken cause) = true
 counts Reported = false
 
@@ -84,13 +84,13 @@ forgotten v c = record c { volumes = without_number v c.volumes }
 
 -- ---- forms
 
--- the lesser of a cut and the floor, where the control counts
+-- the lesser of a cut and the floor, where the controller counts
 abbrev pub lesser : (cut : ℕ) → ControlState → ℕ
 lesser cut c = if counts c.phase then min cut c.floor.0 else cut
 
--- the cause of the break that a form with this cut reports: that of a broken control whose break time is the cut
+-- the cause of the break that a form with this cut reports: that of a broken controller whose break time is the cut
 abbrev pub reported_cause : (cut floor : Stamp) → Phase → Option Cause
-reported_cause cut floor Telling = None
+reported_cause cut floor Unbroken = None
 reported_cause cut floor (Broken cause) = if floor.0 == cut.0 then Some cause else None
 reported_cause cut floor Reported = None
 
@@ -101,9 +101,9 @@ reported k floor (Some cause) = (k, floor, cause) ∷ []
 abbrev pub reported_break : (cut : Stamp) → ControlState → List (ℕ × Stamp × Cause)
 reported_break cut c = reported c.queue.control c.floor (reported_cause cut c.floor c.phase)
 
--- a broken control whose break time is the cut is reported
+-- a broken controller whose break time is the cut is reported
 abbrev pub phase_after : (cut floor : Stamp) → Phase → Phase
-phase_after cut floor Telling = Telling
+phase_after cut floor Unbroken = Unbroken
 phase_after cut floor (Broken cause) = if floor.0 == cut.0 then Reported else Broken cause
 phase_after cut floor Reported = Reported
 
@@ -114,7 +114,7 @@ due_of cut c = due cut c.queue.waiting
 abbrev pub formed : (cut : Stamp) → ControlState → ControlState
 formed cut c = record c { queue = with_waiting c.queue (left cut c.queue.waiting); phase = phase_after cut c.floor c.phase; volumes = with_formed_copies c.volumes (copies (due_of cut c)) }
 
--- whether a form with this cut takes an entry of the control or reports its break
+-- whether a form with this cut takes an entry of the controller or reports its break
 abbrev pub has_news : (cut : Stamp) → ControlState → Bool
 has_news cut c = not (length (due_of cut c) == 0) || is_some (reported_cause cut c.floor c.phase)
 

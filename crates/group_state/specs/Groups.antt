@@ -11,12 +11,12 @@ use Rattle.pending_queue.specs.Groups.{FormedGroup, most_done_of_control}
 use Rattle.group_state.specs.Controls.{ControlState, new_control, lesser, reported_break, due_of, has_news, formed, done_of}
 
 pub record Group : Type 0 where
-  -- the controls in order of their numbers
+  -- the controllers in order of their numbers
   pub controls : List ControlState
   -- the cut of the last form, or 0
   pub last : Stamp
 
--- Controls from a number on, of which none has told anything.
+-- Controllers from a number on, of which none has reported anything.
 abbrev pub new_controls : (controls first records blocks : ℕ) → List ControlState
 new_controls zero k records blocks = []
 new_controls (suc n) k records blocks = new_control k records blocks ∷ new_controls n (k + 1) records blocks
@@ -24,17 +24,17 @@ new_controls (suc n) k records blocks = new_control k records blocks ∷ new_con
 abbrev pub new_group : (controls records blocks : ℕ) → Group
 new_group controls records blocks = record { controls = new_controls controls 0 records blocks; last = record { 0 = 0 } }
 
--- the control of a number
+-- the controller of a number
 abbrev pub control_at : Group → (control : ℕ) → ControlState
 control_at s k = slice_index_or s.controls k (new_control 0 0 0)
 
--- the group state with one control changed
+-- the group state with one controller changed
 abbrev pub with_control : (control : ℕ) → (ControlState → ControlState) → Group → Group
 with_control k change s = record s { controls = slice_set s.controls k (change (control_at s k)) }
 
 -- ---- forms
 
--- The cut is the least of the limit and the floors of all controls that count.
+-- The cut is the least of the limit and the floors of all controllers that count.
 abbrev pub cut_of : Group → (limit : Stamp) → Stamp
 cut_of s limit = record { 0 = fold lesser limit.0 s.controls }
 
@@ -45,7 +45,7 @@ gives_nothing s limit = (cut_of s limit).0 == s.last.0 && not (list_any (has_new
 abbrev pub formed_at : (cut : Stamp) → Group → Group
 formed_at cut s = record { controls = map (formed cut) s.controls; last = cut }
 
--- What a form shows: its cut, all entries up to it by stamp, control and position, the breaks at it, and the carried volumes
+-- What a form shows: its cut, all entries up to it by stamp, controller and position, the breaks at it, and the carried volumes
 -- whose plans are done after it.
 pub record Shown : Type 0 where
   pub cut : Stamp
@@ -69,23 +69,23 @@ shown_in group = record { cut = group.cut; entries = group.entries; breaks = gro
 abbrev pub with_news : (cut : Stamp) → List ControlState → FormedGroup → FormedGroup
 with_news cut controls group = record group { breaks = group.breaks ++ flat_map (reported_break cut) controls; done = group.done ++ flat_map done_of (map (formed cut) controls) }
 
--- The group has room for the breaks and the done plans of so many controls more.
+-- The group has room for the breaks and the done plans of so many controllers more.
 pub record HasRoomForNews (group : FormedGroup) (more : ℕ) : Type 0 where
   pub breaks_room : length group.breaks + more ≤ group.controls
   pub done_room : length group.done + most_done_of_control * more ≤ most_done_of_control * group.controls
 
--- ---- the rules over several controls
+-- ---- the rules over several controllers
 
--- whether a control has room for no more entries than a run has writes
+-- whether a controller has room for no more entries than a run has writes
 abbrev pub has_few : ControlState → Bool
 has_few c = nat_le c.queue.records WRITES_OF_RUN
 
--- Controls stand by their numbers, from one on, each with room for at most so many entries.
+-- Controllers stand by their numbers, from one on, each with room for at most so many entries.
 abbrev pub are_numbered : (first : ℕ) → List ControlState → Bool
 are_numbered k [] = true
 are_numbered k (c ∷ controls) = c.queue.control == k && has_few c && are_numbered (k + 1) controls
 
--- The controls of a group state are sound: there are some, no more than the most, and each has the number of its place.
+-- The controllers of a group state are sound: there are some, no more than the most, and each has the number of its place.
 pub record AreControlsSound (controls : List ControlState) : Type 0 where
   pub some : 1 ≤ length controls
   pub few : length controls ≤ MOST_CONTROLS

@@ -11,7 +11,7 @@ use Rattle.cut_core.specs.LegalHistories.{are_legal}
 use Rattle.cut_core.specs.Fates.{is_of_control}
 use Rattle.group_state.specs.declared.volume.Volume.{Volume}
 use Rattle.group_state.specs.Volumes.{volume_of, passes, wants}
-use Rattle.group_state.specs.Controls.{ControlState, is_telling, counts}
+use Rattle.group_state.specs.Controls.{ControlState, is_reporting, counts}
 use Rattle.group_state.specs.Groups.{Group, control_at}
 use Rattle.group_state.specs.SoundStates.{passes_or_none}
 
@@ -51,12 +51,12 @@ pub record IsShareOf (kept : Option Volume) (x : ℕ) (s : Share) : Type 0 where
   pub wanted : IsTrue (passes_or_none (is_track_of_volume x) kept) → passes (wants x) kept ≡ s.is_wanted
   pub mapped : IsTrue (passes_or_none (is_track_of_volume x) kept) → passes (has_mapped x) kept ≡ s.is_mapped
 
--- ---- controls
+-- ---- controllers
 
--- What is kept of a control is what the history says of it.
+-- What is kept of a controller is what the history says of it.
 pub record IsControlOf (k : ℕ) (past : List Event) (c : ControlState) : Type 0 where
   pub told : c.floor.0 ≡ floor k past
-  pub telling : is_telling c.phase ≡ not (is_broken_after k past)
+  pub reporting : is_reporting c.phase ≡ not (is_broken_after k past)
   pub live : counts c.phase ≡ is_live k past
   pub volumes : (v x : ℕ) → IsShareOf (volume_of v c.volumes) x (share k v x past)
   pub waiting : AreSeen c.queue.waiting (filter (is_of_control k) (waiting_in [] past))

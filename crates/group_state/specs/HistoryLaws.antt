@@ -34,7 +34,7 @@ RunsAreHistories = (controls records blocks : ℕ) (run : List Answer) (s : Grou
 abbrev pub answered : (limit : Stamp) → Reply → Answer
 answered limit reply = record { call = Form limit; reply = reply }
 
--- A run from a first state has a form with this limit that shows this, with these answers before it and behind it.
+-- A run from a first state has a form with this limit that shows this, with these answers before it and after it.
 pub record HasForm (controls : ℕ) (before later : List Answer) (limit : Stamp) (shown : Shown) : Type 0 where
   pub records : ℕ
   pub blocks : ℕ
@@ -43,11 +43,11 @@ pub record HasForm (controls : ℕ) (before later : List Answer) (limit : Stamp)
   pub last : Group
   pub runs : Runs (new_group controls records blocks) (before ++ answered limit reply ∷ later) last
 
--- a control that is live, and after a form with this cut no longer
+-- a controller that is live, and after a form with this cut no longer
 abbrev pub ends_with_form : (cut : ℕ) → List Event → (control : ℕ) → Bool
 ends_with_form cut past k = is_live k past && not (is_live k (past ++ Forms cut ∷ []))
 
--- control and time of a break that is shown, and of one in a history
+-- controller and time of a break that is shown, and of one in a history
 abbrev pub named : ℕ × Stamp × Cause → ℕ × ℕ
 named shown = (shown.0, shown.1.0)
 
@@ -55,7 +55,7 @@ abbrev pub break_at_floor : List Event → (control : ℕ) → ℕ × ℕ
 break_at_floor past k = (k, floor k past)
 
 -- What a form shows is the history's: the cut is the least of the limit and all live floors, the entries are the group, one for
--- one and in order, and the breaks are those of the controls that this form ends, each once, at their floors.
+-- one and in order, and the breaks are those of the controllers that this form ends, each once, at their floors.
 pub record IsGroupOf (controls : ℕ) (limit : Stamp) (past : List Event) (shown : Shown) : Type 0 where
   pub cut : shown.cut.0 ≡ least_floor controls limit.0 past
   pub entries : AreSeen shown.entries (group past shown.cut.0)
@@ -69,9 +69,9 @@ FormsGiveGroups = (controls : ℕ) (before later : List Answer) (limit : Stamp) 
 abbrev pub answered_break : ℕ × Stamp × Cause → Answer
 answered_break shown = record { call = Break shown.0 shown.1 shown.2; reply = Made }
 
--- Each break that a form shows was told so by a call before.
-abbrev pub BreaksWereTold : Type 0
-BreaksWereTold = (controls : ℕ) (before later : List Answer) (limit : Stamp) (shown : Shown) → HasForm controls before later limit shown → All (λ b. Contains before (answered_break b)) shown.breaks
+-- Each break that a form shows was reported so by a call before.
+abbrev pub BreaksWereReported : Type 0
+BreaksWereReported = (controls : ℕ) (before later : List Answer) (limit : Stamp) (shown : Shown) → HasForm controls before later limit shown → All (λ b. Contains before (answered_break b)) shown.breaks
 
 -- ---- copied tracks
 
@@ -84,20 +84,20 @@ pub record WasCopied (run : List Answer) (w : WaitingEntry) : Type 0 where
   pub is : w ≡ copy_of (copy_head w.head.control w.head.volume w.head.track w.head.stamp) slot
   pub told : Contains run (answered_copy w slot)
 
-abbrev pub CopiesWereTold : Type 0
-CopiesWereTold = (controls : ℕ) (before later : List Answer) (limit : Stamp) (shown : Shown) → HasForm controls before later limit shown → All (λ w. IsTrue w.is_copy → WasCopied before w) shown.entries
+abbrev pub CopiesWereReported : Type 0
+CopiesWereReported = (controls : ℕ) (before later : List Answer) (limit : Stamp) (shown : Shown) → HasForm controls before later limit shown → All (λ w. IsTrue w.is_copy → WasCopied before w) shown.entries
 
 -- ---- done plans
 
--- how many tracks a volume of a control has: those of the plan with which it began to be carried last
+-- how many tracks a volume of a controller has: those of the plan with which it began to be carried last
 abbrev pub tracks_by : (k v : ℕ) → (tracks : ℕ) → Call → Reply → ℕ
 tracks_by k v n (Carry j u plan) Made = if names_volume j u k v then length plan.wanted else n
 tracks_by k v n call reply = n
 
-abbrev pub tracks_told : (k v : ℕ) → List Answer → ℕ
-tracks_told k v run = fold (λ n answer. tracks_by k v n answer.call answer.reply) 0 run
+abbrev pub tracks_reported : (k v : ℕ) → List Answer → ℕ
+tracks_reported k v run = fold (λ n answer. tracks_by k v n answer.call answer.reply) 0 run
 
--- whether an entry is a copied track of control k's volume v
+-- whether an entry is a copied track of controller k's volume v
 abbrev pub is_copy_on : (k v : ℕ) → CarriedEntry → Bool
 is_copy_on k v e = names_volume e.control e.volume k v && is_copy e
 
@@ -112,7 +112,7 @@ is_named k v shown = names_volume shown.0 shown.1 k v
 -- A form shows exactly the volumes whose plans are done after it, each once.
 abbrev pub DonePlansAreShown : Type 0
 DonePlansAreShown = (controls : ℕ) (before later : List Answer) (limit : Stamp) (shown : Shown) (k v : ℕ) → HasForm controls before later limit shown
-    → count_by (is_named k v) shown.done ≡ (if is_plan_done k v (tracks_told k v before) (history before ++ Forms shown.cut.0 ∷ []) then 1 else 0)
+    → count_by (is_named k v) shown.done ≡ (if is_plan_done k v (tracks_reported k v before) (history before ++ Forms shown.cut.0 ∷ []) then 1 else 0)
 
 -- ---- sizes and numbers
 
@@ -123,9 +123,9 @@ pub record IsOfTracks (tracks : ℕ) (u : Volume) : Type 0 where
 
 -- A volume that is kept is of as many tracks as the plan with which it began to be carried last.
 abbrev pub SizesAreTold : Type 0
-SizesAreTold = (controls records blocks : ℕ) (run : List Answer) (s : Group) (k v : ℕ) → Runs (new_group controls records blocks) run s → IfSome (volume_of v (control_at s k).volumes) (IsOfTracks (tracks_told k v run))
+SizesAreTold = (controls records blocks : ℕ) (run : List Answer) (s : Group) (k v : ℕ) → Runs (new_group controls records blocks) run s → IfSome (volume_of v (control_at s k).volumes) (IsOfTracks (tracks_reported k v run))
 
--- A control stands under its number, and no two of its volumes have one number.
+-- A controller stands under its number, and no two of its volumes have one number.
 pub record IsNumbered (k : ℕ) (c : ControlState) : Type 0 where
   pub control : c.queue.control ≡ k
   pub volumes : IsTrue (are_distinct c.volumes)
@@ -142,10 +142,10 @@ answered_resume k v n = record { call = Resume k v; reply = Owed n }
 abbrev pub mapped_of : (k v tracks : ℕ) → List Event → ℕ
 mapped_of k v tracks past = count_by (λ x. (share k v x past).is_mapped) (range_with_len 0 tracks)
 
--- A resume tells how many of the volume's tracks the history before it has mapped.
+-- A resume reports how many of the volume's tracks the history before it has mapped.
 abbrev pub ResumesOweMapped : Type 0
 ResumesOweMapped = (controls records blocks : ℕ) (before later : List Answer) (s : Group) (k v n : ℕ) → Runs (new_group controls records blocks) (before ++ answered_resume k v n ∷ later) s
-    → n ≡ mapped_of k v (tracks_told k v before) (history before)
+    → n ≡ mapped_of k v (tracks_reported k v before) (history before)
 
 -- ---- no late join
 
@@ -179,7 +179,7 @@ FormsAreComplete = (controls : ℕ) (before later : List Answer) (limit : Stamp)
 
 -- ---- the parts of a group
 
--- Of the entries that a form shows those of one control are what its queue had up to the cut, in order.
+-- Of the entries that a form shows those of one controller are what its queue had up to the cut, in order.
 abbrev pub FormsShowOwnParts : Type 0
 FormsShowOwnParts = (s : Group) (cut : Stamp) (k : ℕ) → IsGroupSound s → k < length s.controls
     → filter (is_entry_of_control k) (shown_at cut s).entries ≡ due cut (control_at s k).queue.waiting

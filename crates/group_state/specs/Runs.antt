@@ -8,9 +8,9 @@ use Rattle.change_map.specs.Sets.{has_track}
 use Rattle.pending_queue.specs.Entries.{all_keep_rules}
 use Rattle.cut_core.specs.Events.{Event}
 use Rattle.cut_core.specs.Events.Event.{Join as Joins, Copied as Copies, Break as Breaks, Raise as Raises, Form as Forms, Drop as Drops, Carry as Carries, Resume as Resumes, Forget as Forgets}
-use Rattle.group_state.specs.Controls.{ControlState, is_telling}
+use Rattle.group_state.specs.Controls.{ControlState, is_reporting}
 use Rattle.group_state.specs.Groups.{Group, Shown, control_at}
-use Rattle.group_state.specs.SoundStates.{MayTell, MayJoin, MayCarry, is_track_within, is_dropped}
+use Rattle.group_state.specs.SoundStates.{MayReport, MayJoin, MayCarry, is_track_within, is_dropped}
 use Rattle.group_state.specs.Machine.{Call, Reply, steps}
 use Rattle.group_state.specs.Machine.Call.{Join, NextWanted, Copied, Raise, Break, Form, Carry, Drop, Resume, Forget}
 use Rattle.group_state.specs.Machine.Reply.{Made, Joined, Formed, Nothing, Owed}
@@ -62,7 +62,7 @@ pub record MayJoinIn (s : Group) (b : Batch) : Type 0 where
 
 -- of a copied track
 pub record MayCopy (c : ControlState) (v x : ℕ) (at : Stamp) : Type 0 where
-  pub telling : IsTrue (is_telling c.phase)
+  pub reporting : IsTrue (is_reporting c.phase)
   pub floor : at ≡ c.floor
   pub track : IsTrue (is_track_within c.volumes v x)
 
@@ -70,8 +70,8 @@ abbrev pub May : Group → Call → Type 0
 May s (Join b) = MayJoinIn s b
 May s (NextWanted k) = k < length s.controls
 May s (Copied k v x at slot) = (k < length s.controls) × MayCopy (control_at s k) v x at
-May s (Raise k upto) = (k < length s.controls) × MayTell (control_at s k) upto
-May s (Break k upto cause) = (k < length s.controls) × MayTell (control_at s k) upto
+May s (Raise k upto) = (k < length s.controls) × MayReport (control_at s k) upto
+May s (Break k upto cause) = (k < length s.controls) × MayReport (control_at s k) upto
 May s (Form limit) = s.last.0 ≤ limit.0
 May s (Carry k v plan) = (k < length s.controls) × MayCarry (control_at s k) v plan
 May s (Drop k v all) = k < length s.controls

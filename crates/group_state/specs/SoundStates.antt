@@ -1,4 +1,4 @@
--- Controls and group states that are sound, and when a call may be made.
+-- Controllers and group states that are sound, and when a call may be made.
 use Rattle.std.specs.Prelude.{◌≡◌, ℕ, ◌≤◌, ◌==◌, ◌&&◌, ◌||◌, not, List, [], ◌∷◌, length, Bool, true, false, Option, Some, None, nat_lt, nat_le, IsTrue, count_by}
 use Rattle.std.specs.List.{list_all, All}
 use Rattle.tod_stamp.specs.declared.stamp.Stamp.{Stamp}
@@ -12,7 +12,7 @@ use Rattle.pending_queue.specs.Entries.{WaitingEntry, entries_never_fall, entry_
 use Rattle.pending_queue.specs.Groups.{most_done_of_control}
 use Rattle.group_state.specs.declared.volume.Volume.{Volume}
 use Rattle.group_state.specs.Volumes.{volume_of, has_volume, passes}
-use Rattle.group_state.specs.Controls.{ControlState, is_telling, counts}
+use Rattle.group_state.specs.Controls.{ControlState, is_reporting, counts}
 use Rattle.group_state.specs.Groups.{Group, AreControlsSound}
 use Rattle.ckd_track.specs.Writes.{is_earlier}
 
@@ -54,12 +54,12 @@ CopiesAreCounted waiting volumes = (v : ℕ) → IsTrue (passes_or_none (has_joi
 abbrev pub are_up_to : (time : Stamp) → List WaitingEntry → Bool
 are_up_to time entries = list_all (λ e. nat_le (entry_stamp e) time.0) entries
 
--- whether an entry is a control's
+-- whether an entry is a controller's
 abbrev pub is_entry_of_control : (control : ℕ) → WaitingEntry → Bool
 is_entry_of_control k e = e.head.control == k
 
 pub record Sound (c : ControlState) : Type 0 where
-  -- the entries are the control's own, and their stamps don't fall
+  -- the entries are the controller's own, and their stamps don't fall
   pub own : IsTrue (list_all (is_entry_of_control c.queue.control) c.queue.waiting)
   pub rises : IsTrue (entries_never_fall 0 c.queue.waiting)
   -- no entry is above the floor
@@ -69,28 +69,28 @@ pub record Sound (c : ControlState) : Type 0 where
   pub entries : IsTrue (list_all (is_entry_of c.volumes) c.queue.waiting)
   pub counts : CopiesAreCounted c.queue.waiting c.volumes
 
--- a volume's number is of 16 bits, so a control has at most so many volumes
+-- a volume's number is of 16 bits, so a controller has at most so many volumes
 abbrev pub has_number : Volume → Bool
 has_number u = nat_lt u.number most_done_of_control
 
--- A control of a group state is sound, with the numbers of its volumes.
+-- A controller of a group state is sound, with the numbers of its volumes.
 pub record AreVolumesSound (c : ControlState) : Type 0 where
   pub sound : Sound c
   pub numbers : IsTrue (list_all has_number c.volumes)
 
--- a control that counts has told up to the cut
-abbrev pub has_told : (cut : Stamp) → ControlState → Bool
-has_told cut c = not (counts c.phase) || nat_le cut.0 c.floor.0
+-- a controller that counts has reported up to the cut
+abbrev pub has_reported : (cut : Stamp) → ControlState → Bool
+has_reported cut c = not (counts c.phase) || nat_le cut.0 c.floor.0
 
--- The cut is at most the floor of each control that counts.
-abbrev pub HaveTold : (cut : Stamp) → List ControlState → Type 0
-HaveTold cut controls = IsTrue (list_all (has_told cut) controls)
+-- The cut is at most the floor of each controller that counts.
+abbrev pub HaveReported : (cut : Stamp) → List ControlState → Type 0
+HaveReported cut controls = IsTrue (list_all (has_reported cut) controls)
 
 -- A group state is sound.
 pub record IsGroupSound (s : Group) : Type 0 where
   pub controls_kept : AreControlsSound s.controls
   pub sound : All Sound s.controls
-  pub told : HaveTold s.last s.controls
+  pub told : HaveReported s.last s.controls
 
 -- ---- when a call may be made
 
@@ -101,15 +101,15 @@ is_track_within volumes v x = passes_or_none (λ u. nat_lt x (length u.map)) (vo
 abbrev pub are_within : List Volume → List Write → Bool
 are_within volumes writes = list_all (λ w. is_track_within volumes w.volume w.track) writes
 
--- a control still tells, and no earlier time than before
-pub record MayTell (c : ControlState) (upto : Stamp) : Type 0 where
-  pub telling : IsTrue (is_telling c.phase)
+-- a controller still reports, and no earlier time than before
+pub record MayReport (c : ControlState) (upto : Stamp) : Type 0 where
+  pub reporting : IsTrue (is_reporting c.phase)
   pub up : c.floor.0 ≤ upto.0
 
--- A batch may be joined where its control still tells, each write's stamp is above the floor and at most `upto`, and stamps
+-- A batch may be joined where its controller still reports, each write's stamp is above the floor and at most `upto`, and stamps
 -- don't fall.
 pub record MayJoin (c : ControlState) (b : Batch) : Type 0 where
-  pub tells : MayTell c b.upto
+  pub tells : MayReport c b.upto
   pub within : IsTrue (are_in c.floor.0 b.upto.0 b.writes)
   pub order : IsTrue (is_in_order is_earlier b.writes)
   pub tracks : IsTrue (are_within c.volumes b.writes)

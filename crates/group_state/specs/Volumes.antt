@@ -1,4 +1,4 @@
--- The volumes of a control: those that are carried, and those that were dropped and aren't forgotten.
+-- The volumes of a controller: those that are carried, and those that were dropped and aren't forgotten.
 use Rattle.std.specs.Prelude.{◌≡◌, ℕ, ◌<◌, slice_index_or, slice_set, ◌==◌, ◌&&◌, not, List, [], ◌∷◌, length, map, find, fold, Bool, true, false, Option, Some, None, if◌then◌else◌}
 use Rattle.std.specs.List.{list_any, remove}
 use Rattle.tod_stamp.specs.declared.stamp.Stamp.{Stamp}
@@ -130,6 +130,6 @@ owed_in (Some u) = size u.map
 abbrev pub owed : (volume : ℕ) → List Volume → ℕ
 owed v volumes = owed_in (volume_of v volumes)
 
--- the volumes' control and numbers
+-- the volumes' controller and numbers
 abbrev pub numbers_of : (control : ℕ) → List Volume → List (ℕ × ℕ)
 numbers_of k volumes = map (λ u. (k, u.number)) volumes

@@ -1,4 +1,4 @@
-//! A control of a group state.
+//! A controller of a group state.
 
 ghost use Rattle.std.specs.Prelude.{◌≡◌, ◌↔◌, ℕ, ◌≤◌, ◌+◌, ◌++◌, ◌∷◌, [], length, true, false, None, OnOk, OnErr, IfOk, IfErr, IsErr, IfSome, IsTrue};
 ghost use Rattle.ckd_track.specs.declared.layout.TheConstants.{WRITES_OF_RUN};
@@ -8,7 +8,7 @@ ghost use Rattle.pending_queue.specs.Groups.{HasRoomFor, HasRoomForBreaks, with_
 ghost use Rattle.group_state.specs.Volumes.{volume_of, has_volume, is_wanted, next_wanted, owed};
 ghost use Rattle.group_state.specs.Controls.{new_control, fits, fits_track, room_of, joined, copied, raised, broke, begun_volume, dropped, resumed, forgotten, formed, lesser, has_news, due_of, reported};
 ghost use Rattle.group_state.specs.Groups.{with_news, HasRoomForNews};
-ghost use Rattle.group_state.specs.SoundStates.{MayTell, MayJoin, MayCarry, is_track_within, is_dropped};
+ghost use Rattle.group_state.specs.SoundStates.{MayReport, MayJoin, MayCarry, is_track_within, is_dropped};
 
 use crate::phase::Phase;
 use crate::volume::Volume;
@@ -25,7 +25,7 @@ use std::marker::Model;
 use tod_stamp::Stamp;
 use xrc_edge::NoMemory;
 
-/// What is kept of a control: its queue, the time up to which it has told, whether it still tells, and its volumes.
+/// What is kept of a controller: its queue, the time up to which it has reported, whether it still reports, and its volumes.
 #[derive(Debug, Drop)]
 pub struct Control {
     queue: Queue,
@@ -46,14 +46,14 @@ impl Model for Control {
 }
 
 impl Control {
-    /// A control that has told nothing, with room for so many entries and blocks.
+    /// A controller that has reported nothing, with room for so many entries and blocks.
     pub fn make(alloc: Global, control: u16, records: u32, blocks: u32) -> Result<Control, NoMemory>
         ensures { IfOk result (λ c. c ≡ new_control control records blocks) }
     {
         Ok(Control {
             queue: Queue::make(alloc, control, records, blocks)?,
             floor: Stamp(0),
-            phase: Phase::Telling,
+            phase: Phase::Unbroken,
             volumes: Vec::new(alloc),
         })
     }
@@ -85,17 +85,17 @@ impl Control {
         next_wanted(self.volumes.as_slice())
     }
 
-    /// The control has no further write up to a time.
+    /// The controller has no further write up to a time.
     pub fn raise(&mut self, upto: Stamp)
-        requires legal { MayTell self.old upto }
+        requires legal { MayReport self.old upto }
         ensures { self.new ≡ raised upto self.old }
     {
         self.floor = upto;
     }
 
-    /// The control breaks at a time.
+    /// The controller breaks at a time.
     pub fn broken(&mut self, upto: Stamp, cause: Cause)
-        requires legal { MayTell self.old upto }
+        requires legal { MayReport self.old upto }
         ensures { self.new ≡ broke upto cause self.old }
     {
         self.floor = upto;
@@ -190,12 +190,12 @@ impl Control {
         self.queue.has_due(cut) || self.phase.cause_at(cut, self.floor).is_some()
     }
 
-    /// The lesser of a cut and the floor, where the control counts.
+    /// The lesser of a cut and the floor, where the controller counts.
     pub fn lesser(&self, cut: u64) -> u64
         ensures { result ≡ lesser cut self.now }
     {
         match self.phase {
-            Phase::Telling | Phase::Broken(_) => cut.min(self.floor.0),
+            Phase::Unbroken | Phase::Broken(_) => cut.min(self.floor.0),
             Phase::Reported => cut,
         }
     }

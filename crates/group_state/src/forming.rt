@@ -1,4 +1,4 @@
-//! A form over all controls.
+//! A form over all controllers.
 
 ghost use Rattle.std.specs.Prelude.{◌≡◌, ◌≤◌, ◌==◌, ◌&&◌, not, [], length, map, fold, IsTrue};
 ghost use Rattle.std.specs.List.{flat_map, list_any, list_all};
@@ -10,7 +10,7 @@ use crate::control::Control;
 use pending_queue::Formed;
 use tod_stamp::Stamp;
 
-/// The least of a limit and the floors of all controls that count.
+/// The least of a limit and the floors of all controllers that count.
 pub fn least(controls: &[Control], limit: Stamp) -> Stamp
     ensures { result.0 ≡ fold lesser limit.0 controls.now }
 {
@@ -21,7 +21,7 @@ pub fn least(controls: &[Control], limit: Stamp) -> Stamp
     Stamp(cut)
 }
 
-/// Whether a form with this cut takes an entry of any control or reports a break.
+/// Whether a form with this cut takes an entry of any controller or reports a break.
 fn has_news(controls: &[Control], cut: Stamp) -> bool
     ensures { result ≡ list_any (has_news cut) controls.now }
 {
@@ -50,7 +50,7 @@ pub fn announce(controls: &[Control], cut: Stamp, out: &mut Formed)
     }
 }
 
-/// Takes what is due from all controls into the group.
+/// Takes what is due from all controllers into the group.
 pub fn take_due(controls: &mut [Control], cut: Stamp, out: &mut Formed)
     requires few { IsTrue (list_all has_few controls.old) }
     requires empty { out.old.entries ≡ [] }

@@ -7,7 +7,7 @@ use pending_queue::Room;
 #[derive(Debug, Drop)]
 pub enum Joining {
     Joined,
-    /// The carried writes don't fit the control's free room, which is named. The batch comes back.
+    /// The carried writes don't fit the controller's free room, which is named. The batch comes back.
     Held { batch: Batch, room: Room },
 }
 
@@ -15,7 +15,7 @@ pub enum Joining {
 #[derive(Clone, Copy, Debug, PartialEq, Eq)]
 pub enum RunJoin {
     Joined,
-    /// The carried writes don't fit the control's free room, which is named.
+    /// The carried writes don't fit the controller's free room, which is named.
     Held(Room),
 }
 
@@ -23,7 +23,7 @@ pub enum RunJoin {
 #[derive(Clone, Copy, Debug, PartialEq, Eq)]
 pub enum CopyJoin {
     Joined,
-    /// The track doesn't fit the control's free room, which is named. It stays wanted.
+    /// The track doesn't fit the controller's free room, which is named. It stays wanted.
     Held(Room),
     /// The track isn't wanted.
     Stale,

@@ -1,4 +1,4 @@
-//! The state that the readers of the controls and the mover share, as one sequential machine, and the laws that tie it to the theorem
+//! The state that the readers of the controllers and the mover share, as one sequential machine, and the laws that tie it to the theorem
 //! on cuts: what is called and answered is a legal history, and what the state keeps and each form shows is that history's.
 #![tactic(auto)]
 

@@ -1,4 +1,4 @@
-//! Whether a control still tells.
+//! Whether a controller still reports.
 
 ghost use Rattle.std.specs.Prelude.{◌≡◌, if◌then◌else◌};
 ghost use Rattle.group_state.specs.Controls.{phase_after, reported_cause};
@@ -6,16 +6,16 @@ ghost use Rattle.group_state.specs.Controls.{phase_after, reported_cause};
 use ckd_track::Cause;
 use tod_stamp::Stamp;
 
-/// A control tells until it breaks, and counts for the cut until its break is reported.
+/// A controller reports until it breaks, and counts for the cut until its break is reported.
 #[derive(Clone, Copy, Debug, PartialEq, Eq)]
 pub enum Phase {
-    Telling,
+    Unbroken,
     Broken(Cause),
     Reported,
 }
 
 impl Phase {
-    /// The cause of the break that a form with this cut reports, of a control with this floor.
+    /// The cause of the break that a form with this cut reports, of a controller with this floor.
     pub fn cause_at(self, cut: Stamp, floor: Stamp) -> Option<Cause>
         ensures { result ≡ reported_cause cut floor self }
     {

@@ -12,9 +12,9 @@ ghost use Rattle.group_state.specs.declared.joining.RunJoin.TheVariants as runni
 ghost use Rattle.group_state.specs.declared.joining.CopyJoin.TheVariants as copying;
 ghost use Rattle.group_state.specs.declared.joining.Forming.TheVariants as formings;
 ghost use Rattle.group_state.specs.Volumes.{volume_of, is_wanted, next_wanted, owed};
-ghost use Rattle.group_state.specs.Controls.{is_telling, fits, fits_track, room_of};
+ghost use Rattle.group_state.specs.Controls.{is_reporting, fits, fits_track, room_of};
 ghost use Rattle.group_state.specs.Groups.{new_group, control_at, cut_of, gives_nothing, shown_at, shown_in};
-ghost use Rattle.group_state.specs.SoundStates.{IsGroupSound, MayTell, MayJoin, MayCarry, is_track_within, is_dropped};
+ghost use Rattle.group_state.specs.SoundStates.{IsGroupSound, MayReport, MayJoin, MayCarry, is_track_within, is_dropped};
 ghost use Rattle.group_state.specs.Machine.{steps, Reply};
 ghost use Rattle.group_state.specs.Machine.Call.{Join, NextWanted, Copied, Raise, Break, Form, Carry, Drop, Resume, Forget};
 ghost use Rattle.group_state.specs.Machine.Reply.{Made, Wanted, Owed};
@@ -32,11 +32,11 @@ use std::marker::Model;
 use tod_stamp::Stamp;
 use xrc_edge::NoMemory;
 
-/// The controls of a session and the last cut, as one sequential machine. Contracts see for each control the entries that
+/// The controllers of a session and the last cut, as one sequential machine. Contracts see for each controller the entries that
 /// wait, its floor, whether it has broken, and its volumes with their plans and maps.
 ///
-/// The calls have these conditions. The control is below the number of controls. A batch, a raise and a break come from a
-/// control that still tells, and not below its floor. A volume's tracks are below those of its plan.
+/// The calls have these conditions. The controller is below the number of controllers. A batch, a raise and a break come from a
+/// controller that still reports, and not below its floor. A volume's tracks are below those of its plan.
 #[derive(Debug, Drop)]
 pub struct GroupState {
     controls: Vec<Control>,
@@ -55,7 +55,7 @@ impl Model for GroupState {
 }
 
 impl GroupState {
-    /// The state of so many controls that have told nothing. Each has room for so many entries and so many blocks.
+    /// The state of so many controllers that have reported nothing. Each has room for so many entries and so many blocks.
     pub fn make(
         alloc: Global,
         controls: u16,
@@ -78,7 +78,7 @@ impl GroupState {
         })
     }
 
-    /// How many controls there are.
+    /// How many controllers there are.
     pub fn controls(&self) -> u16
         ensures count { result ≡ length self.now.controls }
         ensures some { 1 ≤ result }
@@ -90,7 +90,7 @@ impl GroupState {
     }
 
     /// Joins a batch. Its writes on volumes that are carried wait, but for those on tracks that a copy still wants; those on
-    /// dropped volumes go into the map. Held exactly where the carried writes don't fit the control's free room. A batch that
+    /// dropped volumes go into the map. Held exactly where the carried writes don't fit the controller's free room. A batch that
     /// isn't joined comes back.
     pub fn join(&mut self, batch: Batch) -> Joining
         requires control { batch.control < length self.old.controls }
@@ -120,7 +120,7 @@ impl GroupState {
         }
     }
 
-    /// The volume and the track that a reader copies next; None exactly where no volume of the control wants a track.
+    /// The volume and the track that a reader copies next; None exactly where no volume of the controller wants a track.
     pub fn next_wanted(&self, control: u16) -> Option<(u16, u32)>
         requires control { control < length self.now.controls }
         ensures step { steps self.now (NextWanted control) (Wanted result) self.now }
@@ -130,8 +130,8 @@ impl GroupState {
         self.controls[control as usize].next_wanted()
     }
 
-    /// Joins a copied track at its control's floor. Stale exactly where it isn't wanted; Held exactly where it is and doesn't
-    /// fit the control's free room. A track that isn't joined stays as it was.
+    /// Joins a copied track at its controller's floor. Stale exactly where it isn't wanted; Held exactly where it is and doesn't
+    /// fit the controller's free room. A track that isn't joined stays as it was.
     pub fn copied(
         &mut self,
         control: u16,
@@ -141,7 +141,7 @@ impl GroupState {
         slot: &Slot,
     ) -> CopyJoin
         requires control { control < length self.old.controls }
-        requires telling { IsTrue (is_telling (control_at self.old control).phase) }
+        requires reporting { IsTrue (is_reporting (control_at self.old control).phase) }
         requires floor { at ≡ (control_at self.old control).floor }
         requires track { IsTrue (is_track_within (control_at self.old control).volumes volume track) }
         ensures step { steps self.old (Copied control volume track at slot.now) (copy_reply result) self.new }
@@ -157,19 +157,19 @@ impl GroupState {
         }
     }
 
-    /// A control has no further write up to a time.
+    /// A controller has no further write up to a time.
     pub fn raise(&mut self, control: u16, upto: Stamp)
         requires control { control < length self.old.controls }
-        requires legal { MayTell (control_at self.old control) upto }
+        requires legal { MayReport (control_at self.old control) upto }
         ensures step { steps self.old (Raise control upto) Made self.new }
     {
         self.controls[control as usize].raise(upto);
     }
 
-    /// A control breaks at a time, up to which its writes are known.
+    /// A controller breaks at a time, up to which its writes are known.
     pub fn broken(&mut self, control: u16, upto: Stamp, cause: Cause)
         requires control { control < length self.old.controls }
-        requires legal { MayTell (control_at self.old control) upto }
+        requires legal { MayReport (control_at self.old control) upto }
         ensures step { steps self.old (Break control upto cause) Made self.new }
     {
         self.controls[control as usize].broken(upto, cause);
@@ -202,7 +202,7 @@ impl GroupState {
         self.controls[control as usize].drop_volume(volume, all);
     }
 
-    /// A dropped volume is carried again. Exactly the tracks of its map are wanted; tells how many.
+    /// A dropped volume is carried again. Exactly the tracks of its map are wanted; reports how many.
     pub fn resume(&mut self, control: u16, volume: u16) -> u32
         requires control { control < length self.old.controls }
         requires dropped { IsTrue (is_dropped volume (control_at self.old control).volumes) }
@@ -221,7 +221,7 @@ impl GroupState {
         self.controls[control as usize].forget(volume);
     }
 
-    /// Forms a group at the least of the limit and the floors of all controls whose break isn't reported. Nothing exactly
+    /// Forms a group at the least of the limit and the floors of all controllers whose break isn't reported. Nothing exactly
     /// where this cut is the last one, no entry up to it waits, and no break at it is unreported.
     pub fn form(&mut self, limit: Stamp, out: &mut Formed) -> Forming
         requires limit { self.old.last.0 ≤ limit.0 }

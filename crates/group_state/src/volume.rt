@@ -1,4 +1,4 @@
-//! A volume of a control.
+//! A volume of a controller.
 
 ghost use Rattle.std.specs.Prelude.{◌≡◌, ◌<◌, length, nat_lt, IsTrue};
 ghost use Rattle.std.specs.List.{list_all};

@@ -1,4 +1,4 @@
-//! The volumes of a control, and which writes are carried.
+//! The volumes of a controller, and which writes are carried.
 
 ghost use Rattle.std.specs.Prelude.{◌≡◌, ◌<◌, ◌≤◌, ◌+◌, ◌*◌, length, slice_index_or, filter, ◌++◌, true, IsTrue, IfSome, None};
 ghost use Rattle.ckd_track.specs.declared.write.Write.{Write as WriteIs};
@@ -14,7 +14,7 @@ use ckd_track::Write;
 use pending_queue::{Carrier, Formed, Queue};
 use tod_stamp::Stamp;
 
-/// Volumes of a control, of which those that are carried carry writes.
+/// Volumes of a controller, of which those that are carried carry writes.
 #[derive(Clone, Copy)]
 pub struct Carried<'a> {
     pub volumes: &'a [Volume],

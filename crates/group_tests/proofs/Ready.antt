@@ -10,10 +10,10 @@ use Rattle.ckd_track.specs.Writes.{is_earlier}
 use Rattle.xrc_edge.specs.Order.{is_in_order}
 use Rattle.pending_queue.specs.Entries.{WaitingEntry, copies}
 use Rattle.group_state.specs.declared.phase.Phase.{Phase}
-use Rattle.group_state.specs.declared.phase.Phase.TheVariants.{Telling, Broken, Reported}
+use Rattle.group_state.specs.declared.phase.Phase.TheVariants.{Unbroken, Broken, Reported}
 use Rattle.group_state.specs.declared.volume.Volume.{Volume}
 use Rattle.group_state.specs.Volumes.{with_write, with_writes, formed_track, with_formed_copy, with_formed_copies}
-use Rattle.group_state.specs.Controls.{ControlState, new_control, is_telling, phase_after, fits, joined, formed, due_of}
+use Rattle.group_state.specs.Controls.{ControlState, new_control, is_reporting, phase_after, fits, joined, formed, due_of}
 use Rattle.group_state.specs.Groups.{Group, control_at, with_control, cut_of, formed_at}
 use Rattle.group_state.specs.SoundStates.{is_track_within, MayJoin}
 use Rattle.group_state.specs.Machine.{group_after}
@@ -36,9 +36,9 @@ order_at at (w ∷ writes) e =
     and_from (list_all (λ x. not (is_earlier x w)) writes) (is_in_order is_earlier writes)
     (all_up (is_first_at at) (λ x. not (is_earlier x w)) writes (λ x is. ap not (le-ltb x.stamp.0 w.stamp.0 (omega (arith, here, stamp_of at x is)))) parts.1) (order_at at writes parts.1)
 
-pub may_join : (before at : ℕ) (c : ControlState) (b : Batch) → is_telling c.phase ≡ true → c.floor.0 ≤ before → before < at → is_track_within c.volumes 0 0 ≡ true → b.upto.0 ≡ at → list_all (is_first_at at) b.writes ≡ true → MayJoin c b
-may_join before at c b telling told later within upto first = record {
-  tells = record { telling = telling; up = omega (arith, told, later, upto) };
+pub may_join : (before at : ℕ) (c : ControlState) (b : Batch) → is_reporting c.phase ≡ true → c.floor.0 ≤ before → before < at → is_track_within c.volumes 0 0 ≡ true → b.upto.0 ≡ at → list_all (is_first_at at) b.writes ≡ true → MayJoin c b
+may_join before at c b reporting told later within upto first = record {
+  tells = record { reporting = reporting; up = omega (arith, told, later, upto) };
   within = all_up (is_first_at at) (λ w. nat_lt c.floor.0 w.stamp.0 && nat_le w.stamp.0 b.upto.0) b.writes
       (λ w is. let here = stamp_of at w is in
       and_from (nat_lt c.floor.0 w.stamp.0) (nat_le w.stamp.0 b.upto.0) (lt-ltb c.floor.0 w.stamp.0 (omega (arith, told, later, here))) (le-leb w.stamp.0 b.upto.0 (omega (arith, upto, here)))) first;
@@ -70,7 +70,7 @@ ready_joined before at s b ready later control upto = choose (fits (control_at s
     here : CarriesFirst at (with_control 0 (joined b) s)
     here = record {
       one = length-set s.controls 0 (joined b (control_at s 0)) ∙ ready.one;
-      telling = ap (λ (c : ControlState). is_telling c.phase) is ∙ ready.telling;
+      reporting = ap (λ (c : ControlState). is_reporting c.phase) is ∙ ready.reporting;
       told = omega (arith, ap (λ (c : ControlState). c.floor.0) is, upto);
       within = ap (λ (c : ControlState). is_track_within c.volumes 0 0) is ∙ within_writes (control_at s 0).volumes b.writes 0 0 ∙ ready.within;
       last = omega (arith, ready.last, later);
@@ -78,12 +78,12 @@ ready_joined before at s b ready later control upto = choose (fits (control_at s
 
     choose : (t : Bool) → CarriesFirst at (cond t (with_control b.control (joined b) s) s)
     choose true = subst (λ k. CarriesFirst at (with_control k (joined b) s)) (sym control) here
-    choose false = record { one = ready.one; telling = ready.telling; told = omega (arith, ready.told, later); within = ready.within; last = omega (arith, ready.last, later) }
+    choose false = record { one = ready.one; reporting = ready.reporting; told = omega (arith, ready.told, later); within = ready.within; last = omega (arith, ready.last, later) }
 
-still_telling : (cut floor : Stamp) (phase : Phase) → is_telling phase ≡ true → is_telling (phase_after cut floor phase) ≡ true
-still_telling cut floor Telling e = refl
-still_telling cut floor (Broken cause) e = absurd cc
-still_telling cut floor Reported e = absurd cc
+still_reporting : (cut floor : Stamp) (phase : Phase) → is_reporting phase ≡ true → is_reporting (phase_after cut floor phase) ≡ true
+still_reporting cut floor Unbroken e = refl
+still_reporting cut floor (Broken cause) e = absurd cc
+still_reporting cut floor Reported e = absurd cc
 
 pub ready_formed : (time : ℕ) (s : Group) (limit : Stamp) → limit.0 ≡ time → CarriesFirst time s → CarriesFirst time (formed_at (cut_of s limit) s)
 ready_formed time s limit at ready =
@@ -92,7 +92,7 @@ ready_formed time s limit at ready =
     let is : control_at (formed_at cut s) 0 ≡ formed cut c = get_or-map (formed cut) s.controls 0 (new_control 0 0 0) (new_control 0 0 0) (omega (arith, ready.one)) in
     record {
       one = length-map s.controls (formed cut) ∙ ready.one;
-      telling = ap (λ (c : ControlState). is_telling c.phase) is ∙ still_telling cut c.floor c.phase ready.telling;
+      reporting = ap (λ (c : ControlState). is_reporting c.phase) is ∙ still_reporting cut c.floor c.phase ready.reporting;
       told = omega (arith, ap (λ (c : ControlState). c.floor.0) is, ready.told);
       within = ap (λ (c : ControlState). is_track_within c.volumes 0 0) is ∙ within_formed c.volumes (copies (due_of cut c)) 0 0 ∙ ready.within;
       last = omega (arith, least_within limit.0 s.controls, at);

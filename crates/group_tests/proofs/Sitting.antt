@@ -1,4 +1,4 @@
--- What seats of a table of three controls may do, and what they know afterwards.
+-- What seats of a table of three controllers may do, and what they know afterwards.
 use Rattle.std.proofs.Common.{◌≡◌, ℕ, zero, suc, ◌+◌, ◌<◌, Bool, true, nat_lt, nat_le, ◌&&◌, List, [], ◌∷◌, length, get_or, set, Option, Some, None, refl, sym, ap, ◌∙◌, subst, arith}
 use Rattle.std.specs.Prelude.{All}
 use Rattle.std.specs.List.{slice_get}
@@ -31,7 +31,7 @@ may_join_next table before seat control b reads own is =
     (record {
       control = own;
       rules = refl;
-      tells = record { telling = reads.tells; up = omega arith };
+      tells = record { reporting = reads.tells; up = omega arith };
       within = in_next seat.floor.0 (before + 1) (omega arith);
       order = refl;
       tracks = subst (λ (s : Group). are_within (control_at s seat.control).volumes (whole_on 1 (before + 1) ∷ []) ≡ true) (sym reads.begun) (within_started seat.control reads.known (before + 1));

@@ -1,4 +1,4 @@
--- Names, a table and a state that take the changes of commands do so again behind a command, and behind a failure of a device.
+-- Names, a table and a state that take the changes of commands do so again after a command, and after a failure of a device.
 use Rattle.std.proofs.Common.{◌≡◌, ℕ, ◌-◌, ◌<◌, Bool, true, false, cond, not, nat_le, ◌&&◌, List, [], ◌∷◌, ◌++◌, length, Option, Some, None, Ok, refl, sym, ap, subst, ◌∙◌, arith, true≢false, zero, suc, take, slice_get}
 use Rattle.std.specs.Prelude.{is_none, IfSome}
 use Rattle.std.specs.List.{list_all}
@@ -45,14 +45,14 @@ taken_next [] place r at = absurd cc
 taken_next (t ∷ rows) zero r at = ap (λ (x : PairRow). x ∷ []) (sym (same_Some t r at))
 taken_next (t ∷ rows) (suc place) r at = ap (λ (xs : List PairRow). t ∷ xs) (taken_next rows place r at)
 
--- ---- controls that count
+-- ---- controllers that count
 
 count_with : (s : Group) (k : ℕ) (change : ControlState → ControlState) → ((c : ControlState) → (let d : ControlState = change c in d.phase) ≡ c.phase) → AllCount s → AllCount (with_control k change s)
 count_with s k change phase counted j low =
     let was : j < length s.controls = omega (arith, low, same_count s k change) in
     at_with s k j change (λ (c : ControlState). counts c.phase ≡ true) was (λ same. ap counts (phase (control_at s j)) ∙ counted j was) (λ apart. counted j was)
 
--- A state is sound for rows, and has so many controls, each of which counts.
+-- A state is sound for rows, and has so many controllers, each of which counts.
 record Counted (s : Group) (rows : List PairRow) : Type 0 where
   kept : IsSoundForRows s rows
   many : length s.controls ≡ MOST_CONTROLS
@@ -89,16 +89,16 @@ any_fits (Gone devices) after = tt
 any_fits (SuspendedRows devices) after = tt
 any_fits Ended after = tt
 
-counted_behind : (s : Group) (change : Change) (before after : List PairRow) → Counted s before → MayTake s change before after → Counted (after_calls (calls_of_change change s before after) s) after
-counted_behind s change before after h may =
+counted_after : (s : Group) (change : Change) (before after : List PairRow) → Counted s before → MayTake s change before after → Counted (after_calls (calls_of_change change s before after) s) after
+counted_after s change before after h may =
     let walk : Walked Counts (calls_of_change change s before after) s after no_plans = change_walk Counts FitsAny counted_steps change before after s no_plans may (any_fits change after) h in
     walk.ends
 
 pub taken_again : (names : Naming) (table next : Table) (s : Group) (change : Change) → TakesChanges names table s → MayTake s change table.rows next.rows → MayCommand names next.rows → next.is_started ≡ true
     → TakesChanges names next (after_calls (calls_of_change change s table.rows next.rows) s)
 taken_again names table next s change h take may started =
-    let behind = counted_behind s change table.rows next.rows (record { kept = h.kept; many = h.many; counted = h.counted }) take in
-    record { may = may; started = started; kept = behind.kept; many = behind.many; counted = behind.counted }
+    let after = counted_after s change table.rows next.rows (record { kept = h.kept; many = h.many; counted = h.counted }) take in
+    record { may = may; started = started; kept = after.kept; many = after.many; counted = after.counted }
 
 -- ---- a command
 
@@ -112,8 +112,8 @@ low_control r is =
     let control = leb-true r.control (MOST_CONTROLS - 1) (and_parts (nat_le r.control (MOST_CONTROLS - 1)) (nat_le r.volume (MOST_CONTROL_VOLUMES - 1)) ranges.0).0 in
     omega (arith, control)
 
-started_behind : (names : Naming) (table : Table) (session : List ℕ) (command : Command) (at : ℕ) → table.is_started ≡ true → (table_after names table session command at).is_started ≡ true
-started_behind names table session command at is = choose (is_none (refusal names table session command))
+started_after : (names : Naming) (table : Table) (session : List ℕ) (command : Command) (at : ℕ) → table.is_started ≡ true → (table_after names table session command at).is_started ≡ true
+started_after names table session command at is = choose (is_none (refusal names table session command))
   where
     choose : (b : Bool) → (let t : Table = cond b (accepted names at command table) table in t.is_started) ≡ true
     choose true = refl
@@ -141,7 +141,7 @@ pub commanded_again : (names : Naming) (table : Table) (session : List ℕ) (com
     → AreRowsSound (table_after names table session command at).rows → MayCommand names (table_after names table session command at).rows
     → TakesChanges names (table_after names table session command at) (after_calls (calls_of_change change s table.rows (table_after names table session command at).rows) s)
 commanded_again names table session command change at s h is keeps may =
-    taken_again names table (table_after names table session command at) s change h (command_taken names table session command change at s h is keeps) may (started_behind names table session command at h.started)
+    taken_again names table (table_after names table session command at) s change h (command_taken names table session command change at s h is keeps) may (started_after names table session command at h.started)
 
 -- ---- a failure
 

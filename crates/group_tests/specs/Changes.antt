@@ -11,11 +11,11 @@ use Rattle.group_state.specs.Controls.{counts}
 use Rattle.group_state.specs.Groups.{Group, control_at}
 use Rattle.xrc_session.specs.Taking.{IsSoundForRows}
 
--- Each control counts.
+-- Each controller counts.
 abbrev pub AllCount : Group → Type 0
 AllCount s = (k : ℕ) → k < length s.controls → IsTrue (counts (control_at s k).phase)
 
--- The session is started, and the state is sound for the table's rows. There are all controls, and each counts.
+-- The session is started, and the state is sound for the table's rows. There are all controllers, and each counts.
 pub record TakesChanges (names : Naming) (table : Table) (s : Group) : Type 0 where
   pub may : MayCommand names table.rows
   pub started : table.is_started ≡ true

@@ -17,10 +17,10 @@ join control writes upto = Join (record { control = control; writes = writes; up
 abbrev pub written_entry : (control track stamp : ℕ) → CarriedEntry
 written_entry k track stamp = carried_entry k (whole_on track stamp)
 
--- Two controls, of which the first carries its volume 0 and has writes of 10 and 20; the second has told up to 15.
+-- Two controllers, of which the first carries its volume 0 and has writes of 10 and 20; the second has reported up to 15.
 abbrev pub two_controls_past : List Event
 two_controls_past = Carry 0 0 [] ∷ join 0 (whole_on 0 0x10 ∷ []) 0x1F ∷ join 0 (whole_on 1 0x20 ∷ []) 0x40 ∷ Raise 1 0x15 ∷ []
 
--- Two controls whose writes have one stamp; those of the second join first.
+-- Two controllers whose writes have one stamp; those of the second join first.
 abbrev pub equal_stamps : List Event
 equal_stamps = Carry 0 0 [] ∷ Carry 1 0 [] ∷ join 1 (whole_on 5 0x10 ∷ whole_on 4 0x10 ∷ []) 0x10 ∷ join 0 (whole_on 7 0x10 ∷ []) 0x10 ∷ []

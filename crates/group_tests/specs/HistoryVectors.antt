@@ -14,8 +14,8 @@ abbrev pub answers_to : Group → List Call → List Answer
 answers_to s [] = []
 answers_to s (call ∷ calls) = record { call = call; reply = reply_to s call } ∷ answers_to (group_after s call) calls
 
--- Two controls, of which the first carries its volume 0 until it is dropped, and again from its resume on. One copied track is
--- stale. The second control breaks.
+-- Two controllers, of which the first carries its volume 0 until it is dropped, and again from its resume on. One copied track is
+-- stale. The second controller breaks.
 abbrev pub first_state : Group
 first_state = new_group 2 WRITES_OF_RUN BLOCKS_OF_QUEUE
 

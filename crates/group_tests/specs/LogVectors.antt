@@ -1,4 +1,4 @@
--- Worked logs with their deeds: of one control or two, whose first carries its volume 0, of two tracks.
+-- Worked logs with their deeds: of one controller or two, whose first carries its volume 0, of two tracks.
 use Rattle.std.specs.Prelude.{ℕ, List, [], ◌∷◌, None, false, take}
 use Rattle.ckd_track.specs.declared.layout.TheConstants.{BLOCKS_OF_QUEUE, WRITES_OF_RUN}
 use Rattle.pair_table.specs.declared.row.PairRow.{PairRow}
@@ -25,7 +25,7 @@ none_known = λ k v. false
 abbrev pub shown_of : Group → (limit : ℕ) → Shown
 shown_of s limit = shown_at (cut_of s (record { 0 = limit })) s
 
--- the group of a form as a deed, with the rows behind it
+-- the group of a form as a deed, with the rows after it
 abbrev pub logged_of : Shown → List PairRow → Deed
 logged_of shown rows = Logged shown.cut.0 shown.entries rows
 
@@ -37,7 +37,7 @@ one_control = new_group 1 WRITES_OF_RUN BLOCKS_OF_QUEUE
 
 -- ---- a cut
 
--- The second control has told up to 15 alone.
+-- The second controller has reported up to 15 alone.
 abbrev pub log_of_cut : List Answer
 log_of_cut = answers_to state_of_two (form_to 0x40 ∷ [])
 
@@ -46,7 +46,7 @@ deeds_of_cut rows = logged_of (shown_of state_of_two 0x40) rows ∷ []
 
 -- ---- a pair that follows again
 
--- The volume is carried, with a write on track 1, until its pair is suspended behind the group of that write.
+-- The volume is carried, with a write on track 1, until its pair is suspended after the group of that write.
 abbrev pub before_drop : List Call
 before_drop = Carry 0 0 none_wanted ∷ Join (batch 0 (whole_on 1 0x64 ∷ []) 0x6D) ∷ []
 
@@ -66,7 +66,7 @@ log_of_drop = answers_to followed (take 2 until_copied)
 abbrev pub deeds_of_drop : (rows fewer : List PairRow) → List Deed
 deeds_of_drop rows fewer = logged_of (shown_of followed 0x6D) rows ∷ Changed 0x6D fewer ∷ []
 
--- A row of the first control's volume 0 is live.
+-- A row of the first controller's volume 0 is live.
 abbrev pub HasLiveRow : List PairRow → Type 0
 HasLiveRow rows = HasRowIn IsLive 0 0 rows
 

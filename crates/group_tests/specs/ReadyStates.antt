@@ -1,15 +1,15 @@
--- A state of one control that carries its volume 0, and batches on the first track of it.
+-- A state of one controller that carries its volume 0, and batches on the first track of it.
 use Rattle.std.specs.Prelude.{◌≡◌, ℕ, ◌≤◌, ◌==◌, ◌&&◌, List, length, Bool, IsTrue}
 use Rattle.std.specs.List.{list_all}
 use Rattle.ckd_track.specs.declared.write.Write.{Write}
-use Rattle.group_state.specs.Controls.{is_telling}
+use Rattle.group_state.specs.Controls.{is_reporting}
 use Rattle.group_state.specs.Groups.{Group, control_at}
 use Rattle.group_state.specs.SoundStates.{is_track_within}
 
--- Its control tells, and has told no later time; no form was at a later one.
+-- Its controller reports, and has reported no later time; no form was at a later one.
 pub record CarriesFirst (time : ℕ) (s : Group) : Type 0 where
   pub one : length s.controls ≡ 1
-  pub telling : IsTrue (is_telling (control_at s 0).phase)
+  pub reporting : IsTrue (is_reporting (control_at s 0).phase)
   pub told : (control_at s 0).floor.0 ≤ time
   pub within : IsTrue (is_track_within (control_at s 0).volumes 0 0)
   pub last : s.last.0 ≤ time

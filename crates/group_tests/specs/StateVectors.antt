@@ -34,10 +34,10 @@ both_wanted = fresh_plan (true ∷ true ∷ [])
 abbrev pub copy : (track at : ℕ) → Call
 copy x at = Copied 0 0 x (record { 0 = at }) []
 
--- Two controls, of which the first carries its volume 0 and has writes of 10 and 20; the second has told up to 15.
+-- Two controllers, of which the first carries its volume 0 and has writes of 10 and 20; the second has reported up to 15.
 abbrev pub state_of_two : Group
 state_of_two = after_all (new_group 2 WRITES_OF_RUN BLOCKS_OF_QUEUE) (Carry 0 0 none_wanted ∷ Join (batch 0 (whole_on 0 0x10 ∷ []) 0x1F) ∷ Join (batch 0 (whole_on 1 0x20 ∷ []) 0x40) ∷ raise 1 0x15 ∷ [])
 
--- control and track of what a form shows
+-- controller and track of what a form shows
 abbrev pub tracks_shown : Shown → List (ℕ × ℕ)
 tracks_shown shown = map (λ e. (e.head.control, e.head.track)) shown.entries

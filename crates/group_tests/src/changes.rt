@@ -30,7 +30,7 @@ fn serial(rt: &impl Abort, name: &[u8]) -> Serial {
     Serial::read(name).expect(rt, "a serial")
 }
 
-/// Volume 0 of control 0 is PRIM01, of two cylinders, and device 0 is SEC001.
+/// Volume 0 of controller 0 is PRIM01, of two cylinders, and device 0 is SEC001.
 fn names(rt: &impl Abort, alloc: Global) -> Names {
     let mut names = Names::make(alloc).expect(rt, "memory");
     let primary = names.primary(alloc, serial(rt, b"PRIM01"), 0, 0, 2);
@@ -40,7 +40,7 @@ fn names(rt: &impl Abort, alloc: Global) -> Names {
     names
 }
 
-/// A started session without a row, and a new state of all controls.
+/// A started session without a row, and a new state of all controllers.
 fn begun(rt: &impl Abort, alloc: Global) -> Pairs
     ensures { TakesChanges result.names result.table result.state }
 {

@@ -21,7 +21,7 @@ pub fn cuts()
     ensures kept { kept_writes [] (two_controls_past ++ Form 0x15 ∷ Raise 1 0x40 ∷ Form 0x40 ∷ []) ≡ written_entry 0 0 0x10 ∷ written_entry 0 1 0x20 ∷ [] }
 {}
 
-/// A batch's stamps lie above its control's floor and up to its time, and don't fall.
+/// A batch's stamps lie above its controller's floor and up to its time, and don't fall.
 pub fn batches()
     ensures at_the_floor { is_legal_next 2 two_controls_past (join 1 (whole_on 0 0x15 ∷ []) 0x20) ≡ false }
     ensures above { is_legal_next 2 two_controls_past (join 1 (whole_on 0 0x16 ∷ whole_on 0 0x20 ∷ []) 0x20) ≡ true }
@@ -31,7 +31,7 @@ pub fn batches()
     ensures no_control { is_legal_next 2 two_controls_past (join 2 [] 0x20) ≡ false }
 {}
 
-/// A group stands by stamp, control and position.
+/// A group stands by stamp, controller and position.
 pub fn two_of_one_stamp()
     ensures legal { are_legal 2 [] (equal_stamps ++ Form 0x10 ∷ []) ≡ true }
     ensures ordered { group equal_stamps 0x10 ≡ written_entry 0 7 0x10 ∷ written_entry 1 5 0x10 ∷ written_entry 1 4 0x10 ∷ [] }
@@ -61,7 +61,7 @@ pub fn break_after_its_cut()
     ensures again { is_live 1 (two_controls_past ++ Form 0x15 ∷ Break 1 0x15 ∷ Form 0x15 ∷ []) ≡ false }
 {}
 
-/// Where every control has broken, each counts until its break was a cut. Then the cut is the limit.
+/// Where every controller has broken, each counts until its break was a cut. Then the cut is the limit.
 pub fn all_broken()
     ensures legal { are_legal 2 [] (two_controls_past ++ Break 0 0x40 ∷ Break 1 0x16 ∷ Form 0x16 ∷ Form 0x40 ∷ Form 0x99 ∷ []) ≡ true }
     ensures first { least_floor 2 0x99 (two_controls_past ++ Break 0 0x40 ∷ Break 1 0x16 ∷ []) ≡ 0x16 }
@@ -92,7 +92,7 @@ pub fn resumes()
     ensures twice { is_legal_next 2 (two_controls_past ++ Drop 0 0 false ∷ Resume 0 0 ∷ Copied 0 0 0 0x40 ∷ []) (Copied 0 0 0 0x40) ≡ false }
     ensures below_the_floor { is_legal_next 2 (two_controls_past ++ Drop 0 0 false ∷ Resume 0 0 ∷ []) (Copied 0 0 0 0x3F) ≡ false }
     ensures copied { group (two_controls_past ++ Drop 0 0 false ∷ Resume 0 0 ∷ Copied 0 0 0 0x40 ∷ Raise 1 0x40 ∷ []) 0x40 ≡ copied_entry 0 0 0 0x40 ∷ [] }
-    ensures behind { group (two_controls_past ++ Drop 0 0 false ∷ Resume 0 0 ∷ join 0 (whole_on 0 0x41 ∷ []) 0x41 ∷ Copied 0 0 0 0x41 ∷ join 0 (whole_on 0 0x42 ∷ []) 0x42 ∷ []) 0x42 ≡ copied_entry 0 0 0 0x41 ∷ written_entry 0 0 0x42 ∷ [] }
+    ensures after { group (two_controls_past ++ Drop 0 0 false ∷ Resume 0 0 ∷ join 0 (whole_on 0 0x41 ∷ []) 0x41 ∷ Copied 0 0 0 0x41 ∷ join 0 (whole_on 0 0x42 ∷ []) 0x42 ∷ []) 0x42 ≡ copied_entry 0 0 0 0x41 ∷ written_entry 0 0 0x42 ∷ [] }
 {}
 
 /// An entry that waits is kept through a carry and a forget, so that a later drop takes it out. A carry keeps what was wanted.

@@ -52,7 +52,7 @@ fn form(cut: u64) -> Event
     Event::Form { cut: Stamp(cut) }
 }
 
-/// The last of sixteen controls counts as the first does.
+/// The last of sixteen controllers counts as the first does.
 #[test]
 fn sixteen_controls_count(rt: HostRuntime) {
     let events = [

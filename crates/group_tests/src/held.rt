@@ -1,4 +1,4 @@
-//! A batch of the longest updates fills a control.
+//! A batch of the longest updates fills a controller.
 
 ghost use Rattle.std.specs.Prelude.{◌≡◌, ◌<◌, ◌≤◌, IsTrue};
 ghost use Rattle.ckd_track.specs.Effects.{keeps_rules};
@@ -15,7 +15,7 @@ use std::alloc::Global;
 use std::process::Abort;
 use tod_stamp::Stamp;
 
-/// A state of one control, with room for 32 of the longest updates, that carries its volume 0 of two tracks.
+/// A state of one controller, with room for 32 of the longest updates, that carries its volume 0 of two tracks.
 fn carried(rt: &impl Abort, alloc: Global) -> GroupState
     ensures { CarriesFirst 0 result }
 {
@@ -83,7 +83,7 @@ fn join(
     }
 }
 
-/// Forms a group at a time that the control has told.
+/// Forms a group at a time that the controller has reported.
 fn form(rt: &impl Abort, state: &mut GroupState, time: u64, out: &mut Formed)
     requires ready { CarriesFirst time state.old }
     requires room { 1 ≤ out.old.controls }

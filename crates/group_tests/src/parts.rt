@@ -47,7 +47,7 @@ fn assert_united(rt: &impl Abort, alloc: Global, last: u32) {
     assert_set(rt, &map, 0, None);
 }
 
-/// Sets that end with a word and behind one, with eight words and behind them, and the set of the largest volume.
+/// Sets that end with a word and after one, with eight words and after them, and the set of the largest volume.
 #[test]
 fn sets_have_their_tracks(rt: HostRuntime) {
     for last in [63, 64, 511, 512, 14_999_999] {

@@ -87,7 +87,7 @@ fn an_entry_needs_its_length_in_blocks(rt: HostRuntime) {
     assert_needs(&rt, alloc, longest(&rt, alloc), 111, true);
 }
 
-/// Pops a queue of at most 32 entries into an empty group of two controls.
+/// Pops a queue of at most 32 entries into an empty group of two controllers.
 fn pop(rt: &impl Abort, queue: &mut Queue, out: &mut Formed)
     requires { out.old.controls ≡ 2 }
 {

@@ -31,7 +31,7 @@ fn join(rt: &impl Abort, state: &mut GroupState, batch: Batch)
     assert!(rt; matches!(&joined, Joining::Joined));
 }
 
-/// Volume 0 of a control begins to be carried with a plan of two tracks that wants none.
+/// Volume 0 of a controller begins to be carried with a plan of two tracks that wants none.
 pub fn carry(rt: &impl Abort, alloc: Global, state: &mut GroupState, control: u16)
     requires control { control < length state.old.controls }
     requires may { MayCarry (control_at state.old control) 0 none_wanted }
@@ -54,7 +54,7 @@ fn form(rt: &impl Abort, state: &mut GroupState, limit: u64, out: &mut Formed)
     assert_eq!(rt; formed, Forming::Formed);
 }
 
-/// The cut that a form took, and control and track of each entry that it gave.
+/// The cut that a form took, and controller and track of each entry that it gave.
 fn assert_shown(rt: &impl Abort, out: &Formed, cut: u64, shown: &[(u16, u32)]) {
     assert_same(rt, &out.cut(), &Stamp(cut), &shown);
     assert!(rt; out.count() as usize == shown.len());
@@ -82,7 +82,7 @@ fn long_update(rt: &impl Abort, alloc: Global) -> Batch
     batch_of(rt, alloc, 0, write, 9)
 }
 
-/// A volume of control 0 begins to be carried with a plan that wants both of its tracks.
+/// A volume of controller 0 begins to be carried with a plan that wants both of its tracks.
 pub fn carry_wanted(rt: &impl Abort, alloc: Global, state: &mut GroupState, volume: u16)
     requires control { 0 < length state.old.controls }
     requires may { MayCarry (control_at state.old 0) volume both_wanted }
@@ -94,7 +94,7 @@ pub fn carry_wanted(rt: &impl Abort, alloc: Global, state: &mut GroupState, volu
     carried.expect(rt, "memory");
 }
 
-/// A wanted track of control 0 that fits is copied at the floor.
+/// A wanted track of controller 0 that fits is copied at the floor.
 fn copy(rt: &impl Abort, state: &mut GroupState, volume: u16, track: u32, at: u64, slot: &Slot)
     requires control { 0 < length state.old.controls }
     requires may { MayCopy (control_at state.old 0) volume track (record { 0 = at }) }
@@ -125,7 +125,7 @@ fn three_writes(rt: &impl Abort, alloc: Global) -> Batch
     }
 }
 
-/// The slower control holds the cut back. A form without news gives nothing.
+/// The slower controller holds the cut back. A form without news gives nothing.
 #[test]
 fn the_cut_follows_the_slower_control(rt: HostRuntime) {
     let alloc = rt.alloc();
@@ -144,7 +144,7 @@ fn the_cut_follows_the_slower_control(rt: HostRuntime) {
     assert_same(&rt, &formed, &Forming::Nothing, &"formed again");
 }
 
-/// What a batch of two blocks is answered where a control has two records and so many blocks, when its volume is carried.
+/// What a batch of two blocks is answered where a controller has two records and so many blocks, when its volume is carried.
 fn assert_joined(rt: &impl Abort, alloc: Global, blocks: u32, held: Option<Room>)
     requires { blocks ≤ 3552 }
 {

@@ -72,7 +72,7 @@ pub fn breaks()
     ensures at_the_limit { (shown_at (record { 0 = 0x40 }) (group_after state_of_two (Break 1 (record { 0 = 0x40 }) ReadFault))).breaks ≡ (1, record { 0 = 0x40 }, ReadFault) ∷ [] }
 {}
 
-/// Entries of one stamp stand by control, then by position, in whichever order they were joined.
+/// Entries of one stamp stand by controller, then by position, in whichever order they were joined.
 pub fn equal_stamps()
     ensures { tracks_shown (shown_at (record { 0 = 9 }) (after_all (new_group 4 WRITES_OF_RUN BLOCKS_OF_QUEUE)
         (Carry 0 0 none_wanted ∷ Carry 1 0 none_wanted ∷ Carry 2 0 none_wanted ∷ Carry 3 0 none_wanted

@@ -23,7 +23,7 @@ use turn_group::{MoverSeat, ReaderSeat, TurnGroup};
 /// How many batches each reader joins.
 const BATCHES: u64 = 20;
 
-/// A state of three controls, each of which carries its volume 0 of two tracks.
+/// A state of three controllers, each of which carries its volume 0 of two tracks.
 fn three_controls(rt: &impl Abort, alloc: Global) -> GroupState
     ensures { result ≡ started }
 {
@@ -49,7 +49,7 @@ fn read_all<R: Abort + Wait>(rt: &R, alloc: Global, group: &TurnGroup, seat: &mu
     }
 }
 
-/// Notes the control and the stamp of each entry that a group shows.
+/// Notes the controller and the stamp of each entry that a group shows.
 fn note_shown(rt: &impl Abort, out: &Formed, shown: &mut Vec<(u16, Stamp)>) {
     for place in 0..out.count() {
         let head = out.head(place);
@@ -316,7 +316,7 @@ fn every_call_takes_its_turn(rt: HostRuntime) {
     assert_same(&rt, &end.next_wanted(0), &None, &"dropped");
 }
 
-/// A table of so many controls has a seat for each, and gives back its state.
+/// A table of so many controllers has a seat for each, and gives back its state.
 fn assert_made<R: Abort + Wait>(rt: &R, alloc: Global, controls: u16)
     requires some { 1 ≤ controls }
     requires few { controls ≤ 16 }

@@ -11,7 +11,7 @@ use Rattle.ckd_track.specs.Tracks.{is_track}
 use Rattle.ckd_track.specs.Effects.{apply}
 use Rattle.ckd_track.specs.SlotPlaces.{slot_track}
 use Rattle.xrc_journal.specs.declared.job.VolumeJob.{VolumeJob}
-use Rattle.xrc_journal.specs.Items.{Item, Form, Earlier, anywhere, behind, none_earlier, is_item, is_drawn, may_draw, are_items_behind, AreItems}
+use Rattle.xrc_journal.specs.Items.{Item, Form, Earlier, anywhere, earlier_after, none_earlier, is_item, is_drawn, may_draw, are_items_after, AreItems}
 use Rattle.xrc_journal.specs.Items.Item.{Image, Delta, Pair, Gone}
 use Rattle.xrc_journal.specs.Contents.{HasItem, content_through, is_of_track}
 use Rattle.xrc_journal.specs.Jobs.{FailsByCount, OnVolume}
@@ -52,15 +52,15 @@ may_too : (slot deltas drawn : Bool) → slot ≡ true → not drawn ≡ true �
 may_too slot true drawn there free = λ i. there i && true
 may_too slot false drawn there free = λ i. there i && free i
 
-allowed_behind : (form : Form) (earlier : Earlier) (items : List Item) → list_all is_image items ≡ true → ((device x : ℕ) → HasItem device x items → IsTrue (form.has_slot device x)) → are_items_behind anywhere earlier items ≡ true
-    → are_items_behind form earlier items ≡ true
-allowed_behind form earlier [] all slots keep = refl
-allowed_behind form earlier (Image d x recs ∷ items) all slots keep =
-    let parts = and_parts (is_item anywhere earlier (Image d x recs)) (are_items_behind anywhere (behind (Image d x recs) earlier) items) keep in
+allowed_after : (form : Form) (earlier : Earlier) (items : List Item) → list_all is_image items ≡ true → ((device x : ℕ) → HasItem device x items → IsTrue (form.has_slot device x)) → are_items_after anywhere earlier items ≡ true
+    → are_items_after form earlier items ≡ true
+allowed_after form earlier [] all slots keep = refl
+allowed_after form earlier (Image d x recs ∷ items) all slots keep =
+    let parts = and_parts (is_item anywhere earlier (Image d x recs)) (are_items_after anywhere (earlier_after (Image d x recs) earlier) items) keep in
     let own : HasItem d x (Image d x recs ∷ items) = (λ i. (same d i && same x i) || list_any (is_of_track d x) items) in
-    and_from (is_item form earlier (Image d x recs)) (are_items_behind form (behind (Image d x recs) earlier) items)
+    and_from (is_item form earlier (Image d x recs)) (are_items_after form (earlier_after (Image d x recs) earlier) items)
     (other_rule (not earlier.late) (nat_lt d (2 ^ 16)) (nat_lt x (2 ^ 32)) (may_draw anywhere earlier d x) (is_track recs) (may_draw form earlier d x) parts.0 (λ free. may_too (form.has_slot d x) form.deltas (is_drawn earlier.drawn d x) (slots d x own) free))
-    (allowed_behind form (behind (Image d x recs) earlier) items all (λ e y has. slots e y (or_right (is_of_track e y (Image d x recs)) (list_any (is_of_track e y) items) has)) parts.1)
+    (allowed_after form (earlier_after (Image d x recs) earlier) items all (λ e y has. slots e y (or_right (is_of_track e y (Image d x recs)) (list_any (is_of_track e y) items) has)) parts.1)
   where
     same : (n : ℕ) → (n == n) ≡ true
     same n = eq-eqb n n refl
@@ -68,12 +68,12 @@ allowed_behind form earlier (Image d x recs ∷ items) all slots keep =
     or_right : (a b : Bool) → b ≡ true → (a || b) ≡ true
     or_right true b e = refl
     or_right false b e = e
-allowed_behind form earlier (Delta d x kind ∷ items) all slots keep = absurd cc
-allowed_behind form earlier (Pair row ∷ items) all slots keep = absurd cc
-allowed_behind form earlier (Gone d ∷ items) all slots keep = absurd cc
+allowed_after form earlier (Delta d x kind ∷ items) all slots keep = absurd cc
+allowed_after form earlier (Pair row ∷ items) all slots keep = absurd cc
+allowed_after form earlier (Gone d ∷ items) all slots keep = absurd cc
 
 pub allowed_of : (items : List Item) → list_all is_image items ≡ true → AreItems anywhere items → AreItemsWhereAllowed items
-allowed_of items all keep form slots = allowed_behind form none_earlier items all slots keep
+allowed_of items all keep form slots = allowed_after form none_earlier items all slots keep
 
 module _ {D : Type 0} (state : D → Standing) (tells : Type 0) (rows : List PairRow) (entries : List WaitingEntry) where
   pub items_are : (jobs : List (VolumeJob D)) (items : List Item) → AreFormed state tells rows entries entries jobs items → (device x : ℕ) → HasItem device x items ↔ (HasEntry rows device x entries × ¬ HasFailed device jobs)

@@ -56,7 +56,7 @@ none_by_link head g entries earlier at to none link shares there off q e low lt 
   | inr away ↦ elim (cases_lt q at) [
     | inl before ↦
         none_beside head entries (earlier + 1) at (subst (λ (b : ℕ). NoneIn (map head_in entries) (earlier + 1) at b) shares link.2) q e (omega (arith, low, away)) before is
-    | inr behind ↦ none q e behind lt is
+    | inr after ↦ none q e after lt is
   ]
 ]
 
@@ -65,7 +65,7 @@ pub none_before : (head : EntryHead) (entries : List WaitingEntry) (at to : ℕ)
     → NoneBeside head entries 0 to
 none_before head entries at to none link shares q e low lt is = elim (cases_lt q at) [
   | inl before ↦ none_beside head entries 0 at (subst (λ (b : ℕ). NoneIn (map head_in entries) 0 at b) shares link) q e low before is
-  | inr behind ↦ none q e behind lt is
+  | inr after ↦ none q e after lt is
 ]
 
 -- nothing is left to do between
@@ -88,5 +88,5 @@ apply_forth head place at next entries first now so_far goes within shares = eli
   | inl linked ↦
       apply_gap head place (at + 1) (next - (at + 1)) next entries first now (omega (arith, goes.rises)) so_far
       (none_beside head entries (at + 1) next (subst (λ (b : ℕ). NoneIn (map head_in entries) (at + 1) next b) (shares linked) goes.none)) within
-  | inr behind ↦ subst (λ (n : ℕ). Applying head place n entries first now) (sym (goes.one_on behind)) so_far
+  | inr after ↦ subst (λ (n : ℕ). Applying head place n entries first now) (sym (goes.one_on after)) so_far
 ]

@@ -11,7 +11,7 @@ use Rattle.ckd_track.specs.declared.rec.Rec.{Rec}
 use Rattle.ckd_track.specs.declared.write.Kind.{Kind}
 use Rattle.ckd_track.specs.SlotPlaces.{slot_track}
 use Rattle.xrc_journal.specs.declared.job.VolumeJob.{VolumeJob}
-use Rattle.xrc_journal.specs.Items.{Item, Earlier, behind, behind_all, is_drawn, item_spelling, body_spelling}
+use Rattle.xrc_journal.specs.Items.{Item, Earlier, earlier_after, earlier_after_all, is_drawn, item_spelling, body_spelling}
 use Rattle.xrc_journal.specs.Items.Item.{Image, Delta, Pair, Gone}
 use Rattle.xrc_journal.specs.Contents.{content_by, content_through, is_of_track}
 use Rattle.xrc_journal.specs.Jobs.{OnVolume}
@@ -103,19 +103,19 @@ module _ {D : Type 0} (state : D → Standing) where
 
 -- ---- bodies of images
 
-pub late_images : (items : List Item) (earlier : Earlier) → list_all is_image items ≡ true → (behind_all items earlier).late ≡ earlier.late
+pub late_images : (items : List Item) (earlier : Earlier) → list_all is_image items ≡ true → (earlier_after_all items earlier).late ≡ earlier.late
 late_images [] earlier all = refl
-late_images (Image d x recs ∷ items) earlier all = late_images items (behind (Image d x recs) earlier) all
+late_images (Image d x recs ∷ items) earlier all = late_images items (earlier_after (Image d x recs) earlier) all
 late_images (Delta d x kind ∷ items) earlier all = absurd cc
 late_images (Pair row ∷ items) earlier all = absurd cc
 late_images (Gone d ∷ items) earlier all = absurd cc
 
 pub not_drawn : (device x : ℕ) (items : List Item) (earlier : Earlier) → list_all is_image items ≡ true → list_any (is_of_track device x) items ≡ false → is_drawn earlier.drawn device x ≡ false
-    → is_drawn (behind_all items earlier).drawn device x ≡ false
+    → is_drawn (earlier_after_all items earlier).drawn device x ≡ false
 not_drawn device x [] earlier all none before = before
 not_drawn device x (Image d y recs ∷ items) earlier all none before =
     let parts = or_parts (d == device && y == x) (list_any (is_of_track device x) items) none in
-    not_drawn device x items (behind (Image d y recs) earlier) all parts.1 (λ i. parts.0 i || before i)
+    not_drawn device x items (earlier_after (Image d y recs) earlier) all parts.1 (λ i. parts.0 i || before i)
 not_drawn device x (Delta d y kind ∷ items) earlier all none before = absurd cc
 not_drawn device x (Pair row ∷ items) earlier all none before = absurd cc
 not_drawn device x (Gone d ∷ items) earlier all none before = absurd cc

@@ -33,7 +33,7 @@ kind_there (x ∷ entries) (k ∷ kinds) (suc i) e spelled is =
     let next : suc (i + 1) ≡ suc i + 1 = omega arith in
     record { kind = t.kind; spelled = t.spelled; rest = t.rest ∙ ap (λ (n : ℕ). t.kind ∷ drop n (k ∷ kinds)) next }
 
--- what the entry at a place does, and those behind it
+-- what the entry at a place does, and those after it
 pub changed_there : (on : WaitingEntry → Bool) (entries : List WaitingEntry) (kinds : List Kind) (i : ℕ) (e : WaitingEntry) (t : KindThere kinds i e) (old : Option (List Rec)) → slice_get entries i ≡ Some e
     → changed_where on (drop i entries) (drop i kinds) old ≡ changed_where on (drop (i + 1) entries) (drop (i + 1) kinds) (changed_by (on e) t.kind old)
 changed_there on entries kinds i e t old is =
@@ -57,15 +57,15 @@ begins_same e (Format after given) old recs spelled begins = ap (λ (l : List Re
 begins_same e (Whole track) old recs spelled begins = refl
 
 -- Entries that aren't on the track leave it.
-pub changed_behind : (on : WaitingEntry → Bool) (i : ℕ) (entries : List WaitingEntry) (kinds : List Kind) (old : Option (List Rec)) → AreSpelled entries kinds → list_any on (take i entries) ≡ false
+pub changed_after : (on : WaitingEntry → Bool) (i : ℕ) (entries : List WaitingEntry) (kinds : List Kind) (old : Option (List Rec)) → AreSpelled entries kinds → list_any on (take i entries) ≡ false
     → changed_where on entries kinds old ≡ changed_where on (drop i entries) (drop i kinds) old
-changed_behind on zero entries kinds old spelled none = refl
-changed_behind on (suc i) [] [] old spelled none = refl
-changed_behind on (suc i) [] (k ∷ kinds) old spelled none = absurd spelled
-changed_behind on (suc i) (e ∷ entries) [] old spelled none = absurd spelled
-changed_behind on (suc i) (e ∷ entries) (k ∷ kinds) old spelled none =
+changed_after on zero entries kinds old spelled none = refl
+changed_after on (suc i) [] [] old spelled none = refl
+changed_after on (suc i) [] (k ∷ kinds) old spelled none = absurd spelled
+changed_after on (suc i) (e ∷ entries) [] old spelled none = absurd spelled
+changed_after on (suc i) (e ∷ entries) (k ∷ kinds) old spelled none =
     let parts = or_parts (on e) (list_any on (take i entries)) none in
-    ap (λ (t : Option (List Rec)). changed_where on entries kinds t) (changed_off (on e) k old parts.0) ∙ changed_behind on i entries kinds old spelled.1 parts.1
+    ap (λ (t : Option (List Rec)). changed_where on entries kinds t) (changed_off (on e) k old parts.0) ∙ changed_after on i entries kinds old spelled.1 parts.1
 
 pub changed_none : (on : WaitingEntry → Bool) (entries : List WaitingEntry) (kinds : List Kind) (old : Option (List Rec)) → list_any on entries ≡ false → changed_where on entries kinds old ≡ old
 changed_none on [] kinds old none = refl
@@ -89,7 +89,7 @@ any_agree on other (suc i) (e ∷ entries) same = λ j. same.0 j || any_agree on
 
 -- ---- the entries of one track applied to a slot
 
--- What is left to do to a slot is what the entry at the place and those behind it do.
+-- What is left to do to a slot is what the entry at the place and those after it do.
 abbrev pub Applying : EntryHead → (place later : ℕ) → List WaitingEntry → (first now : List Rec) → Type 0
 Applying head place later entries first now = (old : Option (List Rec)) (kinds : List Kind) → StartsFromTrack head old first → AreSpelled entries kinds
     → changed_where (is_beside head) (drop later entries) (drop later kinds) (Some now) ≡ changed_where (is_beside head) (drop place entries) (drop place kinds) old

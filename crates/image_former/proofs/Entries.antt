@@ -95,18 +95,18 @@ one_row one two (q ∷ rows) r s apart first second same = by_first (λ a b. one
     there : (test : PairRow → Bool) (t : PairRow) → test q ≡ true → find test (q ∷ rows) ≡ Some t → q ≡ t
     there test t passes is = same_Some q t ((λ j. cond (sym passes j) (Some q) (find test rows)) ∙ is)
 
-    behind : (test : PairRow → Bool) (t : PairRow) → test q ≡ false → find test (q ∷ rows) ≡ Some t → find test rows ≡ Some t
-    behind test t fails is = (λ j. cond (sym fails j) (Some q) (find test rows)) ∙ is
+    after : (test : PairRow → Bool) (t : PairRow) → test q ≡ false → find test (q ∷ rows) ≡ Some t → find test rows ≡ Some t
+    after test t fails is = (λ j. cond (sym fails j) (Some q) (find test rows)) ∙ is
 
     by_first : (find one rows ≡ Some r → find two rows ≡ Some s → r ≡ s) → (a b : Bool) → one q ≡ a → two q ≡ b → r ≡ s
     by_first more true true a b = sym (there one r a first) ∙ there two s b second
     by_first more true false a b =
         let is = there one r a first in
-        absurd (clash_here q s (found_fails two (clashes q) rows s (behind two s b second) alone) (ap (λ (t : PairRow). t.device) is ∙ same))
+        absurd (clash_here q s (found_fails two (clashes q) rows s (after two s b second) alone) (ap (λ (t : PairRow). t.device) is ∙ same))
     by_first more false true a b =
         let is = there two s b second in
-        absurd (clash_here q r (found_fails one (clashes q) rows r (behind one r a first) alone) (ap (λ (t : PairRow). t.device) is ∙ sym same))
-    by_first more false false a b = more (behind one r a first) (behind two s b second)
+        absurd (clash_here q r (found_fails one (clashes q) rows r (after one r a first) alone) (ap (λ (t : PairRow). t.device) is ∙ sym same))
+    by_first more false false a b = more (after one r a first) (after two s b second)
 
 -- the row of an entry that has one
 pub row_and : (o : Option PairRow) (P : ℕ → Type 0) → IsSomeAnd (row_device o) P → (row : PairRow) × (o ≡ Some row) × P row.device
@@ -121,7 +121,7 @@ both_agree false false one two = refl
 row_by : (rows : List PairRow) (h g : EntryHead) → h.control ≡ g.control → h.volume ≡ g.volume → find (is_row_of h) rows ≡ find (is_row_of g) rows
 row_by rows h g control volume = λ i. find (λ (row : PairRow). row.control == control i && row.volume == volume i) rows
 
--- With rows that don't clash, the entries on the track of a head are those that name its control, volume and track.
+-- With rows that don't clash, the entries on the track of a head are those that name its controller, volume and track.
 pub on_is_beside : (rows : List PairRow) (h : EntryHead) (r : PairRow) (e : WaitingEntry) (s : PairRow) → none_clash rows ≡ true → find (is_row_of h) rows ≡ Some r → entry_row rows e ≡ Some s
     → is_entry_on rows r.device h.track e ≡ is_beside h e
 on_is_beside rows h r e s apart has other = ap (λ (o : Option PairRow). is_device r.device (row_device o) && e.head.track == h.track) other ∙ both_agree (s.device == r.device && e.head.track == h.track) (is_beside h e) forth back

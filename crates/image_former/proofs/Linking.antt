@@ -167,5 +167,5 @@ goes_on heads place next is high within = record {
   within = omega (arith, is, within);
   none = λ q low lt. absurd (omega (arith, low, lt, is));
   shares = λ lt. absurd (omega (arith, lt, high, is));
-  one_on = λ behind. is;
+  one_on = λ after. is;
 }

@@ -26,7 +26,7 @@ use Rattle.image_former.specs.Jobs.{is_job_of, is_failed_of, HasOneJob, HoldsSlo
 use Rattle.image_former.specs.Steps.{is_beside, DoesEntries, HoldsSlot, OfBytes, Goes, GoesBy, AreReady, AreFormed}
 use Rattle.image_former.proofs.Lists.{take_there, find_here}
 use Rattle.image_former.proofs.Entries.{head_in, form_at, row_and, on_is_beside}
-use Rattle.image_former.proofs.Changing.{changed_behind, changed_agree, any_agree}
+use Rattle.image_former.proofs.Changing.{changed_after, changed_agree, any_agree}
 use Rattle.image_former.proofs.Going.{by_here, ready_after, zip_set}
 use Rattle.image_former.proofs.Bodying.{sole_failed, of_map, of_after, late_images, not_drawn, formed_still, formed_more, formed_jobs}
 
@@ -164,7 +164,7 @@ module _ {D : Type 0} (state : D → Standing) (tells : Type 0) (rows : List Pai
 
         does_all : (old : Option (List Rec)) (recs : List Rec) → DoesEntries head place entries old recs → (kinds : List Kind) → AreSpelled entries kinds → Some recs ≡ changed_through rows found.0.device head.track entries kinds old
         does_all old recs does kinds spelled =
-            does kinds spelled ∙ sym (changed_behind (is_beside head) place entries kinds old spelled first) ∙ changed_agree (is_beside head) (is_entry_on rows found.0.device head.track) entries kinds old agree
+            does kinds spelled ∙ sym (changed_after (is_beside head) place entries kinds old spelled first) ∙ changed_agree (is_beside head) (is_entry_on rows found.0.device head.track) entries kinds old agree
 
         pub formed_then : (items : List Item) (k : VolumeJob D) → (get_or jobs i j).failed ≡ false → new.failed ≡ false → AllZip (GoesBy state tells rows entries) jobs (set jobs i new)
             → (tells → OfBytes state (λ bytes. DoesEntries head place entries (slot_track bytes head.track) new.slot) (get_or jobs i j).disk)

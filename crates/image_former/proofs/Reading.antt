@@ -5,7 +5,7 @@ use Rattle.ckd_track.specs.declared.fault.ImageError.{ImageError}
 use Rattle.ckd_track.specs.declared.rec.Rec.{Rec}
 use Rattle.ckd_track.specs.Images.{image_at}
 use Rattle.ckd_track.specs.SlotPlaces.{slot_place, slot_end, slot_track, track_read}
-use Rattle.ckd_track.proofs.SlotTracks.{behind_is, image_same}
+use Rattle.ckd_track.proofs.SlotTracks.{after_is, image_same}
 use Rattle.xrc_edge.specs.Causes.{HasCause}
 use Rattle.xrc_edge.specs.declared.outcome.Failed.{Failed}
 use Rattle.crash_plant.specs.Moments.{Standing, Same}
@@ -20,7 +20,7 @@ slot_is x volume fits =
     let q = slot_end x in
     let t = slice_range volume p q in
     let long : 56670 ≤ length t = omega (arith, fits, length-take (q - p) (drop p volume), length-drop p volume) in
-    ap (λ (l : List ℕ). track_read (image_at l)) (behind_is p q volume) ∙ image_same t (drop (q - p) (drop p volume)) [] long ∙ ap (λ (l : List ℕ). track_read (image_at l)) (append-nil t)
+    ap (λ (l : List ℕ). track_read (image_at l)) (after_is p q volume) ∙ image_same t (drop (q - p) (drop p volume)) [] long ∙ ap (λ (l : List ℕ). track_read (image_at l)) (append-nil t)
 
 -- A slot that was loaded has the track that its bytes tell, or the empty one.
 loaded : (bytes : List ℕ) (result : Result ℕ ImageError) (new : List Rec) → IfOk result (λ count. image_at bytes ≡ Ok (new, drop count bytes)) → IfErr result (λ error. image_at bytes ≡ Err error) → OnErr result (new ≡ [])
@@ -44,11 +44,11 @@ pub front_is : (x place q : ℕ) (volume bytes rest : List ℕ) (track : List Re
     → slot_track volume x ≡ Some track
 front_is x place q volume bytes rest track at are is =
     let p = slot_place x in
-    let behind = drop (q - p) (drop p volume) in
+    let after = drop (q - p) (drop p volume) in
     let found : slice_range volume p q ≡ bytes = ap (λ (s : ℕ). slice_range volume s q) (sym at) ∙ sym are in
-    ap (λ (l : List ℕ). track_read (image_at l)) (behind_is p q volume)
-    ∙ ap (λ (l : List ℕ). track_read (image_at (l ++ behind))) found
-    ∙ ap track_read (image_in_front bytes behind rest track is)
+    ap (λ (l : List ℕ). track_read (image_at l)) (after_is p q volume)
+    ∙ ap (λ (l : List ℕ). track_read (image_at (l ++ after))) found
+    ∙ ap track_read (image_in_front bytes after rest track is)
 
 -- ---- two reads
 

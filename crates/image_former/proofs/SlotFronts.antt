@@ -15,7 +15,7 @@ abbrev pub with_more : {X : Type 0} → (more : List ℕ) → Result (X × List 
 with_more more (Ok read) = Ok (read.0, read.1 ++ more)
 with_more more (Err bad) = Err bad
 
--- The bytes end too early for a reader, or it reads the same whatever stands behind.
+-- The bytes end too early for a reader, or it reads the same whatever stands after them.
 abbrev pub EndsOrReads : {X : Type 0} → (List ℕ → Result (X × List ℕ) ImageError) → (front more : List ℕ) → Type 0
 EndsOrReads f front more = (f front ≡ Err Short) ⊎ (f (front ++ more) ≡ with_more more (f front))
 
@@ -60,9 +60,9 @@ record_reads place last room (a ∷ b ∷ c ∷ d ∷ t) more = elim (head_reads
     there = le-ltb _ _ (omega arith)
 
 -- a record before those that were read
-behind_first : (r : Rec) (more : List ℕ) (read : Result (List Rec × List ℕ) ImageError) → (with_more more read >>= λ others. Ok (r ∷ others.0, others.1)) ≡ with_more more (read >>= λ others. Ok (r ∷ others.0, others.1))
-behind_first r more (Ok found) = refl
-behind_first r more (Err bad) = refl
+after_first : (r : Rec) (more : List ℕ) (read : Result (List Rec × List ℕ) ImageError) → (with_more more read >>= λ others. Ok (r ∷ others.0, others.1)) ≡ with_more more (read >>= λ others. Ok (r ∷ others.0, others.1))
+after_first r more (Ok found) = refl
+after_first r more (Err bad) = refl
 
 records_read : (count place last room : ℕ) (t more : List ℕ) → EndsOrReads (records_at count place last room) t more
 unfolding records_at
@@ -82,18 +82,18 @@ records_read (suc count) place last room t more = elim (record_reads place last 
     by_first : (read : Result (Rec × List ℕ) ImageError) → record_at place last room t ≡ read → record_at place last room (t ++ more) ≡ with_more more (record_at place last room t)
         → ((first : Rec × List ℕ) → EndsOrReads (records_at count (place + length (record_spelling first.0)) first.0.number (room - record_size first.0)) first.1 more)
         → EndsOrReads (records_at (suc count) place last room) t more
-    by_first (Err bad) is reads behind = inr (
+    by_first (Err bad) is reads after = inr (
         ap (λ (x : Result (Rec × List ℕ) ImageError). x >>= next) reads
         ∙ ap (λ (x : Result (Rec × List ℕ) ImageError). with_more more x >>= next) is
         ∙ sym (ap (λ (x : Result (Rec × List ℕ) ImageError). with_more more (x >>= next)) is)
         )
-    by_first (Ok first) is reads behind = elim (behind first) [
+    by_first (Ok first) is reads after = elim (after first) [
       | inl ends ↦ inl (ap (λ (x : Result (Rec × List ℕ) ImageError). x >>= next) is ∙ ap (λ (x : Result (List Rec × List ℕ) ImageError). x >>= λ others. Ok (first.0 ∷ others.0, others.1)) ends)
       | inr same ↦ inr (
           ap (λ (x : Result (Rec × List ℕ) ImageError). x >>= next) reads
           ∙ ap (λ (x : Result (Rec × List ℕ) ImageError). with_more more x >>= next) is
           ∙ ap (λ (x : Result (List Rec × List ℕ) ImageError). x >>= λ others. Ok (first.0 ∷ others.0, others.1)) same
-          ∙ behind_first first.0 more (others_at first)
+          ∙ after_first first.0 more (others_at first)
           ∙ sym (ap (λ (x : Result (Rec × List ℕ) ImageError). with_more more (x >>= next)) is)
           )
     ]

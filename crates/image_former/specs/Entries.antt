@@ -5,7 +5,7 @@ use Rattle.pair_table.specs.declared.row.PairRow.{PairRow}
 use Rattle.pending_queue.specs.declared.head.EntryHead.{EntryHead}
 use Rattle.pending_queue.specs.Entries.{WaitingEntry}
 
--- whether a row is that of an entry: it has its control and volume
+-- whether a row is that of an entry: it has its controller and volume
 abbrev pub is_row_of : EntryHead → PairRow → Bool
 is_row_of head row = row.control == head.control && row.volume == head.volume
 

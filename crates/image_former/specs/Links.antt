@@ -46,7 +46,7 @@ pub record AreLinkedBack (heads : List EntryHead) (back : List ℕ) : Type 0 whe
   pub size : length back ≡ LINKED
   pub each : (p : ℕ) → p < linked_count heads → IsLast heads p (bucket_at heads p) (slice_index_or back p 0)
 
--- Where to look next for an entry of the track of the one at a place: among the linked entries at the next one of its bucket, behind
+-- Where to look next for an entry of the track of the one at a place: among the linked entries at the next one of its bucket, after
 -- them at the next one.
 pub record GoesForth (heads : List EntryHead) (place next : ℕ) : Type 0 where
   pub rises : place < next

@@ -28,7 +28,7 @@ same_track head other = head.control == other.control && head.volume == other.vo
 abbrev pub is_beside : EntryHead → WaitingEntry → Bool
 is_beside head entry = same_track head entry.head
 
--- What the entry at a place and those behind it on its track leave of the track was done to it.
+-- What the entry at a place and those after it on its track leave of the track was done to it.
 abbrev pub DoesEntries : EntryHead → (place : ℕ) → List WaitingEntry → (old : Option (List Rec)) → (new : List Rec) → Type 0
 DoesEntries head place entries old new = (kinds : List Kind) → AreSpelled entries kinds → Some new ≡ changed_where (is_beside head) (drop place entries) (drop place kinds) old
 
@@ -86,7 +86,7 @@ pub record AreReady {D : Type 0} (state : D → Standing) (rows : List PairRow) 
   pub one_job : All (HasOneJob rows jobs) entries
   pub slots : All (HasSlotsOf state rows entries) jobs
 
--- The items stand for the first entries of a group, and those behind them on their tracks.
+-- The items stand for the first entries of a group, and those after them on their tracks.
 abbrev pub StandForTracks : List PairRow → (entries done : List WaitingEntry) → (device : ℕ) → List Item → (volume : List ℕ) → Type 0
 StandForTracks rows entries done device items volume = (x : ℕ) (kinds : List Kind) → HasEntry rows device x done → AreSpelled entries kinds
     → content_through device x items (slot_track volume x) ≡ changed_through rows device x entries kinds (slot_track volume x)

@@ -24,7 +24,7 @@ use pending_queue::Formed;
 use xrc_edge::Failed;
 use xrc_journal::{Body, VolumeJob};
 
-/// Puts the image of the job's track behind the other images.
+/// Puts the image of the job's track after the other images.
 fn put_track<D>(job: &VolumeJob<D>, track: u32, body: &mut Body)
     requires room { length (body_spelling body.old.items) + 56669 ≤ body.old.room }
     requires early { are_late body.old.items ≡ false }

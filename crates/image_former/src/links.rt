@@ -6,7 +6,7 @@ ghost use Rattle.image_former.specs.Links.{AreLinked, AreLinkedBack, AreLinkedFo
 
 use pending_queue::{EntryHead, Formed};
 
-/// So many entries are linked: the most of a group of 16 controls. Those of a larger group behind them are gone through one by one.
+/// So many entries are linked: the most of a group of 16 controllers. Those of a larger group after them are gone through one by one.
 pub(crate) const LINKED: usize = 512;
 
 /// Entries are linked by the bucket of their track. There are twice as many as linked entries, so that few tracks share one.
@@ -15,7 +15,7 @@ const BUCKETS: usize = 1_024;
 /// The links of a group's entries, each to the next one and to the last one before it whose track has the same bucket.
 #[derive(Drop)]
 pub(crate) struct Links {
-    /// The place of the next one; where there is none, the place behind the linked entries.
+    /// The place of the next one; where there is none, the place after the linked entries.
     forth: [u16; LINKED],
     /// One more than the place of the last one before; 0 where there is none.
     back: [u16; LINKED],
@@ -58,8 +58,8 @@ fn link_forth(formed: &Formed) -> [u16; LINKED]
     let count = linked_count(formed);
     let mut forth = [count as u16; LINKED];
     let mut next = [count as u16; BUCKETS];
-    for behind in 0..count {
-        let place = count - 1 - behind;
+    for after in 0..count {
+        let place = count - 1 - after;
         let bucket = bucket_of(formed.head(place as u32));
         forth[place] = next[bucket];
         next[bucket] = place as u16;
@@ -100,7 +100,7 @@ impl Links {
     {
         match self.back[place as usize] {
             0 => None,
-            behind => Some(u32::from(behind - 1)),
+            after => Some(u32::from(after - 1)),
         }
     }
 }

@@ -63,7 +63,7 @@ fn read_job<D: Disk>(job: &mut VolumeJob<D>, track: u32) -> Result<(), Failed>
     read
 }
 
-/// Does to a track what the entry of this head at this place does, and those behind it on the same track.
+/// Does to a track what the entry of this head at this place does, and those after it on the same track.
 fn apply_entries(formed: &Formed, links: &Links, head: EntryHead, place: u32, slot: &mut Slot)
     requires linked { AreLinked (heads formed.now) links.now }
     requires within { place < length formed.now.entries }
@@ -80,7 +80,7 @@ fn apply_entries(formed: &Formed, links: &Links, head: EntryHead, place: u32, sl
     }
 }
 
-/// Makes the job's slot the track of the entry of this head at this place, as that entry and those behind it leave it. The
+/// Makes the job's slot the track of the entry of this head at this place, as that entry and those after it leave it. The
 /// track is read unless the entry replaces it.
 pub(crate) fn form_track<D: Disk>(
     formed: &Formed,

@@ -1,4 +1,4 @@
--- What a choice shows behind the first deeds bears the time that is meant then.
+-- What a choice shows after the first deeds bears the time that is meant then.
 use Rattle.std.proofs.Common.{◌≡◌, inl, inr, ℕ, ◌<◌, ◌≤◌, Bool, true, false, nat_lt, List, [], ◌∷◌, ◌++◌, length, take, Option, Some, None, refl, sym, ap, subst, ◌∙◌, arith}
 use Rattle.std.specs.Prelude.{option_map, is_none, not}
 use Rattle.std.specs.List.{Contains, list_any}
@@ -14,7 +14,7 @@ use Rattle.group_state.specs.Groups.{Group}
 use Rattle.group_state.specs.Runs.{Answer}
 use Rattle.row_changes.specs.Changes.{Timed, break_time_of}
 use Rattle.row_changes.specs.Spans.{all_broke, breaks_control}
-use Rattle.record_rows.specs.Deeds.{Deed, rows_behind, time_meant_behind}
+use Rattle.record_rows.specs.Deeds.{Deed, rows_after_deeds, time_meant_after}
 use Rattle.record_rows.specs.Deeds.Deed.{Logged, Changed, Marked}
 use Rattle.record_rows.proofs.Counting.{counts_append}
 use Rattle.site_means.specs.declared.means.Means.{Means}
@@ -22,12 +22,12 @@ use Rattle.site_means.specs.Images.{shape_of}
 use Rattle.site_means.specs.Sight.{content_of, means_of}
 use Rattle.xrc_command.specs.declared.line.Line.{Line}
 use Rattle.site_store.specs.DeedChanges.{DeedOfChanges, changes_of, deeds_of}
-use Rattle.site_store.specs.Deeds.{content_behind, means_behind, means_by_deed}
-use Rattle.site_store.specs.Exceptions.{Exceptions, excepted_behind}
-use Rattle.site_store.specs.Seeing.{SeesBehind}
+use Rattle.site_store.specs.Deeds.{content_after, means_after, means_by_deed}
+use Rattle.site_store.specs.Exceptions.{Exceptions, excepted_after}
+use Rattle.site_store.specs.Seeing.{SeesAfter}
 use Rattle.site_store.proofs.Turning.{means_are}
 use Rattle.consistency.specs.Stages.{HoldsPrimaries, IsTime, ScriptRun, Stage, breaks_of, tracks_of_row}
-use Rattle.fed_logs.specs.Deeds.{held_behind}
+use Rattle.fed_logs.specs.Deeds.{held_after_deeds}
 use Rattle.fed_logs.specs.LogLaws.{ReportsBreak}
 use Rattle.fed_logs.specs.Logs.{Sizes}
 use Rattle.fed_logs.specs.Moves.{HasRowIn, IsDuplex, Plans}
@@ -42,13 +42,13 @@ use Rattle.consistency.proofs.CountingHits.{leg_is_counted}
 use Rattle.consistency.proofs.Leading.{leads_on, leads_rise}
 use Rattle.consistency.proofs.Legs.{leg_may_be_meant}
 use Rattle.mover.specs.BorneLaws.{SeenDeedsBear, SeenDeedsShowPoints}
-use Rattle.mover.specs.Points.{AreSteps, LeavesSo, point_behind, point_by}
+use Rattle.mover.specs.Points.{AreSteps, LeavesSo, point_after_deeds, point_by}
 use Rattle.mover.specs.OwedTracks.{held_by_choice}
 use Rattle.mover.specs.Working.{Work, WorkBegins}
 use Rattle.mover.specs.SilentBreaks.{all_silent}
 use Rattle.mover.proofs.Breaking.{all_are, all_between, one_between, report_is_named}
 use Rattle.mover.proofs.Excepting.{excepts_none}
-use Rattle.mover.proofs.Held.{KeepPairs, content_behind_is, pairs_behind}
+use Rattle.mover.proofs.Held.{KeepPairs, content_after_is, pairs_after}
 use Rattle.mover.proofs.Leading.{count_deeds, fewer_hits, first_deeds, first_steps, flag_there, lead_there, rests_there, rows_there, silent_points, silent_steps, steps_keep_failed, steps_keep_pairs, time_there, trace_of_break}
 use Rattle.mover.proofs.Pairs.{Among, among_of, contains_of, pair_before}
 use Rattle.mover.proofs.Pairs.Among.{Here, Later}
@@ -62,7 +62,7 @@ below_among devices r _ below (Later s rows there) = below_among devices r rows 
 -- ---- the flag
 
 -- Deeds of steps leave the flag that is meant.
-flag_stays : (run : ScriptRun) (p : Point) (steps : List DeedOfChanges) → AreSteps run.level (breaks_of run) p steps → (means : Means) → means.ended ≡ p.is_ended → (means_behind (deeds_of steps) means).ended ≡ p.is_ended
+flag_stays : (run : ScriptRun) (p : Point) (steps : List DeedOfChanges) → AreSteps run.level (breaks_of run) p steps → (means : Means) → means.ended ≡ p.is_ended → (means_after (deeds_of steps) means).ended ≡ p.is_ended
 flag_stays run p [] each means is = is
 flag_stays run p (step ∷ steps) each means is = flag_stays run (point_by run.level p step) steps each.1 (means_by_deed means step.deed) (by step.deed each.0.leaves)
   where
@@ -118,7 +118,7 @@ module _ (start : PlantState) (k : Work) (w : WorkBegins start k) (n : ℕ) (le 
   first = take n deeds
 
   abbrev pub shows : Point
-  shows = point_behind run.level p (take n steps)
+  shows = point_after_deeds run.level p (take n steps)
 
   within : n ≤ length deeds
   within = let e = count_deeds steps in omega (arith, le, e)
@@ -129,21 +129,21 @@ module _ (start : PlantState) (k : Work) (w : WorkBegins start k) (n : ℕ) (le 
   pairs_first : KeepPairs p.rows first
   pairs_first = subst (KeepPairs p.rows) (first_deeds n steps) (steps_keep_pairs run.level (breaks_of run) p (take n steps) each_first)
 
-  time_is : shows.time ≡ time_meant_behind first p.time
-  time_is = time_there run.level p (take n steps) ∙ ap (λ (ds : List Deed). time_meant_behind ds p.time) (first_deeds n steps)
+  time_is : shows.time ≡ time_meant_after first p.time
+  time_is = time_there run.level p (take n steps) ∙ ap (λ (ds : List Deed). time_meant_after ds p.time) (first_deeds n steps)
 
-  rows_are : shows.rows ≡ rows_behind first p.rows
-  rows_are = rows_there run.level p (take n steps) ∙ ap (λ (ds : List Deed). rows_behind ds p.rows) (first_deeds n steps)
+  rows_are : shows.rows ≡ rows_after_deeds first p.rows
+  rows_are = rows_there run.level p (take n steps) ∙ ap (λ (ds : List Deed). rows_after_deeds ds p.rows) (first_deeds n steps)
 
   -- ---- tracks
 
-  module _ (c : Choice) (sees : SeesBehind start excepted p.rows first c) where
+  module _ (c : Choice) (sees : SeesAfter start excepted p.rows first c) where
     -- Each duplex row's device holds the primary's track.
-    holds : (k v : ℕ) (has : HasRowIn IsDuplex k v (rows_behind first p.rows)) → (x : ℕ) → x < tracks_of_row has.row → content_of start c has.row.device x ≡ Some (primary run.traces (time_meant_behind first p.time) k v x)
+    holds : (k v : ℕ) (has : HasRowIn IsDuplex k v (rows_after_deeds first p.rows)) → (x : ℕ) → x < tracks_of_row has.row → content_of start c has.row.device x ≡ Some (primary run.traces (time_meant_after first p.time) k v x)
     holds k v has x low =
-        let rows = rows_behind first p.rows in
+        let rows = rows_after_deeds first p.rows in
         let d = has.row.device in
-        let before = pair_before has.row p.rows rows (pairs_behind p.rows first pairs_first) (among_of rows has.row has.among) in
+        let before = pair_before has.row p.rows rows (pairs_after p.rows first pairs_first) (among_of rows has.row has.among) in
         let r = before.row in
         let device : r.device ≡ d = ap (λ (q : PairRow). q.device) before.pair in
         let control : r.control ≡ k = ap (λ (q : PairRow). q.control) before.pair ∙ has.control in
@@ -154,7 +154,7 @@ module _ (start : PlantState) (k : Work) (w : WorkBegins start k) (n : ℕ) (le 
         let at : size r.control r.volume ≡ size k v = ap (λ (i : ℕ). size i r.volume) control ∙ ap (size k) volume in
         omega (arith, m, same, at, low)) in
         let here = w.stands.holds sees.from sees.was in
-        let none : excepted_behind p.rows first excepted d x ≡ false =
+        let none : excepted_after p.rows first excepted d x ≡ false =
         excepts_none size run.traces log end (held_by_choice start sees.from p.rows) excepted s p.time p.rows done deeds w.logged.fed
         (record {
           begins = here;
@@ -168,15 +168,15 @@ module _ (start : PlantState) (k : Work) (w : WorkBegins start k) (n : ℕ) (le 
         let held = held_by_choice start a p.rows in
         let told = logs_bear size run.traces held s end log p.time p.rows done deeds w.logged.fed (w.stands.holds a seen.1) w.logged.kept n within k v has x sized in
         seen.2
-        ∙ ap (λ (e : ℕ). content_behind e x p.rows first (content_of start a e x)) (sym device)
-        ∙ content_behind_is r p.rows w.stands.apart before.among x start a first pairs_first
-        ∙ ap (λ (i : ℕ). held_behind first held i r.volume x) control
-        ∙ ap (λ (i : ℕ). held_behind first held k i x) volume
+        ∙ ap (λ (e : ℕ). content_after e x p.rows first (content_of start a e x)) (sym device)
+        ∙ content_after_is r p.rows w.stands.apart before.among x start a first pairs_first
+        ∙ ap (λ (i : ℕ). held_after_deeds first held i r.volume x) control
+        ∙ ap (λ (i : ℕ). held_after_deeds first held k i x) volume
         ∙ told
 
-    in_place : (rows : List PairRow) → rows ≡ rows_behind first p.rows → (time : ℕ) → time ≡ time_meant_behind first p.time → HoldsPrimaries run (shape_of start) c rows time
+    in_place : (rows : List PairRow) → rows ≡ rows_after_deeds first p.rows → (time : ℕ) → time ≡ time_meant_after first p.time → HoldsPrimaries run (shape_of start) c rows time
     in_place rows is time at place r there duplex track low =
-        let has : HasRowIn IsDuplex r.control r.volume (rows_behind first p.rows) = record {
+        let has : HasRowIn IsDuplex r.control r.volume (rows_after_deeds first p.rows) = record {
           row = r;
           among = subst (λ (all : List PairRow). Contains all r) is (place, slice_get_within rows place r there, get_or_from_slice_get rows place r r there);
           control = refl;
@@ -191,15 +191,15 @@ module _ (start : PlantState) (k : Work) (w : WorkBegins start k) (n : ℕ) (le 
     shown =
         let was = w.shows sees.from sees.was in
         let b = means_are first was.means in
-        let meant : means_of start c ≡ Some (means_behind first was.means) = sees.means ∙ ap (option_map (means_behind first)) was.defined in
+        let meant : means_of start c ≡ Some (means_after first was.means) = sees.means ∙ ap (option_map (means_after first)) was.defined in
         record {
-          means = means_behind first was.means;
+          means = means_after first was.means;
           defined = meant;
           session = b.session ∙ was.session;
           level = b.level ∙ was.level;
-          at = b.time ∙ ap (time_meant_behind first) was.at ∙ sym time_is;
-          rows = b.rows ∙ ap (rows_behind first) was.rows ∙ sym rows_are;
-          ended = ap (λ (ds : List Deed). (means_behind ds was.means).ended) (sym (first_deeds n steps)) ∙ flag_stays run p (take n steps) each_first was.means was.ended ∙ sym (flag_there run.level p (take n steps));
+          at = b.time ∙ ap (time_meant_after first) was.at ∙ sym time_is;
+          rows = b.rows ∙ ap (rows_after_deeds first) was.rows ∙ sym rows_are;
+          ended = ap (λ (ds : List Deed). (means_after ds was.means).ended) (sym (first_deeds n steps)) ∙ flag_stays run p (take n steps) each_first was.means was.ended ∙ sym (flag_there run.level p (take n steps));
           tracks = in_place shows.rows rows_are shows.time time_is;
         }
 
@@ -223,7 +223,7 @@ module _ (start : PlantState) (k : Work) (w : WorkBegins start k) (n : ℕ) (le 
   break_is_named : (k b : ℕ) → break_time_of k (breaks_of run) ≡ Some b → p.time ≤ b → b < shows.time → list_any (breaks_control k) changes ≡ true
   break_is_named k b is from to =
       let t = trace_of_break run.traces k b is in
-      let below : b < time_meant_behind first p.time = omega (arith, to, time_is) in
+      let below : b < time_meant_after first p.time = omega (arith, to, time_is) in
       let reports = breaks_come run.traces s end log p.time p.rows done deeds k b t.0 w.logged.fed w.logged.kept t.1 t.2 (w.logged.awaits k b is from) from n within below in
       report_is_named log line.time.0 (breaks_of run) k b is (let high = within_line in omega (arith, to, high)) p.rows (take n steps) (subst (ReportsBreak log k b p.rows) (sym (first_deeds n steps)) reports)
 
@@ -270,7 +270,7 @@ module _ (start : PlantState) (k : Work) (w : WorkBegins start k) (n : ℕ) (le 
       leg_may_be_meant run stage w.at_line.goes_on leg leg_there in_time (leg_is_counted run stage leg leg_there counted)
       (ap (λ (o : Option Line). may_rest (not (is_none o)) shows) w.at_line.heard ∙ rests_there run.level (breaks_of run) p (take n steps) w.at_line.rests each_first)
 
-  pub bears : (c : Choice) → SeesBehind start excepted p.rows first c → Bears run stage (shape_of start) c (time_meant_behind first p.time)
+  pub bears : (c : Choice) → SeesAfter start excepted p.rows first c → Bears run stage (shape_of start) c (time_meant_after first p.time)
   bears c sees = subst (Bears run stage (shape_of start) c) time_is (points_bear run stage (shape_of start) shows c (shown c sees) may_be_meant)
 
 pub seen_deeds_show_points : (start : PlantState) → SeenDeedsShowPoints start

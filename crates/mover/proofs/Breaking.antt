@@ -1,4 +1,4 @@
--- Breaks of controls without a live row change no row. So each break whose time has passed may be named among the changes of the group
+-- Breaks of controllers without a live row change no row. So each break whose time has passed may be named among the changes of the group
 -- that reported it.
 use Rattle.std.proofs.Common.{◌≡◌, ◌⊎◌, inl, inr, ℕ, zero, suc, ◌+◌, ◌<◌, ◌≤◌, Bool, true, false, cond, not, nat_eq, nat_lt, nat_le, ◌&&◌, ◌||◌, List, [], ◌∷◌, ◌++◌, map, Option, Some, None, refl, sym, ap, subst, ◌∙◌, arith, add-one, true≢false}
 use Rattle.std.specs.List.{list_all, list_any}
@@ -95,7 +95,7 @@ silent_hits device limit time k (b ∷ breaks) rows = choose (is_at time b && (n
 
 -- ---- they may come
 
--- These are the break times of the controls from one on.
+-- These are the break times of the controllers from one on.
 abbrev pub AreFrom : (all : List (Option ℕ)) → (control : ℕ) → List (Option ℕ) → Type 0
 AreFrom all k [] = Unit {0}
 AreFrom all k (b ∷ breaks) = (break_time_of k all ≡ b) × AreFrom all (suc k) breaks
@@ -125,7 +125,7 @@ silent_comes level all limit time k (b ∷ breaks) rows h = choose (is_at time b
 
 -- ---- who is named
 
--- A control without a live row, whose break time is the group's, is named.
+-- A controller without a live row, whose break time is the group's, is named.
 silent_names : (limit time k : ℕ) (breaks : List (Option ℕ)) (rows : List PairRow) (i j : ℕ) → j ≡ k + i → break_time_of i breaks ≡ Some time → time < limit → has_none_live j rows ≡ true → list_any (breaks_control j) (silent_from limit time k breaks rows) ≡ true
 silent_names limit time k [] rows i j is at below none = absurd cc
 silent_names limit time k (b ∷ breaks) rows zero j is at below none =
@@ -147,12 +147,12 @@ silent_names limit time k (b ∷ breaks) rows (suc i) j is at below none =
 
 -- ---- the group that reported a break
 
-behind_first : (k v : ℕ) (r : PairRow) (rows : List PairRow) → HasRowIn IsLive k v rows → HasRowIn IsLive k v (r ∷ rows)
-behind_first k v r rows has = record { row = has.row; among = (suc has.among.0, (let low = has.among.1 in omega (arith, low)), has.among.2); control = has.control; volume = has.volume; state = has.state }
+after_first : (k v : ℕ) (r : PairRow) (rows : List PairRow) → HasRowIn IsLive k v rows → HasRowIn IsLive k v (r ∷ rows)
+after_first k v r rows has = record { row = has.row; among = (suc has.among.0, (let low = has.among.1 in omega (arith, low)), has.among.2); control = has.control; volume = has.volume; state = has.state }
 
 none_live : (k : ℕ) (rows : List PairRow) → ((v : ℕ) → HasRowIn IsLive k v rows → ⊥) → has_none_live k rows ≡ true
 none_live k [] none = refl
-none_live k (r ∷ rows) none = and_from (not (nat_eq r.control k) || is_suspended r.state) (has_none_live k rows) (here (nat_eq r.control k) refl (is_suspended r.state) refl) (none_live k rows (λ v has. none v (behind_first k v r rows has)))
+none_live k (r ∷ rows) none = and_from (not (nat_eq r.control k) || is_suspended r.state) (has_none_live k rows) (here (nat_eq r.control k) refl (is_suspended r.state) refl) (none_live k rows (λ v has. none v (after_first k v r rows has)))
   where
     here : (a : Bool) → nat_eq r.control k ≡ a → (b : Bool) → is_suspended r.state ≡ b → (not a || b) ≡ true
     here false at b is = refl
@@ -196,7 +196,7 @@ report_is_named run limit breaks k b is below rows (step ∷ steps) reports =
 
 -- ---- all breaks between two times
 
--- Each control whose break time lies between broke.
+-- Each controller whose break time lies between broke.
 pub all_between : (from to k : ℕ) (all breaks : List (Option ℕ)) (changes : List Timed) → AreFrom all k breaks → ((j b : ℕ) → break_time_of j all ≡ Some b → from ≤ b → b < to → list_any (breaks_control j) changes ≡ true) → all_broke from to k breaks changes ≡ true
 all_between from to k all [] changes h each = refl
 all_between from to k all (b ∷ breaks) changes h each =

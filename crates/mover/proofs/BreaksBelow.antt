@@ -1,4 +1,4 @@
--- The breaks that a log's readers tell are below a limit, if those of each reader are.
+-- The breaks that a log's readers report are below a limit, if those of each reader are.
 use Rattle.std.proofs.Common.{◌≡◌, ◌<◌, ℕ, nat_lt, Bool, true, false, cond, ◌||◌, List, [], ◌∷◌, length, refl, subst, arith}
 use Rattle.std.specs.List.{list_all}
 use Rattle.std.proofs.lemmas.Bool.{and_from, and_parts, eq-eqb}
@@ -36,8 +36,8 @@ below_here limit s a run may each = of a.call may each
     of (Resume k v) may each = refl
     of (Forget k v) may each = refl
 
-below_behind : (limit : ℕ) (a : Answer) (run : List Answer) (k : ℕ) → AreBelow limit (part_of_reader k (a ∷ run)) → AreBelow limit (part_of_reader k run)
-below_behind limit a run k below = of (is_answer_of k a) below
+below_after : (limit : ℕ) (a : Answer) (run : List Answer) (k : ℕ) → AreBelow limit (part_of_reader k (a ∷ run)) → AreBelow limit (part_of_reader k run)
+below_after limit a run k below = of (is_answer_of k a) below
   where
     of : (t : Bool) → AreBelow limit (cond t (a ∷ part_of_reader k run) (part_of_reader k run)) → AreBelow limit (part_of_reader k run)
     of true below = (and_parts (is_break_below limit a) (list_all (is_break_below limit) (part_of_reader k run)) below).1
@@ -50,4 +50,4 @@ all_below limit s (a ∷ run) end (next, may, is, rest) seats each =
     let parts = and_parts (is_call_of_reader a.call || is_by_mover a.call) (list_all is_call_of_seat run) seats in
     let count = count_stays s next (sizes_last s s a.call a.reply next refl (by_seat a.call parts.0, may, is)) in
     and_from (is_break_below limit a) (list_all (is_break_below limit) run) (below_here limit s a run may each)
-    (all_below limit next run end rest parts.1 (λ k low. below_behind limit a run k (each k (omega (arith, low, count)))))
+    (all_below limit next run end rest parts.1 (λ k low. below_after limit a run k (each k (omega (arith, low, count)))))

@@ -1,4 +1,4 @@
--- Behind a log the volumes of rows are carried as the rows are live, by what the mover's seat knows of them.
+-- After a log the volumes of rows are carried as the rows are live, by what the mover's seat knows of them.
 use Rattle.std.proofs.Common.{◌≡◌, ℕ, suc, nat_eq, Bool, true, false, cond, not, ◌&&◌, ◌||◌, List, [], ◌∷◌, length, map, Option, Some, None, refl, sym, ap, ◌∙◌, subst, arith, true≢false, inl, inr}
 use Rattle.std.specs.Prelude.{IsSomeAnd, find}
 use Rattle.std.specs.List.{Contains, list_any}

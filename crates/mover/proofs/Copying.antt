@@ -32,7 +32,7 @@ use Rattle.mover.specs.OwedTracks.{is_copied_to, is_mapped, is_owed, is_to_be_co
 abbrev pub OwedLater : (v x : ℕ) → ControlState → Type 0
 OwedLater v x c = is_volume_kept v c ≡ true → is_owed v x c ≡ true
 
--- Only a control of the state keeps a volume.
+-- Only a controller of the state keeps a volume.
 pub kept_within : (s : Group) (k v : ℕ) → is_volume_kept v (control_at s k) ≡ true → k < length s.controls
 kept_within s k v kept = elim (cases_lt k (length s.controls)) [
   | inl low ↦ low
@@ -135,7 +135,7 @@ mapped_writes v x volumes (w ∷ writes) e = mapped_writes v x (with_write volum
 abbrev Mapped : (v x : ℕ) → ControlState → Type 0
 Mapped v x c = passes (is_mapped x) (volume_of v c.volumes) ≡ true
 
--- where neither what is kept nor what is wanted or mapped becomes less, and entries come behind
+-- where neither what is kept nor what is wanted or mapped becomes less, and entries come after
 more_waits : (v x : ℕ) (c d : ControlState) (more : List WaitingEntry) → is_volume_kept v d ≡ is_volume_kept v c → is_wanted v x d.volumes ≡ is_wanted v x c.volumes → (Mapped v x c → Mapped v x d) → d.queue.waiting ≡ c.queue.waiting ++ more
     → OwedLater v x c → OwedLater v x d
 more_waits v x c d more kept wanted mapped waits h there = elim (or_cases (is_to_be_copied v x c) (passes (is_mapped x) (volume_of v c.volumes)) (h (sym kept ∙ there))) [
@@ -199,7 +199,7 @@ taken_or_left test cut (e ∷ entries) some =
         → (list_any test (cond l (e ∷ left cut entries) (left cut entries)) ≡ true) ⊎ (list_any test (cond d (e ∷ due cut entries) (due cut entries)) ≡ true)
     choose l d (inl later) (inl here) others = inl (first l (left cut entries) later here)
     choose l d (inr within) (inl here) others = inr (first d (due cut entries) within here)
-    choose l d there (inr behind) others = elim (others behind) [ inl still ↦ inl (more l (left cut entries) still) | inr now ↦ inr (more d (due cut entries) now) ]
+    choose l d there (inr after) others = elim (others after) [ inl still ↦ inl (more l (left cut entries) still) | inr now ↦ inr (more d (due cut entries) now) ]
 
 pub forms_later : (cut : Stamp) (v x : ℕ) (c : ControlState) → list_any (is_copied_to v x) (due cut c.queue.waiting) ≡ false → OwedLater v x c → OwedLater v x (formed cut c)
 forms_later cut v x c none h there = elim (or_cases (is_to_be_copied v x c) (passes (is_mapped x) (volume_of v c.volumes)) (h (sym kept ∙ there))) [
@@ -221,8 +221,8 @@ forms_later cut v x c none h there = elim (or_cases (is_to_be_copied v x c) (pas
 
 -- ---- a volume is dropped
 
-pub kept_behind_drop : (w v x : ℕ) → nat_eq w v ≡ false → (entries : List WaitingEntry) → list_any (is_copied_to v x) entries ≡ true → list_any (is_copied_to v x) (filter (λ e. not (is_of_volume w e)) entries) ≡ true
-kept_behind_drop w v x apart entries some = any-filter_same (is_copied_to v x) (λ e. not (is_of_volume w e)) true other entries ∙ some
+pub kept_after_drop : (w v x : ℕ) → nat_eq w v ≡ false → (entries : List WaitingEntry) → list_any (is_copied_to v x) entries ≡ true → list_any (is_copied_to v x) (filter (λ e. not (is_of_volume w e)) entries) ≡ true
+kept_after_drop w v x apart entries some = any-filter_same (is_copied_to v x) (λ e. not (is_of_volume w e)) true other entries ∙ some
   where
     other : (e : WaitingEntry) → is_copied_to v x e ≡ true → not (is_of_volume w e) ≡ true
     other e is =
@@ -245,7 +245,7 @@ drops_later n w all v x c low sized plan h there = elim (cases_Bool (nat_eq w v)
     | inr map ↦ or_right (is_to_be_copied v x (dropped w all c)) (passes (is_mapped x) (volume_of v (dropped w all c).volumes)) (tested_other (is_mapped x) w v (dropped_volume all (entry_tracks w c.queue.waiting)) (λ u. refl) apart c.volumes ∙ map)
     | inl copied ↦ or_left (is_to_be_copied v x (dropped w all c)) (passes (is_mapped x) (volume_of v (dropped w all c).volumes)) (elim (or_cases (is_wanted v x c.volumes) (list_any (is_copied_to v x) c.queue.waiting) copied) [
       | inl still ↦ or_left (is_wanted v x (dropped w all c).volumes) (list_any (is_copied_to v x) (dropped w all c).queue.waiting) (tested_other (wants x) w v (dropped_volume all (entry_tracks w c.queue.waiting)) (λ u. refl) apart c.volumes ∙ still)
-      | inr copy ↦ or_right (is_wanted v x (dropped w all c).volumes) (list_any (is_copied_to v x) (dropped w all c).queue.waiting) (kept_behind_drop w v x apart c.queue.waiting copy)
+      | inr copy ↦ or_right (is_wanted v x (dropped w all c).volumes) (list_any (is_copied_to v x) (dropped w all c).queue.waiting) (kept_after_drop w v x apart c.queue.waiting copy)
     ])
   ]
 ]
@@ -271,7 +271,7 @@ read_later s _ _ _ k v x (Copies j w y at slot wanted) low h = at_with s j k (co
 read_later s _ _ _ k v x (Raises j upto) low h = at_with s j k (raised upto) (OwedLater v x) low (λ is. h) (λ apart. h)
 read_later s _ _ _ k v x (Breaks j upto cause) low h = at_with s j k (broke upto cause) (OwedLater v x) low (λ is. h) (λ apart. h)
 
--- A volume that is kept behind a call is one of a control that was there before.
+-- A volume that is kept after a call is one of a controller that was there before.
 pub read_within : (s next : Group) (call : Call) (reply : Reply) (k v : ℕ) → WentRead s call reply next → is_volume_kept v (control_at next k) ≡ true → k < length s.controls
 read_within s _ _ _ k v (Same call reply none) kept = kept_within s k v kept
 read_within s _ _ _ k v (Joins b) kept = let low = kept_within (with_control b.control (joined b) s) k v kept in omega (arith, low, same_count s b.control (joined b))

@@ -4,7 +4,7 @@ use Rattle.std.specs.List.{flat_map, list_all}
 use Rattle.std.proofs.lemmas.Bool.{and_from}
 use Rattle.tod_stamp.specs.declared.stamp.Stamp.{Stamp}
 use Rattle.group_state.specs.declared.phase.Phase.{Phase}
-use Rattle.group_state.specs.declared.phase.Phase.TheVariants.{Telling, Broken, Reported}
+use Rattle.group_state.specs.declared.phase.Phase.TheVariants.{Unbroken, Broken, Reported}
 use Rattle.group_state.specs.Controls.{ControlState, fits, fits_track, reported, reported_break, reported_cause, room_of}
 use Rattle.group_state.specs.Groups.{Group, control_at, cut_of, gives_nothing, shown_at}
 use Rattle.group_state.specs.Machine.{Call, reply_to_copied, reply_to}
@@ -17,12 +17,12 @@ use Rattle.fed_logs.specs.Feeds.{is_answer_of_mover, part_of_mover}
 use Rattle.mover.specs.Moves.{are_shown_at_cuts, is_broken_at, is_shown_at_cut, shows_at_cut}
 use Rattle.mover.proofs.LogParts.{all_filtered}
 
--- a control's break is shown where its floor is the cut
+-- a controller's break is shown where its floor is the cut
 own_at : (cut : Stamp) (c : ControlState) → list_all (is_broken_at cut.0) (reported_break cut c) ≡ true
 own_at cut c = by_phase c.phase
   where
     by_phase : (phase : Phase) → list_all (is_broken_at cut.0) (reported c.queue.control c.floor (reported_cause cut c.floor phase)) ≡ true
-    by_phase Telling = refl
+    by_phase Unbroken = refl
     by_phase Reported = refl
     by_phase (Broken cause) = choose (nat_eq c.floor.0 cut.0) refl
       where

@@ -2,7 +2,7 @@
 use Rattle.std.proofs.Common.{◌≡◌, ℕ, zero, suc, List, [], ◌∷◌, ◌++◌, Some, refl, sym, subst, ◌∙◌, slice_get}
 use Rattle.std.proofs.lemmas.Option.{same_Some}
 use Rattle.pair_table.specs.declared.row.PairRow.{PairRow}
-use Rattle.record_rows.specs.Deeds.{Deed, rows_behind, rows_by_deed}
+use Rattle.record_rows.specs.Deeds.{Deed, rows_after_deeds, rows_by_deed}
 use Rattle.record_rows.specs.ToldRows.{InPlaces}
 use Rattle.mover.specs.Moves.{InPlacesByDeeds, KeepPairs, KeepsPair}
 use Rattle.mover.proofs.SamePairs.{each_more, still_self, still_then}
@@ -23,7 +23,7 @@ module _ (R : PairRow → PairRow → Type 0) where
   pub in_place : (rows next : List PairRow) (i : ℕ) (r s : PairRow) → InPlaces R rows next → slice_get rows i ≡ Some r → slice_get next i ≡ Some s → R r s
   in_place rows next i r s are at there = let b = after rows next i r are at in subst (R r) (same_Some b.row s (sym b.at ∙ there)) b.is
 
-  pub by_deeds_then : (a b : List Deed) (rows : List PairRow) → InPlacesByDeeds R rows a → InPlacesByDeeds R (rows_behind a rows) b → InPlacesByDeeds R rows (a ++ b)
+  pub by_deeds_then : (a b : List Deed) (rows : List PairRow) → InPlacesByDeeds R rows a → InPlacesByDeeds R (rows_after_deeds a rows) b → InPlacesByDeeds R rows (a ++ b)
   by_deeds_then [] b rows first then = then
   by_deeds_then (deed ∷ a) b rows first then = (first.0, by_deeds_then a b (rows_by_deed deed) first.1 then)
 
@@ -32,6 +32,6 @@ module _ (R S : PairRow → PairRow → Type 0) (more : (r s : PairRow) → R r 
   by_deeds_more rows [] are = tt
   by_deeds_more rows (deed ∷ deeds) are = (each_more R S more rows (rows_by_deed deed) are.0, by_deeds_more (rows_by_deed deed) deeds are.1)
 
-pub pairs_behind : (rows : List PairRow) (deeds : List Deed) → InPlacesByDeeds KeepsPair rows deeds → KeepPairs rows (rows_behind deeds rows)
-pairs_behind rows [] keep = still_self rows
-pairs_behind rows (deed ∷ deeds) keep = still_then rows (rows_by_deed deed) (rows_behind deeds (rows_by_deed deed)) keep.0 (pairs_behind (rows_by_deed deed) deeds keep.1)
+pub pairs_after : (rows : List PairRow) (deeds : List Deed) → InPlacesByDeeds KeepsPair rows deeds → KeepPairs rows (rows_after_deeds deeds rows)
+pairs_after rows [] keep = still_self rows
+pairs_after rows (deed ∷ deeds) keep = still_then rows (rows_by_deed deed) (rows_after_deeds deeds (rows_by_deed deed)) keep.0 (pairs_after (rows_by_deed deed) deeds keep.1)

@@ -14,11 +14,11 @@ use Rattle.pair_table.specs.Tables.{none_clash}
 use Rattle.pair_table.proofs.PutLaws.{number_sym}
 use Rattle.pair_table.specs.States.{is_by_device, owes}
 use Rattle.turn_group.specs.Notes.{KnownVolume, known_after, without_carrying}
-use Rattle.mover.specs.Dropping.{VolumeDrop, are_states_of, call_of_drop, drop_of, drops_from, known_behind, owes_since}
+use Rattle.mover.specs.Dropping.{VolumeDrop, are_states_of, call_of_drop, drop_of, drops_from, known_after_drops, owes_since}
 use Rattle.mover.specs.Moves.{IsOfLive, KeepPairs, KeepsPair, KnowsRows, are_numbers_distinct, is_carried_as, known_at_control, names_number, row_of_volume}
 use Rattle.mover.proofs.SamePairs.{at_of, before, contains_at, found_still, one_row}
 
--- ---- one control's volumes
+-- ---- one controller's volumes
 
 same_numbers : (n v : ℕ) (known : List KnownVolume) → list_any (names_number n) (without_carrying v known) ≡ list_any (names_number n) known
 same_numbers n v [] = refl
@@ -79,7 +79,7 @@ carried_still w v (u ∷ known) other is = choose (λ e. carried_still w v known
       | inr later ↦ or_right (is_carried_as w u) (list_any (is_carried_as w) (without_carrying v known)) (on later)
     ]
 
--- ---- volumes of all controls, behind drops
+-- ---- volumes of all controllers, after drops
 
 abbrev pub names_drop : (k v : ℕ) → VolumeDrop → Bool
 names_drop k v d = d.control == k && d.volume == v
@@ -92,7 +92,7 @@ set_here [] k v = refl
 set_here (c ∷ known) zero v = refl
 set_here (c ∷ known) (suc k) v = set_here known k v
 
--- What a control's volumes are behind a drop of one: those without it, or as they were.
+-- What a controller's volumes are after a drop of one: those without it, or as they were.
 abbrev AtDrop : VolumeDrop → List (List KnownVolume) → (k : ℕ) → List KnownVolume → Type 0
 AtDrop d known k now = ((nat_eq d.control k ≡ false) × (now ≡ known_at_control k known)) ⊎ ((nat_eq d.control k ≡ true) × (now ≡ without_carrying d.volume (known_at_control k known)))
 
@@ -107,9 +107,9 @@ at_drop d known k = choose (nat_eq d.control k) refl
         inr (e, ap (λ (j : ℕ). get_or (set known d.control mine) j []) (sym is) ∙ set_here known d.control d.volume ∙ ap (λ (j : ℕ). without_carrying d.volume (get_or known j [])) is)
     choose false e = inl (e, get_or-set_other known d.control k mine [] (λ same. eqb-false d.control k e (sym same)))
 
-distinct_behind : (drops : List VolumeDrop) (known : List (List KnownVolume)) → ((k : ℕ) → are_numbers_distinct (known_at_control k known) ≡ true) → (k : ℕ) → are_numbers_distinct (known_at_control k (known_behind drops known)) ≡ true
-distinct_behind [] known are k = are k
-distinct_behind (d ∷ drops) known are k = distinct_behind drops (known_after (call_of_drop d) known) here k
+distinct_after : (drops : List VolumeDrop) (known : List (List KnownVolume)) → ((k : ℕ) → are_numbers_distinct (known_at_control k known) ≡ true) → (k : ℕ) → are_numbers_distinct (known_at_control k (known_after_drops drops known)) ≡ true
+distinct_after [] known are k = are k
+distinct_after (d ∷ drops) known are k = distinct_after drops (known_after (call_of_drop d) known) here k
   where
     here : (j : ℕ) → are_numbers_distinct (known_at_control j (known_after (call_of_drop d) known)) ≡ true
     here j = elim (at_drop d known j) [
@@ -117,18 +117,18 @@ distinct_behind (d ∷ drops) known are k = distinct_behind drops (known_after (
       | inr one ↦ ap are_numbers_distinct one.1 ∙ distinct_still d.volume (known_at_control j known) (are j)
     ]
 
-pub same_controls : (drops : List VolumeDrop) (known : List (List KnownVolume)) → length (known_behind drops known) ≡ length known
+pub same_controls : (drops : List VolumeDrop) (known : List (List KnownVolume)) → length (known_after_drops drops known) ≡ length known
 same_controls [] known = refl
 same_controls (d ∷ drops) known = same_controls drops (known_after (call_of_drop d) known) ∙ length-set known d.control (without_carrying d.volume (get_or known d.control []))
 
--- A volume that is carried behind drops was carried before, and none of them was of it.
+-- A volume that is carried after drops was carried before, and none of them was of it.
 record CarriedBefore (k : ℕ) (drops : List VolumeDrop) (known : List (List KnownVolume)) (u : KnownVolume) : Type 0 where
   at : (i : ℕ) × (slice_get (known_at_control k known) i ≡ Some u)
   none : is_dropped k u.number drops ≡ false
 
-carried_before : (k : ℕ) (drops : List VolumeDrop) (known : List (List KnownVolume)) (u : KnownVolume) → ((j : ℕ) → are_numbers_distinct (known_at_control j known) ≡ true) → (i : ℕ) × (slice_get (known_at_control k (known_behind drops known)) i ≡ Some u) → u.carried ≡ true → CarriedBefore k drops known u
+carried_before : (k : ℕ) (drops : List VolumeDrop) (known : List (List KnownVolume)) (u : KnownVolume) → ((j : ℕ) → are_numbers_distinct (known_at_control j known) ≡ true) → (i : ℕ) × (slice_get (known_at_control k (known_after_drops drops known)) i ≡ Some u) → u.carried ≡ true → CarriedBefore k drops known u
 carried_before k [] known u are at carried = record { at = at; none = refl }
-carried_before k (d ∷ drops) known u are at carried = by (carried_before k drops (known_after (call_of_drop d) known) u (distinct_behind (d ∷ []) known are) at carried) (at_drop d known k)
+carried_before k (d ∷ drops) known u are at carried = by (carried_before k drops (known_after (call_of_drop d) known) u (distinct_after (d ∷ []) known are) at carried) (at_drop d known k)
   where
     mid : List (List KnownVolume)
     mid = known_after (call_of_drop d) known
@@ -149,9 +149,9 @@ carried_before k (d ∷ drops) known u are at carried = by (carried_before k dro
         }
 
 -- A volume that was carried is carried still where none of the drops is of it.
-carried_behind : (k v : ℕ) (drops : List VolumeDrop) (known : List (List KnownVolume)) → list_any (is_carried_as v) (known_at_control k known) ≡ true → is_dropped k v drops ≡ false → list_any (is_carried_as v) (known_at_control k (known_behind drops known)) ≡ true
-carried_behind k v [] known is none = is
-carried_behind k v (d ∷ drops) known is none = carried_behind k v drops (known_after (call_of_drop d) known) (by (at_drop d known k)) parts.1
+carried_after : (k v : ℕ) (drops : List VolumeDrop) (known : List (List KnownVolume)) → list_any (is_carried_as v) (known_at_control k known) ≡ true → is_dropped k v drops ≡ false → list_any (is_carried_as v) (known_at_control k (known_after_drops drops known)) ≡ true
+carried_after k v [] known is none = is
+carried_after k v (d ∷ drops) known is none = carried_after k v drops (known_after (call_of_drop d) known) (by (at_drop d known k)) parts.1
   where
     parts : (names_drop k v d ≡ false) × (is_dropped k v drops ≡ false)
     parts = or_parts (names_drop k v d) (is_dropped k v drops) none
@@ -266,8 +266,8 @@ module _ (was : List (Option PairState)) (rows next : List PairRow) (states : ar
           let is : owes_since (get_or was (i + 0) None) s.state ≡ Some owes.0 = ap (λ (n : ℕ). owes_since (get_or was n None) s.state) same ∙ ap (λ (o : Option PairState). owes_since o s.state) (states i r before) ∙ owes.1 in
           absurd (true≢false (sym (dropped_named drops _ (owed_is_dropped was 0 next i s owes.0 at is)) ∙ none))
 
-  pub knows_behind : (known : List (List KnownVolume)) → KnowsRows known rows → KnowsRows (known_behind drops known) next
-  knows_behind known knows = record {
+  pub knows_after : (known : List (List KnownVolume)) → KnowsRows known rows → KnowsRows (known_after_drops drops known) next
+  knows_after known knows = record {
     controls = λ r has.
         let at = at_of next r has in
         let b = before KeepsPair rows next at.0 r still at.1 in
@@ -275,9 +275,9 @@ module _ (was : List (Option PairState)) (rows next : List PairRow) (states : ar
         let same : r.control ≡ b.row.control = ap (λ (x : PairRow). x.control) b.is.same in
         let long = same_controls drops known in
         omega (arith, low, same, long);
-    distinct = λ k. distinct_behind drops known knows.distinct k;
+    distinct = λ k. distinct_after drops known knows.distinct k;
     live = λ k u has carried.
-        let was = carried_before k drops known u knows.distinct (at_of (known_at_control k (known_behind drops known)) u has) carried in
+        let was = carried_before k drops known u knows.distinct (at_of (known_at_control k (known_after_drops drops known)) u has) carried in
         live_of k u was.none (row_of_volume k u.number rows) refl (knows.live k u (contains_at (known_at_control k known) was.at.0 u was.at.1) carried);
     carried = λ r has live.
         let at = at_of next r has in
@@ -285,7 +285,7 @@ module _ (was : List (Option PairState)) (rows next : List PairRow) (states : ar
         let control : b.row.control ≡ r.control = ap (λ (x : PairRow). x.control) (sym b.is.same) in
         let volume : b.row.volume ≡ r.volume = ap (λ (x : PairRow). x.volume) (sym b.is.same) in
         let had = knows.carried b.row (contains_at rows at.0 b.row b.at) (b.is.live live) in
-        carried_behind r.control r.volume drops known (subst (λ (k : ℕ). list_any (is_carried_as r.volume) (known_at_control k known) ≡ true) control (subst (λ (v : ℕ). list_any (is_carried_as v) (known_at_control b.row.control known) ≡ true) volume had)) (none_live at.0 r at.1 live);
+        carried_after r.control r.volume drops known (subst (λ (k : ℕ). list_any (is_carried_as r.volume) (known_at_control k known) ≡ true) control (subst (λ (v : ℕ). list_any (is_carried_as v) (known_at_control b.row.control known) ≡ true) volume had)) (none_live at.0 r at.1 live);
   }
     where
       live_of : (k : ℕ) (u : KnownVolume) → is_dropped k u.number drops ≡ false → (o : Option PairRow) → row_of_volume k u.number rows ≡ o → IsSomeAnd o (IsOfLive k u) → IsSomeAnd (row_of_volume k u.number next) (IsOfLive k u)

@@ -6,7 +6,7 @@ use Rattle.pair_table.specs.declared.row.PairState.{PairState}
 use Rattle.turn_group.specs.Calls.{MadeCall, as_answer}
 use Rattle.turn_group.specs.Notes.{KnownVolume}
 use Rattle.turn_group.specs.Seats.{MoverSeatState}
-use Rattle.mover.specs.Dropping.{MakesDrops, VolumeDrop, answer_of_drop, drop_of, drops_from, known_behind, owes_since}
+use Rattle.mover.specs.Dropping.{MakesDrops, VolumeDrop, answer_of_drop, drop_of, drops_from, known_after_drops, owes_since}
 use Rattle.mover.specs.Moves.{IsStillAt}
 
 -- ---- no drop, one, and more
@@ -22,7 +22,7 @@ drops_in_turn : (a b : List VolumeDrop) → map answer_of_drop (a ++ b) ≡ map 
 drops_in_turn [] b = refl
 drops_in_turn (d ∷ a) b = λ i. answer_of_drop d ∷ drops_in_turn a b i
 
-known_in_turn : (a b : List VolumeDrop) (known : List (List KnownVolume)) → known_behind (a ++ b) known ≡ known_behind b (known_behind a known)
+known_in_turn : (a b : List VolumeDrop) (known : List (List KnownVolume)) → known_after_drops (a ++ b) known ≡ known_after_drops b (known_after_drops a known)
 known_in_turn [] b known = refl
 known_in_turn (d ∷ a) b known = known_in_turn a b _
 
@@ -32,7 +32,7 @@ drops_then a b old mid new first then = record {
   calls_are = then.calls_are ∙ ap (λ (l : List MadeCall). l ++ then.gained) first.calls_are ∙ append_assoc old.calls first.gained then.gained;
   are = answers_in_turn first.gained then.gained ∙ (λ i. first.are i ++ then.are i) ∙ sym (drops_in_turn a b);
   last = then.last ∙ first.last;
-  known = then.known ∙ ap (known_behind b) first.known ∙ sym (known_in_turn a b old.known);
+  known = then.known ∙ ap (known_after_drops b) first.known ∙ sym (known_in_turn a b old.known);
 }
 
 -- The rows up to a place, and the one there.

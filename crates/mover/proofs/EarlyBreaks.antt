@@ -14,7 +14,7 @@ use Rattle.pair_table.specs.declared.row.PairRow.{PairRow}
 use Rattle.pair_table.specs.declared.row.PairState.{PairState}
 use Rattle.pending_queue.specs.Groups.{FormedGroup}
 use Rattle.group_state.specs.Volumes.{is_wanted}
-use Rattle.group_state.specs.Controls.{fits, fits_track, is_telling, room_of}
+use Rattle.group_state.specs.Controls.{fits, fits_track, is_reporting, room_of}
 use Rattle.group_state.specs.Groups.{Group, Shown, control_at, cut_of, gives_nothing, shown_at, shown_in}
 use Rattle.group_state.specs.Machine.{Call, reply_to_copied, reply_to, steps}
 use Rattle.group_state.specs.Machine.Call.{Join, NextWanted, Copied, Raise, Break, Form, Carry, Drop, Resume, Forget}
@@ -38,14 +38,14 @@ use Rattle.fed_logs.specs.ShownBreaks.{BreaksAreToCome, BrokeAsTraces, IsTracesB
 use Rattle.fed_logs.proofs.Shown.{break_was_told}
 use Rattle.fed_logs.proofs.ShownBreaks.{shown_breaks_are_the_traces}
 use Rattle.mover.specs.SilentBreaks.{all_silent, breaking_at, has_none_live, silent_at, silent_from, silent_of}
-use Rattle.fed_logs.specs.LaneFeeds.{telling_behind_calls}
-use Rattle.fed_logs.proofs.ToldControls.{telling_is_told}
+use Rattle.fed_logs.specs.LaneFeeds.{reporting_after_calls}
+use Rattle.fed_logs.proofs.ToldControls.{reporting_is_by_calls}
 use Rattle.mover.specs.Bearing.{is_early_break}
 use Rattle.mover.proofs.LanesAgain.{tells_no_more}
 use Rattle.mover.specs.Steps.{AreMade, IsDeedMade}
-use Rattle.mover.specs.Steps.IsDeedMade.{Suspends, Marks, MarksFirst, Records, RecordsBehind}
+use Rattle.mover.specs.Steps.IsDeedMade.{Suspends, Marks, MarksFirst, Records, RecordsAfter}
 
--- ---- a control whose break was shown
+-- ---- a controller whose break was shown
 
 -- A reply that shows something is a form's, at some cut.
 shown_of : (s : Group) (call : Call) (shown : Shown) → shown_by (reply_to s call) ≡ Some shown → (cut : Stamp) × (shown_at cut s ≡ shown)
@@ -73,16 +73,16 @@ shown_of s (Drop k v all) shown e = absurd cc
 shown_of s (Resume k v) shown e = absurd cc
 shown_of s (Forget k v) shown e = absurd cc
 
--- the controls of the breaks that an answer shows don't tell
+-- the controllers of the breaks that an answer shows don't tell
 abbrev AreSilent : Group → Answer → Type 0
-AreSilent end a = (shown : Shown) → shown_by a.reply ≡ Some shown → (k : ℕ) → is_break_of_control k shown ≡ true → is_telling (control_at end k).phase ≡ false
+AreSilent end a = (shown : Shown) → shown_by a.reply ≡ Some shown → (k : ℕ) → is_break_of_control k shown ≡ true → is_reporting (control_at end k).phase ≡ false
 
 silent_then : (s next : Group) (a : Answer) (run : List Answer) (end : Group) → IsGroupSound s → steps s a.call a.reply next → Runs s (a ∷ run) end → AreSilent end a
 silent_then s next a run end keeps is runs shown shows k found =
     let form = shown_of s a.call shown (sym (ap shown_by is.0) ∙ shows) in
     let told = break_was_told s form.0 k keeps (ap (is_break_of_control k) form.1 ∙ found) in
     let part = part_of_reader k (a ∷ run) in
-    telling_is_told s (a ∷ run) end runs k told.0 ∙ ap (λ (t : Bool). telling_behind_calls t part) told.2 ∙ tells_no_more part
+    reporting_is_by_calls s (a ∷ run) end runs k told.0 ∙ ap (λ (t : Bool). reporting_after_calls t part) told.2 ∙ tells_no_more part
 
 shown_are_silent : (s : Group) (run : List Answer) (end : Group) → IsGroupSound s → Runs s run end → All (AreSilent end) run
 shown_are_silent s [] end keeps runs = All-nil (AreSilent end)
@@ -150,14 +150,14 @@ named_early limit breaks (step ∷ steps) early =
 -- ---- the mover's steps
 
 module _ (traces : List Trace) (begun end : Group) (log answers : List Answer) (limit : ℕ) (fed : IsFedLog traces begun end log) (broke : BrokeAsTraces traces begun) (awaits : BreaksAreToCome traces limit end) (among : (a : Answer) → Contains answers a → Contains log a) where
-  -- A break that a group shows comes before the limit: its control doesn't tell at the end.
+  -- A break that a group shows comes before the limit: its controller doesn't tell at the end.
   shown_early : (shown : Shown) → WasShown log shown → (found : ℕ × Stamp × Cause) → IsTracesBreak traces shown.cut found → is_break_of_control found.0 shown ≡ true → shown.cut.0 < limit
   shown_early shown was found is there = elim (cases_lt shown.cut.0 limit) [
     | inl early ↦ early
     | inr late ↦
         let tells = awaits found.0 shown.cut.0 is.trace is.own (ap (option_map (λ b. b.upto)) is.breaks) late in
         let silent = All-contains (AreSilent end) log was.answer (shown_are_silent begun log end fed.kept fed.runs) was.among shown was.shows found.0 there in
-        absurd (true≢false (sym tells.telling ∙ silent))
+        absurd (true≢false (sym tells.reporting ∙ silent))
   ]
 
   breaks_early : (group : FormedGroup) → WasShown log (shown_in group) → are_early limit (map (breaking group.cut.0) group.breaks) ≡ true
@@ -181,7 +181,7 @@ module _ (traces : List Trace) (begun end : Group) (log answers : List Answer) (
   step_early level flag _ _ _ _ (MarksFirst time rows failed spot) = marks_early limit time (hit_now failed rows)
   step_early level flag _ _ _ _ (Records time rows group failed shown up to_log) =
       both_early limit (group_changes group rows) (hit_changes group.cut.0 (hit_now failed rows)) (group_early group rows shown) (hits_early limit group.cut.0 (hit_now failed rows))
-  step_early level flag _ _ _ _ (RecordsBehind time was group failed marked shown up to_log) =
+  step_early level flag _ _ _ _ (RecordsAfter time was group failed marked shown up to_log) =
       both_early limit (group_changes group (rows_marked time marked was)) (told_changes level group.cut.0 marked (hit_now failed (rows_marked time marked was))) (group_early group (rows_marked time marked was) shown) (told_early limit level group.cut.0 marked (hit_now failed (rows_marked time marked was)))
 
   pub made_early : (level : Level) (flag : Bool) (time : ℕ) (rows : List PairRow) (due : Due) (steps : List DeedOfChanges) (last : Due) → AreMade level flag answers time rows due steps last → are_early limit (changes_of steps) ≡ true

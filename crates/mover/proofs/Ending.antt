@@ -1,4 +1,4 @@
--- Behind the whole work the shared state stands for the rows again.
+-- After the whole work the shared state stands for the rows again.
 use Rattle.std.proofs.Common.{◌≡◌, inl, inr, ℕ, ◌<◌, ◌≤◌, Bool, true, false, cond, not, nat_lt, nat_le, ◌&&◌, ◌||◌, List, [], ◌∷◌, length, take, Option, Some, None, refl, sym, ap, subst, ◌∙◌, arith, true≢false}
 use Rattle.std.specs.List.{Contains, list_any}
 use Rattle.std.proofs.lemmas.Bool.{and_parts, and_from, eqb-true, ltb-true, or_cases}
@@ -24,13 +24,13 @@ use Rattle.site_means.specs.Images.{Shape, shape_of}
 use Rattle.site_means.specs.Sight.{content_of}
 use Rattle.site_means.proofs.Goes.{shape_same}
 use Rattle.site_store.specs.DeedChanges.{DeedOfChanges, deeds_of}
-use Rattle.site_store.specs.Deeds.{content_behind}
-use Rattle.site_store.specs.Exceptions.{Exceptions, excepted_behind}
-use Rattle.site_store.specs.Seeing.{SeesBehind}
+use Rattle.site_store.specs.Deeds.{content_after}
+use Rattle.site_store.specs.Exceptions.{Exceptions, excepted_after}
+use Rattle.site_store.specs.Seeing.{SeesAfter}
 use Rattle.site_store.proofs.Seeing.{same_content}
 use Rattle.consistency.specs.Stages.{breaks_of, tracks_of_row}
 use Rattle.fed_logs.specs.ToldTracks.{AllHold, after_entries, has_no_later_copy, is_no_later_copy, is_queued_up_to, is_settled_in, is_track_settled}
-use Rattle.fed_logs.specs.Deeds.{held_behind}
+use Rattle.fed_logs.specs.Deeds.{held_after_deeds}
 use Rattle.fed_logs.specs.Feeds.{truth_of}
 use Rattle.fed_logs.specs.Logs.{BeginsLog, is_of_size}
 use Rattle.fed_logs.specs.Moves.{HasRowIn, Plans}
@@ -38,12 +38,12 @@ use Rattle.fed_logs.proofs.Bearing.{reached_holds}
 use Rattle.consistency.specs.Bearing.{ShowsPoint}
 use Rattle.consistency.specs.Leads.{Point}
 use Rattle.mover.specs.BorneLaws.{DoesWork, StandsForRowsAgain}
-use Rattle.mover.specs.Points.{point_behind}
+use Rattle.mover.specs.Points.{point_after_deeds}
 use Rattle.mover.specs.OwedTracks.{CarriedAsLive, ExceptedAreOwed, FailedAreOwed, IsAny, held_by_choice, is_copied_to, is_mapped, is_owed, is_volume_kept}
 use Rattle.mover.specs.Working.{IsKeptToEnd, StandsForRows, Work, WorkBegins}
 use Rattle.mover.proofs.Bearing.{below_among, shown}
 use Rattle.mover.proofs.Excepting.{none_excepted, owes_at_end}
-use Rattle.mover.proofs.Held.{KeepPairs, content_behind_is, held_is, pairs_behind}
+use Rattle.mover.proofs.Held.{KeepPairs, content_after_is, held_is, pairs_after}
 use Rattle.mover.proofs.Keeping.{kept_back}
 use Rattle.mover.proofs.Leading.{count_deeds, rows_there, steps_keep_failed, steps_keep_pairs, time_there}
 use Rattle.mover.proofs.Pairs.{among_of, apart_still, contains_of, pair_before, pairs_of}
@@ -64,7 +64,7 @@ copy_decides v x t (e ∷ entries) old other none some =
     let on = is_queued_up_to v x t e in
     elim (or_cases (is_copied_to v x e) (list_any (is_copied_to v x) entries) some) [
       | inl here ↦ ap (after_entries (is_queued_up_to v x t) entries) (by_copy here parts.0)
-      | inr behind ↦ copy_decides v x t entries (changed_by on e.kind old) (changed_by on e.kind other) parts.1 behind
+      | inr after ↦ copy_decides v x t entries (changed_by on e.kind old) (changed_by on e.kind other) parts.1 after
     ]
   where
     by_copy : is_copied_to v x e ≡ true → is_no_later_copy v x t e ≡ true → changed_by (is_queued_up_to v x t e) e.kind old ≡ changed_by (is_queued_up_to v x t e) e.kind other
@@ -117,26 +117,26 @@ module _ (old new : PlantState) (k : Work) (time : ℕ) (last : List PairRow) (k
   p = k.leg.point
 
   abbrev q : Point
-  q = point_behind k.run.level p k.steps
+  q = point_after_deeds k.run.level p k.steps
 
   abbrev deeds : List Deed
   deeds = deeds_of k.steps
 
   abbrev excepted : Exceptions
-  excepted = excepted_behind p.rows deeds k.excepted
+  excepted = excepted_after p.rows deeds k.excepted
 
   pairs : KeepPairs p.rows deeds
   pairs = steps_keep_pairs k.run.level (breaks_of k.run) p k.steps w.logged.each
 
   same : pairs_of q.rows ≡ pairs_of p.rows
-  same = ap pairs_of (rows_there k.run.level p k.steps) ∙ pairs_behind p.rows deeds pairs
+  same = ap pairs_of (rows_there k.run.level p k.steps) ∙ pairs_after p.rows deeds pairs
 
   apart : none_clash q.rows ≡ true
   apart = apart_still p.rows q.rows same w.stands.apart
 
-  -- what holds behind the log, by each choice before it
+  -- what holds after the log, by each choice before it
   abbrev Ended : Choice → Type 0
-  Ended a = BeginsLog k.size k.run.traces (held_behind deeds (held_by_choice old a p.rows)) k.ended q.time q.rows known
+  Ended a = BeginsLog k.size k.run.traces (held_after_deeds deeds (held_by_choice old a p.rows)) k.ended q.time q.rows known
 
   last_is : (a : Choice) → IsChoice old old.clock a → last ≡ q.rows
   last_is a was = (reached_holds k.size k.run.traces (held_by_choice old a p.rows) k.begun k.ended k.log p.time time p.rows last k.done known deeds w.logged.fed (w.stands.holds a was) whole).0 ∙ sym (rows_there k.run.level p k.steps)
@@ -144,8 +144,8 @@ module _ (old new : PlantState) (k : Work) (time : ℕ) (last : List PairRow) (k
   ended : (a : Choice) → IsChoice old old.clock a → Ended a
   ended a was =
       let r = reached_holds k.size k.run.traces (held_by_choice old a p.rows) k.begun k.ended k.log p.time time p.rows last k.done known deeds w.logged.fed (w.stands.holds a was) whole in
-      subst (λ (n : ℕ). BeginsLog k.size k.run.traces (held_behind deeds (held_by_choice old a p.rows)) k.ended n q.rows known) (r.1 ∙ sym (time_there k.run.level p k.steps))
-      (subst (λ (rows : List PairRow). BeginsLog k.size k.run.traces (held_behind deeds (held_by_choice old a p.rows)) k.ended time rows known) (last_is a was) r.3)
+      subst (λ (n : ℕ). BeginsLog k.size k.run.traces (held_after_deeds deeds (held_by_choice old a p.rows)) k.ended n q.rows known) (r.1 ∙ sym (time_there k.run.level p k.steps))
+      (subst (λ (rows : List PairRow). BeginsLog k.size k.run.traces (held_after_deeds deeds (held_by_choice old a p.rows)) k.ended time rows known) (last_is a was) r.3)
 
   owed : (a : Choice) → IsChoice old old.clock a → ExceptedAreOwed k.size excepted k.ended q.rows
   owed a was =
@@ -185,10 +185,10 @@ module _ (old new : PlantState) (k : Work) (time : ℕ) (last : List PairRow) (k
       choose false is = owed a was j v (record { row = has.row; among = has.among; control = has.control; volume = has.volume; state = is }) kept x low e
       choose true is = failed_there a was j v (record { row = has.row; among = has.among; control = has.control; volume = has.volume; state = is }) kept x low
 
-  module _ (c : Choice) (sees : SeesBehind old k.excepted p.rows deeds c) where
+  module _ (c : Choice) (sees : SeesAfter old k.excepted p.rows deeds c) where
     -- What the choice holds of a track that isn't excepted is what the deeds leave of what some choice held before.
     held_so : (j v : ℕ) (has : HasRowIn IsAny j v q.rows) (x : ℕ) → excepted has.row.device x ≡ false
-        → (a : Choice) × IsChoice old old.clock a × (held_by_choice new c q.rows j v x ≡ held_behind deeds (held_by_choice old a p.rows) j v x)
+        → (a : Choice) × IsChoice old old.clock a × (held_by_choice new c q.rows j v x ≡ held_after_deeds deeds (held_by_choice old a p.rows) j v x)
     held_so j v has x none =
         let d = has.row.device in
         let before = pair_before has.row p.rows q.rows same (among_of q.rows has.row has.among) in
@@ -205,10 +205,10 @@ module _ (old new : PlantState) (k : Work) (time : ℕ) (last : List PairRow) (k
           now
               ∙ same_content old new does.site c d x
               ∙ seen.2
-              ∙ ap (λ (e : ℕ). content_behind e x p.rows deeds (content_of old seen.0 e x)) (sym device)
-              ∙ content_behind_is r p.rows w.stands.apart before.among x old seen.0 deeds pairs
-              ∙ ap (λ (i : ℕ). held_behind deeds (held_by_choice old seen.0 p.rows) i r.volume x) control
-              ∙ ap (λ (i : ℕ). held_behind deeds (held_by_choice old seen.0 p.rows) j i x) volume,
+              ∙ ap (λ (e : ℕ). content_after e x p.rows deeds (content_of old seen.0 e x)) (sym device)
+              ∙ content_after_is r p.rows w.stands.apart before.among x old seen.0 deeds pairs
+              ∙ ap (λ (i : ℕ). held_after_deeds deeds (held_by_choice old seen.0 p.rows) i r.volume x) control
+              ∙ ap (λ (i : ℕ). held_after_deeds deeds (held_by_choice old seen.0 p.rows) j i x) volume,
         )
 
     -- the settled tracks of what is held
@@ -231,7 +231,7 @@ module _ (old new : PlantState) (k : Work) (time : ℕ) (last : List PairRow) (k
             let h = held_so j v has x is in
             ap (after_entries (is_queued_up_to v x t) (control_at k.ended j).queue.waiting) h.2 ∙ ((ended h.0 h.1).holds j low).holds v x t settled none from to
         by j low v x t settled none from to kept has within true is =
-            copy_decides v x t (control_at k.ended j).queue.waiting (held_by_choice new c q.rows j v x) (held_behind deeds (held_by_choice old sees.from p.rows) j v x) none
+            copy_decides v x t (control_at k.ended j).queue.waiting (held_by_choice new c q.rows j v x) (held_after_deeds deeds (held_by_choice old sees.from p.rows) j v x) none
             (settled_copy v x (control_at k.ended j) settled (each_owed sees.from sees.was j v has kept x within is))
             ∙ ((ended sees.from sees.was).holds j low).holds v x t settled none from to
 
@@ -245,7 +245,7 @@ module _ (old new : PlantState) (k : Work) (time : ℕ) (last : List PairRow) (k
           last = base.last;
           stand = base.stand;
           truth = λ j v has x low.
-              let none = none_excepted k.size k.run.traces (held_behind deeds (held_by_choice old sees.from p.rows)) excepted k.ended q.time q.rows known base (owed sees.from sees.was) j v has x low in
+              let none = none_excepted k.size k.run.traces (held_after_deeds deeds (held_by_choice old sees.from p.rows)) excepted k.ended q.time q.rows known base (owed sees.from sees.was) j v has x low in
               let any : HasRowIn IsAny j v q.rows = record { row = has.row; among = has.among; control = has.control; volume = has.volume; state = tt } in
               let h = held_so j v any x none in
               h.2 ∙ (ended h.0 h.1).truth j v has x low;
@@ -274,15 +274,15 @@ module _ (old new : PlantState) (k : Work) (time : ℕ) (last : List PairRow) (k
     carried = carried_there some.0 some.1;
   }
 
-  -- Each choice shows the point behind all deeds.
+  -- Each choice shows the point after all deeds.
   pub shows_last : (c : Choice) → IsChoice new new.clock c → ShowsPoint k.run (shape_of new) q c
   shows_last c has =
       let n = length k.steps in
       let all : take n k.steps ≡ k.steps = take_all n k.steps (omega arith) in
       let done : take n deeds ≡ deeds = take_all n deeds (let e = count_deeds k.steps in omega (arith, e)) in
       subst (λ (shape : Shape). ShowsPoint k.run shape q c) (sym (shape_same old new does.site))
-      (subst (λ (steps : List DeedOfChanges). ShowsPoint k.run (shape_of old) (point_behind k.run.level p steps) c) all
-      (shown old k w n (omega arith) c (subst (λ (ds : List Deed). SeesBehind old k.excepted p.rows ds c) (sym done) (does.now c has))))
+      (subst (λ (steps : List DeedOfChanges). ShowsPoint k.run (shape_of old) (point_after_deeds k.run.level p steps) c) all
+      (shown old k w n (omega arith) c (subst (λ (ds : List Deed). SeesAfter old k.excepted p.rows ds c) (sym done) (does.now c has))))
 
 pub stands_for_rows_again : (old new : PlantState) → StandsForRowsAgain old new
 stands_for_rows_again old new k time last known w does whole failed carried some =

@@ -88,7 +88,7 @@ module _ {S : Type 0} (tells : Type 0) (left : S → Option (List ℕ)) (faults 
         let parts = λ (k : ℕ) (low : k < length old). reader_part at.first end next.calls seats history k (omega (arith, low, lanes_there.many, back.many)) in
         record {
           cut = ap (λ (t : Stamp). t.0) noted.0 ∙ reached.cut;
-          time = at_time limit site after m.steps m.behind reached.time changes m.going;
+          time = at_time limit site after m.steps m.is_left reached.time changes m.going;
           settled = reached.settled;
           same = record { many = long; each = λ k d low. same_lane left faults limit (seat_at seats k) (slice_index_or old k d) (slice_index_or new k d) (slice_index_or old k d).reader (slice_index_or new k d).reader (read.each k d low) };
           lanes = lanes_again left faults limit at.first end log seats old new history.runs alone lanes_there long read parts reached.done;
@@ -105,7 +105,7 @@ module _ {S : Type 0} (tells : Type 0) (left : S → Option (List ℕ)) (faults 
               let failed_there = subst (λ (s : Group). FailedAreOwed size s site.told) (sym first_is) failed in
               let carried_there = subst (λ (s : Group). CarriedAsLive s site.told) (sym first_is) carried in
               let owed = owed_so tells left faults limit at old new seat next seats end site after was is result no_calls lanes_there may.rests.idle may.marked may.knows.below read m back limited history refl in
-              let pairs = (at_time limit site after m.steps m.behind reached.time changes m.going).pairs in
+              let pairs = (at_time limit site after m.steps m.is_left reached.time changes m.going).pairs in
               let begins = may_begin tells limit next end after is noted may_then in (
                 failed_owe size at.first end log site.told after.told (deeds_of m.steps) keeps_there sized_there history.runs alone failed_there carried_there pairs owed,
                 carried_again at.first end site.told after.told (sizes_stay at.first at.first log end history.runs alone refl) carried_there pairs (apart_again site.told after.told pairs apart) begins.knows.rows,

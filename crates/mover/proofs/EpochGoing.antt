@@ -42,7 +42,7 @@ use Rattle.mover.specs.Moves.{DidAll, KeepsAll, KnowsDuplex, MakesAll, Moved, ar
 use Rattle.mover.specs.Numbers.{UsesNumbers, UsesNumbersOf}
 use Rattle.mover.specs.Steps.{AreMade}
 use Rattle.mover.specs.Rounds.{AllRead, AreLanesOf, Read, SeatsAreBack}
-use Rattle.mover.specs.Epochs.{AllTurnOut, AreStepsOf, BearsBehind, EpochGoes, EpochRun, HoldNone, IfReached, LaneWent, Shows, end_result}
+use Rattle.mover.specs.Epochs.{AllTurnOut, AreStepsOf, BearsAfter, EpochGoes, EpochRun, HoldNone, IfReached, LaneWent, Shows, end_result}
 use Rattle.mover.proofs.CutBreaks.{mover_shows_at_cuts}
 use Rattle.mover.proofs.LaneFeeds.{lane_up_to, log_is_fed, some_item}
 use Rattle.mover.proofs.StepsMade.{made_are_steps}
@@ -125,7 +125,7 @@ module _ {S : Type 0} (tells : Type 0) (left : S → Option (List ℕ)) (faults 
     makes = makes_so;
     all = on_ok (end_result result)
         (λ (all : MakesAll site after (map as_answer moved.gained) (deeds_of moved.steps)). λ done knows. subst (λ (l : List Answer). KeepsAll site after done l (deeds_of moved.steps)) gained (all done knows)) moved.all;
-    behind = moved.behind;
+    is_left = moved.is_left;
     owed = owed_so;
     numbers = subst (λ (l : List Answer). UsesNumbersOf l site after (end_result result)) (sym (mover_part at.first end next.calls seats history)) (numbers_of seat next site after (end_result result) none numbers);
   }
@@ -158,7 +158,7 @@ module _ {S : Type 0} (tells : Type 0) (left : S → Option (List ℕ)) (faults 
       let steps = made_are_steps run at.first end log (part_of_mover log) (fed_so run.traces keeps turns) broke (contains_filtered is_answer_of_mover log) false site.time site.told NoneDue moved.steps NoneDue apart made in
       record { each = steps.0; due = steps.1 }
 
-  pub epoch_bears : BearsBehind left limit at.first end old new site log moved.steps
+  pub epoch_bears : BearsAfter left limit at.first end old new site log moved.steps
   epoch_bears = record {
     fed = fed_so;
     up_to = up_to_so;

@@ -5,7 +5,7 @@ use Rattle.crash_plant.specs.Moments.{PlantState}
 use Rattle.write_trace.specs.declared.trace.Trace.{Trace}
 use Rattle.group_state.specs.Groups.{Group}
 use Rattle.group_state.specs.SoundStates.{IsGroupSound}
-use Rattle.record_rows.specs.Deeds.{time_meant_behind}
+use Rattle.record_rows.specs.Deeds.{time_meant_after}
 use Rattle.site_store.proofs.Moments.{have_begun}
 use Rattle.site_store.proofs.Single.{no_call}
 use Rattle.fed_logs.specs.Logs.{IsFedLog}
@@ -17,7 +17,7 @@ use Rattle.mover.specs.declared.lane.Lane.{Lane}
 use Rattle.mover.specs.Readers.{LaneReaderState}
 use Rattle.mover.specs.Lanes.{HasFaultFrom, IsReaderOf}
 use Rattle.mover.specs.Rounds.{AreLanesOf}
-use Rattle.mover.specs.Epochs.{AllTurnOut, BearsBehind, EpochGoes, EpochRun, HoldsBehind, LaneWent, Shows}
+use Rattle.mover.specs.Epochs.{AllTurnOut, BearsAfter, EpochGoes, EpochRun, HoldsAfter, LaneWent, Shows}
 use Rattle.mover.proofs.LaneFeeds.{log_is_fed}
 use Rattle.mover.proofs.Numbers.{none_used}
 use Rattle.mover.proofs.OwedExactly.{owed_none}
@@ -52,7 +52,7 @@ module _ {S : Type 0} (tells : Type 0) (left : S → Option (List ℕ)) (faults 
     entries = tt;
     makes = λ done knows. (site.told, refl);
     all = λ done knows. record { known = done; makes = (refl, refl, refl); knows = knows };
-    behind = record { level = refl; controls = refl; table = refl; rows = refl; time = refl };
+    is_left = record { level = refl; controls = refl; table = refl; rows = refl; time = refl };
     owed = owed_none site.told [] [] (λ k v. refl);
     numbers = none_used site;
   }
@@ -63,24 +63,24 @@ module _ {S : Type 0} (tells : Type 0) (left : S → Option (List ℕ)) (faults 
   fed_none : (traces : List Trace) → IsGroupSound first → AllTurnOut left traces lanes lanes → IsFedLog traces first first []
   fed_none traces keeps turns = log_is_fed left faults first first limit [] lanes lanes keeps refl refl are lane_none traces turns
 
-  none_bears : BearsBehind left limit first first lanes lanes site [] []
+  none_bears : BearsAfter left limit first first lanes lanes site [] []
   none_bears = record {
     fed = fed_none;
     up_to = λ traces none_held turns k t there. refl;
-    tracks = λ size traces held done keeps turns knows begins n few. subst (λ (m : ℕ). HoldsBehind size traces held site [] m) (sym (at_none n few)) begins.truth;
+    tracks = λ size traces held done keeps turns knows begins n few. subst (λ (m : ℕ). HoldsAfter size traces held site [] m) (sym (at_none n few)) begins.truth;
     breaks = λ traces keeps turns n few k b t there breaks awaits late early. absurd (late_or_early n few b late early);
-    times = λ n m nm few. (rises n m nm few, subst (λ (m : ℕ). time_meant_behind (take m []) site.time ≤ limit) (sym (at_none m few)) low);
+    times = λ n m nm few. (rises n m nm few, subst (λ (m : ℕ). time_meant_after (take m []) site.time ≤ limit) (sym (at_none m few)) low);
     each = λ run level goes_on apart keeps turns broke. record { each = tt; due = refl };
   }
     where
       at_none : (n : ℕ) → n ≤ 0 → n ≡ 0
       at_none n few = omega (arith, few)
 
-      late_or_early : (n : ℕ) → n ≤ 0 → (b : ℕ) → site.time ≤ b → b < time_meant_behind (take n []) site.time → ⊥
+      late_or_early : (n : ℕ) → n ≤ 0 → (b : ℕ) → site.time ≤ b → b < time_meant_after (take n []) site.time → ⊥
       late_or_early zero few b late early = omega (arith, late, early)
       late_or_early (suc n) few b late early = omega (arith, few)
 
-      rises : (n m : ℕ) → n ≤ m → m ≤ 0 → time_meant_behind (take n []) site.time ≤ time_meant_behind (take m []) site.time
+      rises : (n m : ℕ) → n ≤ m → m ≤ 0 → time_meant_after (take n []) site.time ≤ time_meant_after (take m []) site.time
       rises zero zero nm few = omega arith
       rises zero (suc m) nm few = absurd (omega (arith, few))
       rises (suc n) zero nm few = absurd (omega (arith, nm))

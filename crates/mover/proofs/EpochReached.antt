@@ -16,7 +16,7 @@ use Rattle.fed_logs.specs.ShownBreaks.{BreaksAreToCome, is_break_below}
 use Rattle.fed_logs.proofs.BreaksToCome.{later_breaks_are_to_come}
 use Rattle.fed_logs.proofs.ReadCalls.{some_trace}
 use Rattle.fed_logs.specs.Reads.{ReadsOn}
-use Rattle.fed_logs.specs.Tellers.{break_bound}
+use Rattle.fed_logs.specs.Reporters.{break_bound}
 use Rattle.site_store.specs.DeedChanges.{AreByChanges, DeedOfChanges, deeds_of}
 use Rattle.turn_group.specs.Notes.{KnownVolume, says}
 use Rattle.turn_group.specs.Notes.SeatNote.{MoverNote}
@@ -26,7 +26,7 @@ use Rattle.site_store.specs.Sites.{SiteState}
 use Rattle.mover.specs.declared.lane.Lane.{Lane}
 use Rattle.mover.specs.Readers.{LaneReaderState}
 use Rattle.mover.specs.Lanes.{HadBroken, IsReaderOf, broken_by}
-use Rattle.mover.specs.Moves.{IsInStep, IsLeftBehind, KnowsRows, MayMove, SessionGoesOn}
+use Rattle.mover.specs.Moves.{IsInStep, IsLeftAfter, KnowsRows, MayMove, SessionGoesOn}
 use Rattle.mover.specs.Rounds.{AllRead, AreLanesOf, IsDone, Read}
 use Rattle.record_rows.specs.ToldRows.{InPlaces}
 use Rattle.mover.specs.Epochs.{AllTurnOut, IsAtLimit, IsAtTime, IsSamePair, LanesBrokeAs, MayBeginEpoch, TurnsOut, break_below}
@@ -85,7 +85,7 @@ module _ {S : Type 0} (left : S → Option (List ℕ)) (faults : S → ℕ) (lim
         lane_broke k t d (Some was) (Some now) is h done out was_so =
             broke_so left t limit up (slice_index_or old k d) (slice_index_or new k d) was now (map as_answer (calls_at (seat_at seats k))) h.reads_on (done_at_limit limit now done h.stands) (done_goes limit now done h.stands) before low is.goes out.0 h.below.halts was_so
 
-    -- Each reader told breaks below the limit alone.
+    -- Each reader reported breaks below the limit alone.
     own_below : (k : ℕ) → k < length first.controls → list_all (is_break_below limit) (part_of_reader k log) ≡ true
     own_below k low =
         let below : k < length old = omega (arith, low, lanes.many) in
@@ -109,8 +109,8 @@ module _ {S : Type 0} (left : S → Option (List ℕ)) (faults : S → ℕ) (lim
 
 -- ---- the site
 
-pub at_time : (limit : ℕ) (site after : SiteState) (steps : List DeedOfChanges) → IsLeftBehind site after (deeds_of steps) → after.time ≡ limit → AreByChanges site.level site.time site.told steps → SessionGoesOn site after → IsAtTime limit site after
-at_time limit site after steps behind time changes going = record { deeds = deeds_of steps; behind = behind; time = time; pairs = subst (InPlaces IsSamePair site.told) (sym behind.rows) (pairs_stay site.level site.time site.told steps changes); going = going }
+pub at_time : (limit : ℕ) (site after : SiteState) (steps : List DeedOfChanges) → IsLeftAfter site after (deeds_of steps) → after.time ≡ limit → AreByChanges site.level site.time site.told steps → SessionGoesOn site after → IsAtTime limit site after
+at_time limit site after steps is_left time changes going = record { deeds = deeds_of steps; is_left = is_left; time = time; pairs = subst (InPlaces IsSamePair site.told) (sym is_left.rows) (pairs_stay site.level site.time site.told steps changes); going = going }
 
 -- The state has the last cut and the volumes that the mover's seat knows. So the next epoch may begin.
 pub may_begin : (tells : Type 0) (limit : ℕ) (seat : MoverSeatState) (end : Group) (after : SiteState) (plant : PlantState) → says end (MoverNote seat.last seat.known) → MayMove tells limit seat after plant → MayBeginEpoch tells limit end after plant

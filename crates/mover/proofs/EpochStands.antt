@@ -1,4 +1,4 @@
--- Behind an epoch for a line that reached its limit, a session has again what an epoch begins with.
+-- After an epoch for a line that reached its limit, a session has again what an epoch begins with.
 use Rattle.std.proofs.Common.{◌≡◌, inl, inr, ℕ, suc, ◌+◌, ◌<◌, ◌≤◌, nat_eq, nat_lt, ◌&&◌, ◌||◌, not, Bool, true, false, List, [], ◌∷◌, ◌++◌, length, take, Option, None, refl, sym, ap, subst, ◌∙◌, arith, append-nil, append_assoc, true≢false}
 use Rattle.std.specs.Prelude.{fold}
 use Rattle.std.specs.List.{list_all}
@@ -18,13 +18,13 @@ use Rattle.group_state.specs.SoundStates.{IsGroupSound}
 use Rattle.row_changes.specs.Changes.{Timed}
 use Rattle.row_changes.specs.Changes.Due.{NoneDue}
 use Rattle.row_changes.specs.Spans.{hit_count, is_break}
-use Rattle.record_rows.specs.Deeds.{rows_behind, time_meant_behind}
+use Rattle.record_rows.specs.Deeds.{rows_after_deeds, time_meant_after}
 use Rattle.record_rows.proofs.Counting.{counts_append}
 use Rattle.site_means.specs.Images.{shape_of}
 use Rattle.xrc_command.specs.declared.line.Line.{Line}
 use Rattle.site_store.specs.DeedChanges.{DeedOfChanges, changes_of, deeds_of}
 use Rattle.site_store.specs.DoneDeeds.{DoesDeeds}
-use Rattle.site_store.specs.Exceptions.{Exceptions, excepted_behind}
+use Rattle.site_store.specs.Exceptions.{Exceptions, excepted_after}
 use Rattle.consistency.specs.Stages.{ScriptRun, breaks_of}
 use Rattle.fed_logs.specs.Feeds.{is_answer_of_mover, part_of_mover}
 use Rattle.fed_logs.specs.Logs.{BeginsLog, IsFedLog}
@@ -35,7 +35,7 @@ use Rattle.fed_logs.proofs.ShownBreaks.{logs_break_as_traces}
 use Rattle.consistency.specs.Bearing.{ShowsPoint}
 use Rattle.consistency.specs.Leads.{Point}
 use Rattle.consistency.specs.Ways.{IsLegOf, Leg, MayTakeEffect, PassedPoint, hits_of_leg, leg_after, leg_to}
-use Rattle.mover.specs.Points.{point_behind, point_by, points_by}
+use Rattle.mover.specs.Points.{point_after_deeds, point_by, points_by}
 use Rattle.mover.specs.SilentBreaks.{all_silent, with_silent}
 use Rattle.mover.specs.OwedTracks.{CarriedAsLive, FailedAreOwed, held_by_choice}
 use Rattle.mover.specs.Working.{IsKeptToEnd, StandsForRows, excepted_last, last_point_of, Work, WorkBegins, named_steps, points_in}
@@ -48,7 +48,7 @@ use Rattle.site_store.specs.Sites.{SiteState}
 use Rattle.site_store.proofs.RowRoom.{reads_choice}
 use Rattle.mover.specs.declared.ends.EpochEnd.TheVariants as ends
 use Rattle.mover.specs.declared.lane.Lane.{Lane}
-use Rattle.mover.specs.Moves.{Did, IsLeftBehind, KeepsAll}
+use Rattle.mover.specs.Moves.{Did, IsLeftAfter, KeepsAll}
 use Rattle.mover.specs.Epochs.{AreStepsOf, ReachedBy, point_of}
 use Rattle.mover.specs.Bearing.{EpochsStandAgain, IsEpochOf, RunSoFar, StandsAtLimit, StandsSoFar, is_early_break, run_on}
 use Rattle.mover.proofs.EarlyBreaks.{made_early, named_early}
@@ -59,13 +59,13 @@ use Rattle.mover.proofs.LogParts.{contains_filtered}
 -- ---- the leg that points leave
 
 -- The points of deeds leave a leg at the last of them, with all of their changes.
-leg_behind : (level : Level) (l : Leg) (moments : List ℕ) (steps : List DeedOfChanges) → length moments ≡ length steps → fold leg_after l (points_by level l.point moments steps) ≡ leg_to l (point_behind level l.point steps) (changes_of steps)
-leg_behind level l [] [] each = ap (λ (changes : List Timed). record l { changes = changes }) (sym (append-nil l.changes))
-leg_behind level l [] (step ∷ steps) each = absurd (omega (arith, each))
-leg_behind level l (t ∷ moments) [] each = absurd (omega (arith, each))
-leg_behind level l (t ∷ moments) (step ∷ steps) each =
-    leg_behind level (leg_to l (point_by level l.point step) step.changes) moments steps (omega (arith, each))
-    ∙ ap (λ (changes : List Timed). record l { point = point_behind level (point_by level l.point step) steps; changes = changes }) (append_assoc l.changes step.changes (changes_of steps))
+leg_after_steps : (level : Level) (l : Leg) (moments : List ℕ) (steps : List DeedOfChanges) → length moments ≡ length steps → fold leg_after l (points_by level l.point moments steps) ≡ leg_to l (point_after_deeds level l.point steps) (changes_of steps)
+leg_after_steps level l [] [] each = ap (λ (changes : List Timed). record l { changes = changes }) (sym (append-nil l.changes))
+leg_after_steps level l [] (step ∷ steps) each = absurd (omega (arith, each))
+leg_after_steps level l (t ∷ moments) [] each = absurd (omega (arith, each))
+leg_after_steps level l (t ∷ moments) (step ∷ steps) each =
+    leg_after_steps level (leg_to l (point_by level l.point step) step.changes) moments steps (omega (arith, each))
+    ∙ ap (λ (changes : List Timed). record l { point = point_after_deeds level (point_by level l.point step) steps; changes = changes }) (append_assoc l.changes step.changes (changes_of steps))
 
 -- ---- fewer exceptions
 
@@ -146,8 +146,8 @@ module _ {S : Type 0} (tells : Type 0) (left : S → Option (List ℕ)) (faults 
   same_end : e.goes.ran.end ≡ next
   same_end = sym e.goes.ran.ended
 
-  behind : IsLeftBehind site after (deeds_of steps)
-  behind = e.goes.ran.behind
+  is_left : IsLeftAfter site after (deeds_of steps)
+  is_left = e.goes.ran.is_left
 
   all : KeepsAll site after so.done (part_of_mover log) (deeds_of steps)
   all = e.goes.ran.all so.done (knows_duplex tells left faults so line group old new site after was is (ends.Reached next) e)
@@ -167,9 +167,9 @@ module _ {S : Type 0} (tells : Type 0) (left : S → Option (List ℕ)) (faults 
 
   last_is : last_point_of job ≡ point_of after
   last_is =
-      let time : (last_point_of job).time ≡ after.time = time_there run.level q steps ∙ ap (time_meant_behind (deeds_of steps)) at_time ∙ sym behind.time in
-      let rows : (last_point_of job).rows ≡ after.told = rows_there run.level q steps ∙ ap (rows_behind (deeds_of steps)) at_rows ∙ sym behind.rows in
-      let due : (last_point_of job).due ≡ NoneDue = ap (λ (o : Point). (point_behind run.level o steps).due) e.stands.at ∙ are_steps.due in
+      let time : (last_point_of job).time ≡ after.time = time_there run.level q steps ∙ ap (time_meant_after (deeds_of steps)) at_time ∙ sym is_left.time in
+      let rows : (last_point_of job).rows ≡ after.told = rows_there run.level q steps ∙ ap (rows_after_deeds (deeds_of steps)) at_rows ∙ sym is_left.rows in
+      let due : (last_point_of job).due ≡ NoneDue = ap (λ (o : Point). (point_after_deeds run.level o steps).due) e.stands.at ∙ are_steps.due in
       let flag : (last_point_of job).is_ended ≡ false = flag_there run.level q steps ∙ ap (λ (o : Point). o.is_ended) e.stands.at in
       λ i. record { time = time i; rows = rows i; due = due i; is_ended = flag i }
 
@@ -198,10 +198,10 @@ module _ {S : Type 0} (tells : Type 0) (left : S → Option (List ℕ)) (faults 
     | inr not ↦ absurd (true≢false (sym still ∙ sym (none_waits after did.still d x waits_none) ∙ did.fewer d x (same_there ∙ not)))
   ]
     where
-      same_there : excepted_behind site.told (deeds_of steps) (excepted_by_apply site so.excepted) d x ≡ excepted_last job d x
+      same_there : excepted_after site.told (deeds_of steps) (excepted_by_apply site so.excepted) d x ≡ excepted_last job d x
       same_there =
-          ap (λ (o : Exceptions). excepted_behind site.told (deeds_of steps) o d x) (λ i. λ d x. none_waits site so.excepted d x e.stands.has_site.idle i)
-          ∙ ap (λ (rows : List PairRow). excepted_behind rows (deeds_of steps) so.excepted d x) (sym at_rows)
+          ap (λ (o : Exceptions). excepted_after site.told (deeds_of steps) o d x) (λ i. λ d x. none_waits site so.excepted d x e.stands.has_site.idle i)
+          ∙ ap (λ (rows : List PairRow). excepted_after rows (deeds_of steps) so.excepted d x) (sym at_rows)
 
   rows_then : StandsForRows run so.size is did.still next (point_of after) all.known
   rows_then =
@@ -236,7 +236,7 @@ module _ {S : Type 0} (tells : Type 0) (left : S → Option (List ℕ)) (faults 
   leg_is_then : IsLegOf run so.stage leg_then
   leg_is_then =
       subst (λ (o : Point). IsLegOf run so.stage (leg_to so.leg o (changes_of named))) last_is
-      (subst (λ (l : List DeedOfChanges). IsLegOf run so.stage (leg_to so.leg (point_behind run.level q l) (changes_of (all_silent line.time.0 (breaks_of run) l)))) all_steps
+      (subst (λ (l : List DeedOfChanges). IsLegOf run so.stage (leg_to so.leg (point_after_deeds run.level q l) (changes_of (all_silent line.time.0 (breaks_of run) l)))) all_steps
       (leg_there was job began (length steps) (omega arith)))
 
   early_then : list_all (is_early_break line.time.0) leg_then.changes ≡ true
@@ -263,14 +263,14 @@ module _ {S : Type 0} (tells : Type 0) (left : S → Option (List ℕ)) (faults 
     hits = hits_then;
     shows = subst (λ (o : Point). AtNow (ShowsPoint run (shape_of is) o) is) last_is stood.1;
     rows = rows_then;
-    has_site = record { level = e.stands.has_site.level ∙ sym behind.level; goes_on = r.time.going e.stands.has_site.goes_on; idle = waits_none; stands = did.stands };
+    has_site = record { level = e.stands.has_site.level ∙ sym is_left.level; goes_on = r.time.going e.stands.has_site.goes_on; idle = waits_none; stands = did.stands };
     has_state = record { keeps = keeps_then; broke = broke_then; awaits = subst (λ (n : ℕ). BreaksAreToCome run.traces n next) (sym r.time.time) awaits_then };
     some = (is.bytes, reads_choice is r.begins.rests.fast.fits.home read);
   }
 
   leaves_leg : (moments : List ℕ) → length moments ≡ length (deeds_of steps) → fold leg_after so.leg (points_by run.level q moments named) ≡ leg_then
   leaves_leg moments each =
-      leg_behind run.level so.leg moments named (each ∙ count_deeds steps ∙ sym (length-map steps (with_silent line.time.0 (breaks_of run))))
+      leg_after_steps run.level so.leg moments named (each ∙ count_deeds steps ∙ sym (length-map steps (with_silent line.time.0 (breaks_of run))))
       ∙ ap (λ (o : Point). leg_to so.leg o (changes_of named)) (silent_points run.level line.time.0 (breaks_of run) q steps began.logged.each ∙ last_is)
 
   pub stands_at_limit : StandsAtLimit so line next after was is

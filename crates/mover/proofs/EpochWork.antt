@@ -15,7 +15,7 @@ use Rattle.site_means.proofs.Goes.{shape_same}
 use Rattle.xrc_command.specs.declared.line.Line.{Line}
 use Rattle.site_store.specs.DeedChanges.{DeedOfChanges, changes_of, deeds_of}
 use Rattle.site_store.specs.DoneDeeds.{BeginsDeeds, with_next}
-use Rattle.site_store.specs.Seeing.{SeesBehind}
+use Rattle.site_store.specs.Seeing.{SeesAfter}
 use Rattle.consistency.specs.Bearing.{Bears}
 use Rattle.consistency.specs.Stages.{breaks_of}
 use Rattle.fed_logs.specs.Feeds.{part_of_mover}
@@ -107,7 +107,7 @@ module _ {S : Type 0} (tells : Type 0) (left : S → Option (List ℕ)) (faults 
   -- ---- what it bears
 
   abbrev Sees : (n : ℕ) → Choice → Type 0
-  Sees n c = SeesBehind was so.excepted p.rows (take n (deeds_of steps)) c
+  Sees n c = SeesAfter was so.excepted p.rows (take n (deeds_of steps)) c
 
   -- A choice that shows so many of the deeds bears.
   seen_bears : (n : ℕ) (c : Choice) → n ≤ length (deeds_of steps) → Sees n c → BearsSome so is c
@@ -124,9 +124,9 @@ module _ {S : Type 0} (tells : Type 0) (left : S → Option (List ℕ)) (faults 
 
       by_size : Sees (suc n) c → (n < length (deeds_of steps)) ⊎ (length (deeds_of steps) ≤ n) → BearsSome so is c
       by_size sees (inl more) = seen_bears (suc n) c (omega (arith, more)) sees
-      by_size sees (inr all) = seen_bears n c begins.few (subst (λ (l : List Deed). SeesBehind was so.excepted p.rows l c) (take_all (suc n) (deeds_of steps) (omega (arith, all)) ∙ sym (take_all n (deeds_of steps) all)) sees)
+      by_size sees (inr all) = seen_bears n c begins.few (subst (λ (l : List Deed). SeesAfter was so.excepted p.rows l c) (take_all (suc n) (deeds_of steps) (omega (arith, all)) ∙ sym (take_all n (deeds_of steps) all)) sees)
 
-      by_side : Sees n c ⊎ SeesBehind was so.excepted p.rows (with_next n (deeds_of steps)) c → BearsSome so is c
+      by_side : Sees n c ⊎ SeesAfter was so.excepted p.rows (with_next n (deeds_of steps)) c → BearsSome so is c
       by_side (inl sees) = seen_bears n c begins.few sees
       by_side (inr sees) = by_size sees (cases_lt n (length (deeds_of steps)))
 

@@ -1,4 +1,4 @@
--- No track of a duplex row is excepted behind any of the deeds.
+-- No track of a duplex row is excepted after any of the deeds.
 use Rattle.std.proofs.Common.{◌≡◌, ◌⊎◌, inl, inr, ℕ, zero, suc, ◌<◌, ◌≤◌, Bool, true, false, cond, not, nat_eq, ◌&&◌, ◌||◌, List, [], ◌∷◌, ◌++◌, length, take, filter, Option, Some, None, refl, sym, ap, subst, ◌∙◌, arith, append-nil, true≢false}
 use Rattle.std.specs.List.{list_all, list_any}
 use Rattle.std.proofs.lemmas.Bool.{and_parts, and_from, cases_Bool, eq-eqb, not_from_false, or_left, or_right}
@@ -16,10 +16,10 @@ use Rattle.group_state.specs.Machine.{Call, Reply}
 use Rattle.group_state.specs.Machine.Call.{Join, NextWanted, Copied, Raise, Break, Form, Carry, Drop, Resume, Forget}
 use Rattle.group_state.specs.Runs.{Answer}
 use Rattle.pair_table.specs.States.{is_device_suspended}
-use Rattle.record_rows.specs.Deeds.{Deed, entries_by_deed, rows_behind, rows_by_deed}
+use Rattle.record_rows.specs.Deeds.{Deed, entries_by_deed, rows_after_deeds, rows_by_deed}
 use Rattle.record_rows.specs.Deeds.Deed.{Logged, Changed, Marked}
-use Rattle.site_store.specs.Exceptions.{Exceptions, excepted_behind, excepted_by_deed, is_kept, is_whole_on}
-use Rattle.fed_logs.specs.ToldTracks.{HeldTracks, held_behind_group, names_track}
+use Rattle.site_store.specs.Exceptions.{Exceptions, excepted_after, excepted_by_deed, is_kept, is_whole_on}
+use Rattle.fed_logs.specs.ToldTracks.{HeldTracks, held_after_group, names_track}
 use Rattle.group_state.specs.SoundStates.{is_entry_of_control}
 use Rattle.fed_logs.proofs.Keeping.{at_map}
 use Rattle.group_state.proofs.OwnParts.{own_part}
@@ -34,13 +34,13 @@ use Rattle.mover.specs.OwedTracks.{ExceptedAreOwed, IsUnfailed, is_copied_to, is
 use Rattle.mover.proofs.Copying.{OwedLater, done_owes_none, drops_later, forms_later, kept_within, read_later, read_within}
 use Rattle.mover.proofs.Held.{KeepPairs}
 use Rattle.mover.proofs.Pairs.{Among, among_of, apart_still, entry_names, one_device, pairs_of}
-use Rattle.mover.proofs.Pairs.Among.{Here as First, Later as Behind}
+use Rattle.mover.proofs.Pairs.Among.{Here as First, Later as After}
 
 -- ---- rows that keep their devices
 
 any_among : (test : PairRow → Bool) (r : PairRow) (rows : List PairRow) → Among r rows → test r ≡ true → list_any test rows ≡ true
 any_among test r _ (First rows) is = or_left (test r) (list_any test rows) is
-any_among test r _ (Behind s rows there) is = or_right (test s) (list_any test rows) (any_among test r rows there is)
+any_among test r _ (After s rows there) is = or_right (test s) (list_any test rows) (any_among test r rows there is)
 
 -- The device of an unfailed row is kept.
 pub unfailed_is_kept : (k v : ℕ) (rows : List PairRow) (has : HasRowIn IsUnfailed k v rows) → is_kept has.row.device rows ≡ true
@@ -48,12 +48,12 @@ unfailed_is_kept k v rows has =
     any_among (λ r. is_of has.row.device r && not (is_device_suspended r.state)) has.row rows (among_of rows has.row has.among)
     (and_from (nat_eq has.row.device has.row.device) (not (is_device_suspended has.row.state)) (eq-eqb has.row.device has.row.device refl) (not_from_false (is_device_suspended has.row.state) has.state))
 
--- Rows are unfailed behind each deed only where they were before.
+-- Rows are unfailed after each deed only where they were before.
 abbrev pub KeepFailed : List PairRow → List Deed → Type 0
 KeepFailed rows [] = Unit {0}
 KeepFailed rows (deed ∷ deeds) = ((k v : ℕ) → HasRowIn IsUnfailed k v (rows_by_deed deed) → HasRowIn IsUnfailed k v rows) × KeepFailed (rows_by_deed deed) deeds
 
--- What is excepted of it behind a deed was so before, and no whole image of it was logged.
+-- What is excepted of it after a deed was so before, and no whole image of it was logged.
 pub excepted_before : (kept was whole : Bool) → kept ≡ true → (not kept || (was && not whole)) ≡ true → (was ≡ true) × (whole ≡ false)
 excepted_before true true false is e = (refl, refl)
 excepted_before true true true is e = absurd (true≢false (sym e))
@@ -62,7 +62,7 @@ excepted_before false was whole is e = absurd (true≢false (sym is))
 
 -- ---- one deed
 
--- the same of a row behind a deed, by the row of its volume before
+-- the same of a row after a deed, by the row of its volume before
 module _ (rows next : List PairRow) (apart : none_clash rows ≡ true) (same : pairs_of next ≡ pairs_of rows) (k v : ℕ) (has : HasRowIn IsUnfailed k v next) (was : HasRowIn IsUnfailed k v rows) where
   device_was : was.row.device ≡ has.row.device
   device_was = one_device IsUnfailed IsUnfailed k v rows next apart same was has
@@ -111,12 +111,12 @@ module _ (size : Sizes) (traces : List Trace) (held : HeldTracks) (s end : Group
   abbrev shown : Shown
   shown = shown_at cut s
 
-  -- What the group took of a control's queue was shown.
+  -- What the group took of a controller's queue was shown.
   taken_is_shown : (time : ℕ) (rows : List PairRow) (done : Plans) → BeginsLog size traces held s time rows done → (k : ℕ) → k < length s.controls → filter (is_entry_of_control k) shown.entries ≡ due cut (control_at s k).queue.waiting
   taken_is_shown time rows done b k low = own_part s cut k log.kept low
 
-  owed_behind : (k v x : ℕ) → k < length s.controls → list_any (is_copied_to v x) (due cut (control_at s k).queue.waiting) ≡ false → OwedLater v x (control_at s k) → OwedLater v x (control_at (formed_at cut s) k)
-  owed_behind k v x low none h = subst (OwedLater v x) (sym (at_map cut s.controls k low)) (forms_later cut v x (control_at s k) none h)
+  owed_after : (k v x : ℕ) → k < length s.controls → list_any (is_copied_to v x) (due cut (control_at s k).queue.waiting) ≡ false → OwedLater v x (control_at s k) → OwedLater v x (control_at (formed_at cut s) k)
+  owed_after k v x low none h = subst (OwedLater v x) (sym (at_map cut s.controls k low)) (forms_later cut v x (control_at s k) none h)
 
   within_form : (k v : ℕ) → is_volume_kept v (control_at (formed_at cut s) k) ≡ true → k < length s.controls
   within_form k v kept = let low = kept_within (formed_at cut s) k v kept in omega (arith, low, formed_count s cut)
@@ -127,7 +127,7 @@ module _ (size : Sizes) (traces : List Trace) (held : HeldTracks) (s end : Group
       let was = f k v has in
       let within = within_form k v kept in
       let before = was_excepted mid next apart same k v has was (Logged cut.0 shown.entries next) refl excepted x e in
-      owed_behind k v x within (none_taken was within before.1) (λ there. h k v was there x low before.0) kept
+      owed_after k v x within (none_taken was within before.1) (λ there. h k v was there x low before.0) kept
     where
       none_taken : (was : HasRowIn IsUnfailed k v mid) → k < length s.controls → list_any (is_whole_on mid was.row.device x) shown.entries ≡ false → list_any (is_copied_to v x) (due cut (control_at s k).queue.waiting) ≡ false
       none_taken was within none = by (list_any (is_copied_to v x) (due cut (control_at s k).queue.waiting)) refl
@@ -144,7 +144,7 @@ module _ (size : Sizes) (traces : List Trace) (held : HeldTracks) (s end : Group
   nothing_owed excepted time rows done none b h k v has kept x low e =
       let within = within_form k v kept in
       let empty : due cut (control_at s k).queue.waiting ≡ [] = sym (taken_is_shown time rows done b k within) ∙ ap (filter (is_entry_of_control k)) none in
-      owed_behind k v x within (ap (list_any (is_copied_to v x)) empty) (λ there. h k v has there x low e) kept
+      owed_after k v x within (ap (list_any (is_copied_to v x)) empty) (λ there. h k v has there x low e) kept
 
 -- ---- a volume that is dropped
 
@@ -180,7 +180,7 @@ module _ (size : Sizes) (traces : List Trace) where
   NoneExcepted excepted rows = (k v : ℕ) (has : HasRowIn IsDuplex k v rows) (x : ℕ) → x < size k v → excepted has.row.device x ≡ false
 
   abbrev Goal : Exceptions → List PairRow → List Deed → Type 0
-  Goal excepted rows deeds = (n : ℕ) → n ≤ length deeds → NoneExcepted (excepted_behind rows (take n deeds) excepted) (rows_behind (take n deeds) rows)
+  Goal excepted rows deeds = (n : ℕ) → n ≤ length deeds → NoneExcepted (excepted_after rows (take n deeds) excepted) (rows_after_deeds (take n deeds) rows)
 
   -- what is known of rows and exceptions at a state
   pub record Here (held : HeldTracks) (excepted : Exceptions) (s : Group) (time : ℕ) (rows : List PairRow) (done : Plans) (deeds : List Deed) : Type 0 where
@@ -201,7 +201,7 @@ module _ (size : Sizes) (traces : List Trace) where
   at_start excepted rows deeds none here zero le = here
   at_start excepted rows deeds none here (suc n) le = absurd (let few : length deeds ≡ 0 = ap (λ (ds : List Deed). length ds) none in omega (arith, few, le))
 
-  -- quiet deeds, and more behind them
+  -- quiet deeds, and more after them
   quiet_on : (held : HeldTracks) (s : Group) (time : ℕ) (done : Plans) (quiet : List Deed) (excepted : Exceptions) (rows next : List PairRow) (more : List Deed) → AreQuiet time rows quiet next → Here held excepted s time rows done (quiet ++ more)
       → ((left : Exceptions) → Here held left s time next done more → Goal left next more) → Goal excepted rows (quiet ++ more)
   quiet_on held s time done [] excepted rows next more is h rest =
@@ -209,10 +209,10 @@ module _ (size : Sizes) (traces : List Trace) where
   quiet_on held s time done (Logged time_cut entries fewer ∷ quiet) excepted rows next more is h rest = absurd is
   quiet_on held s time done (Changed at fewer ∷ quiet) excepted rows next more is h rest =
       first_then excepted rows (Changed at fewer) (quiet ++ more) (now held excepted s time rows done (Changed at fewer ∷ (quiet ++ more)) h)
-      (quiet_on held s time done quiet (excepted_by_deed rows (Changed at fewer) excepted) fewer next more is.2 (behind is.1) rest)
+      (quiet_on held s time done quiet (excepted_by_deed rows (Changed at fewer) excepted) fewer next more is.2 (after is.1) rest)
     where
-      behind : AreFewer rows fewer → Here held (excepted_by_deed rows (Changed at fewer) excepted) s time fewer done (quiet ++ more)
-      behind f = record {
+      after : AreFewer rows fewer → Here held (excepted_by_deed rows (Changed at fewer) excepted) s time fewer done (quiet ++ more)
+      after f = record {
         begins = fewer_begins size traces held s time rows fewer done f h.begins;
         owed = fewer_owed size excepted s rows fewer (Changed at fewer) h.apart h.pairs.0 refl h.failed.0 h.owed;
         apart = apart_still rows fewer h.pairs.0 h.apart;
@@ -221,10 +221,10 @@ module _ (size : Sizes) (traces : List Trace) where
       }
   quiet_on held s time done (Marked spot ended fewer ∷ quiet) excepted rows next more is h rest =
       first_then excepted rows (Marked spot ended fewer) (quiet ++ more) (now held excepted s time rows done (Marked spot ended fewer ∷ (quiet ++ more)) h)
-      (quiet_on held s time done quiet (excepted_by_deed rows (Marked spot ended fewer) excepted) fewer next more is.1 (behind is.0) rest)
+      (quiet_on held s time done quiet (excepted_by_deed rows (Marked spot ended fewer) excepted) fewer next more is.1 (after is.0) rest)
     where
-      behind : AreFewer rows fewer → Here held (excepted_by_deed rows (Marked spot ended fewer) excepted) s time fewer done (quiet ++ more)
-      behind f = record {
+      after : AreFewer rows fewer → Here held (excepted_by_deed rows (Marked spot ended fewer) excepted) s time fewer done (quiet ++ more)
+      after f = record {
         begins = fewer_begins size traces held s time rows fewer done f h.begins;
         owed = fewer_owed size excepted s rows fewer (Marked spot ended fewer) h.apart h.pairs.0 refl h.failed.0 h.owed;
         apart = apart_still rows fewer h.pairs.0 h.apart;
@@ -255,7 +255,7 @@ module _ (size : Sizes) (traces : List Trace) where
           → (left : Exceptions) → Here held left s time mid done (Logged (cut_of s limit).0 (shown_at (cut_of s limit) s).entries next ∷ later) → Goal left mid (Logged (cut_of s limit).0 (shown_at (cut_of s limit) s).entries next ∷ later)
       logged mid next later follow moves left m =
           first_then left mid (Logged (cut_of s limit).0 (shown_at (cut_of s limit) s).entries next) later (now held left s time mid done (Logged (cut_of s limit).0 (shown_at (cut_of s limit) s).entries next ∷ later) m)
-          (rest (held_behind_group (shown_at (cut_of s limit) s).entries held) (excepted_by_deed mid (Logged (cut_of s limit).0 (shown_at (cut_of s limit) s).entries next) left) (formed_at (cut_of s limit) s) (cut_of s limit).0 next (plans_with_shown (shown_at (cut_of s limit) s) done) later (form_log traces s end limit reply run log) (record {
+          (rest (held_after_group (shown_at (cut_of s limit) s).entries held) (excepted_by_deed mid (Logged (cut_of s limit).0 (shown_at (cut_of s limit) s).entries next) left) (formed_at (cut_of s limit) s) (cut_of s limit).0 next (plans_with_shown (shown_at (cut_of s limit) s) done) later (form_log traces s end limit reply run log) (record {
             begins = form_begins size traces held s end limit reply run time mid next done log follow m.begins;
             owed = group_owed size traces held s end limit reply run log left time mid next done m.apart m.pairs.0 m.failed.0 m.begins m.owed;
             apart = apart_still mid next m.pairs.0 m.apart;
@@ -310,7 +310,7 @@ module _ (size : Sizes) (traces : List Trace) where
   one (Resume k v) reply run end rest held excepted s time rows done deeds log h moves = absurd (true≢false (sym (and_parts (is_call_of_seat (answer_of (Resume k v) reply)) (list_all is_call_of_seat run) log.seats).0))
   one (Forget k v) reply run end rest held excepted s time rows done deeds log h moves = absurd (true≢false (sym (and_parts (is_call_of_seat (answer_of (Forget k v) reply)) (list_all is_call_of_seat run) log.seats).0))
 
-  -- No track of a duplex row is excepted behind any of the deeds.
+  -- No track of a duplex row is excepted after any of the deeds.
   pub excepts_none : (run : List Answer) (end : Group) → Keeps run end
   excepts_none [] end = λ held excepted s time rows done deeds log h moves.
       subst (Goal excepted rows) (append-nil deeds)
@@ -323,9 +323,9 @@ module _ (size : Sizes) (traces : List Trace) where
     abbrev All : List Answer → ℕ → List PairRow → Plans → List Deed → Type 0
     All run t r p d = MakesAllDeeds t r p (part_of_mover run) d ended last known
 
-    -- What is excepted behind all deeds is owed.
+    -- What is excepted after all deeds is owed.
     abbrev Owes : Group → Exceptions → List PairRow → List Deed → Type 0
-    Owes end excepted rows deeds = ExceptedAreOwed size (excepted_behind rows deeds excepted) end last
+    Owes end excepted rows deeds = ExceptedAreOwed size (excepted_after rows deeds excepted) end last
 
     quiet_owes : (held : HeldTracks) (s end : Group) (time : ℕ) (done : Plans) (quiet : List Deed) (excepted : Exceptions) (rows next : List PairRow) (more : List Deed) → AreQuiet time rows quiet next → Here held excepted s time rows done (quiet ++ more)
         → ((left : Exceptions) → Here held left s time next done more → Owes end left next more) → Owes end excepted rows (quiet ++ more)
@@ -371,7 +371,7 @@ module _ (size : Sizes) (traces : List Trace) where
         logged : (mid next : List PairRow) (later : List Deed) → MayFollow (shown_at (cut_of s limit) s) mid next → All run (cut_of s limit).0 next (plans_with_shown (shown_at (cut_of s limit) s) done) later
             → (left : Exceptions) → Here held left s time mid done (Logged (cut_of s limit).0 (shown_at (cut_of s limit) s).entries next ∷ later) → Owes end left mid (Logged (cut_of s limit).0 (shown_at (cut_of s limit) s).entries next ∷ later)
         logged mid next later follow moves left m =
-            rest (held_behind_group (shown_at (cut_of s limit) s).entries held) (excepted_by_deed mid (Logged (cut_of s limit).0 (shown_at (cut_of s limit) s).entries next) left) (formed_at (cut_of s limit) s) (cut_of s limit).0 next
+            rest (held_after_group (shown_at (cut_of s limit) s).entries held) (excepted_by_deed mid (Logged (cut_of s limit).0 (shown_at (cut_of s limit) s).entries next) left) (formed_at (cut_of s limit) s) (cut_of s limit).0 next
             (plans_with_shown (shown_at (cut_of s limit) s) done) later (form_log traces s end limit reply run log) (record {
               begins = form_begins size traces held s end limit reply run time mid next done log follow m.begins;
               owed = group_owed size traces held s end limit reply run log left time mid next done m.apart m.pairs.0 m.failed.0 m.begins m.owed;
@@ -420,7 +420,7 @@ module _ (size : Sizes) (traces : List Trace) where
     one_owes (Resume k v) reply run end rest held excepted s time rows done deeds log h moves = absurd (true≢false (sym (and_parts (is_call_of_seat (answer_of (Resume k v) reply)) (list_all is_call_of_seat run) log.seats).0))
     one_owes (Forget k v) reply run end rest held excepted s time rows done deeds log h moves = absurd (true≢false (sym (and_parts (is_call_of_seat (answer_of (Forget k v) reply)) (list_all is_call_of_seat run) log.seats).0))
 
-    -- What is excepted behind the whole log is owed there.
+    -- What is excepted after the whole log is owed there.
     pub owes_at_end : (run : List Answer) (end : Group) → OwesAll run end
     owes_at_end [] end = λ held excepted s time rows done deeds log h moves.
         subst (Owes end excepted rows) (append-nil deeds)

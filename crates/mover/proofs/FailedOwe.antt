@@ -1,4 +1,4 @@
--- Behind a log a row that its device suspends owes all its tracks: it did so before, or its volume was dropped with all of them.
+-- After a log a row that its device suspends owes all its tracks: it did so before, or its volume was dropped with all of them.
 use Rattle.std.proofs.Common.{◌≡◌, ◌⊎◌, inl, inr, ◌<◌, ℕ, nat_eq, nat_lt, Bool, true, false, cond, not, ◌&&◌, ◌||◌, List, [], ◌∷◌, length, get_or, map, Option, Some, None, refl, sym, ap, ◌∙◌, subst, arith, true≢false, get_or-set_same, get_or-set_other, slice_get}
 use Rattle.std.specs.Prelude.{filter, find, slice_set}
 use Rattle.std.specs.List.{list_all, list_any}
@@ -198,7 +198,7 @@ call_whole k v a is = of a.call is
     of (Resume j w) e = absurd cc
     of (Forget j w) e = absurd cc
 
--- ---- behind a log
+-- ---- after a log
 
 -- what is kept of a track of a volume: it is mapped, or a drop with all tracks is still to come
 abbrev IsToMap : (k v x : ℕ) → Group → List Answer → Type 0
@@ -258,14 +258,14 @@ module _ (first : Group) (k v x n : ℕ) (below : x < n) (sized : passes_or_none
   mapped_by s (Resume j w) reply run next h low seat is to_map = absurd cc
   mapped_by s (Forget j w) reply run next h low seat is to_map = absurd cc
 
-  map_behind : (s : Group) (run : List Answer) (end : Group) → Runs s run end → list_all is_call_of_seat run ≡ true → HasSizesOf first s → k < length s.controls → IsToMap k v x s run → Mapped v x (control_at end k)
-  map_behind s [] end runs seats h low (inl there) = subst (λ (g : Group). Mapped v x (control_at g k)) (sym runs) there
-  map_behind s [] end runs seats h low (inr some) = absurd (true≢false (sym some))
-  map_behind s (a ∷ run) end (next, may, is, rest) seats h low to_map =
+  map_after : (s : Group) (run : List Answer) (end : Group) → Runs s run end → list_all is_call_of_seat run ≡ true → HasSizesOf first s → k < length s.controls → IsToMap k v x s run → Mapped v x (control_at end k)
+  map_after s [] end runs seats h low (inl there) = subst (λ (g : Group). Mapped v x (control_at g k)) (sym runs) there
+  map_after s [] end runs seats h low (inr some) = absurd (true≢false (sym some))
+  map_after s (a ∷ run) end (next, may, is, rest) seats h low to_map =
       let parts = and_parts (is_call_of_reader a.call || is_by_mover a.call) (list_all is_call_of_seat run) seats in
       let by = by_seat a.call parts.0 in
       let count = count_stays s next (sizes_last s s a.call a.reply next refl (by, may, is)) in
-      map_behind next run end rest parts.1 (sizes_last first s a.call a.reply next h (by, may, is)) (omega (arith, low, count)) (mapped_by s a.call a.reply run next h low parts.0 is to_map)
+      map_after next run end rest parts.1 (sizes_last first s a.call a.reply next h (by, may, is)) (omega (arith, low, count)) (mapped_by s a.call a.reply run next h low parts.0 is to_map)
 
 -- ---- at the start
 
@@ -337,4 +337,4 @@ module _ (size : Sizes) (first end : Group) (log : List Answer) (rows next : Lis
         | inl had ↦ inl (at_start k v x low below was had)
         | inr dropped ↦ inr dropped
       ] in
-      or_right (is_to_be_copied v x (control_at end k)) (passes (is_mapped x) (volume_of v (control_at end k).volumes)) (map_behind first k v x (size k v) below (are_sized k v low) was first log end runs seats refl low to_map)
+      or_right (is_to_be_copied v x (control_at end k)) (passes (is_mapped x) (volume_of v (control_at end k).volumes)) (map_after first k v x (size k v) below (are_sized k v low) was first log end runs seats refl low to_map)

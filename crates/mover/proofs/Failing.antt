@@ -104,7 +104,7 @@ unfailed_once level breaks due rows t apart may k v has =
     unfailed r there is true e =
         absurd (true≢false (sym (subst HasFailed is (failed_stays (reach_of level rows) breaks due rows t.time t.change apart may r there e)) ∙ has.state))
 
--- Rows are unfailed behind changes that may come only where they were before.
+-- Rows are unfailed after changes that may come only where they were before.
 pub unfailed_before : (level : Level) (breaks : List (Option ℕ)) (due last : Due) (from to : ℕ) (rows : List PairRow) (changes : List Timed) → none_clash rows ≡ true → Comes level breaks due from to rows changes last
     → (k v : ℕ) → HasRowIn IsUnfailed k v (after_changes level changes rows) → HasRowIn IsUnfailed k v rows
 unfailed_before level breaks due last from to rows [] apart comes k v has = has

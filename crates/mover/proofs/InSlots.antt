@@ -81,7 +81,7 @@ live_before v x (r ∷ rows) (s ∷ next) are is = elim (or_cases (is_track_of_l
         let parts = and_parts (not (is_suspended s.state)) (is_track_of_row v x s) now in
         and_from (not (is_suspended r.state)) (is_track_of_row v x r) (ap not (are.0.live (not-true (is_suspended s.state) parts.0))) (sym (ap (is_track_of_row v x) are.0.same) ∙ parts.1)
 
--- The mover writes no other slots behind calls that keep the pairs, if what waits then is of its tracks.
+-- The mover writes no other slots after calls that keep the pairs, if what waits then is of its tracks.
 pub slots_before : (site next : SiteState) → KeepPairs site.told next.told → ((v x : ℕ) → HasItem v x next.waiting → is_track_of_mover site v x ≡ true) → (v x : ℕ) → is_track_of_mover next v x ≡ true → is_track_of_mover site v x ≡ true
 slots_before site next still waits v x is = elim (or_cases (list_any (is_track_of_live v x) next.told) (list_any (is_of_track v x) next.waiting) is) [
   | inl row ↦ or_left (list_any (is_track_of_live v x) site.told) (list_any (is_of_track v x) site.waiting) (live_before v x site.told next.told still row)
@@ -108,7 +108,7 @@ module _ (tells : Type 0) (site next : SiteState) (old new : PlantState) (result
     rest = rest;
   }
 
-  -- One call behind another.
+  -- One call after another.
   pub slots_then : (mid : SiteState) (between : PlantState) → between.volumes ≡ old.volumes → (tells → Elapses old between) → (tells → Elapses between new) → WritesSlots tells site mid old between (Ok tt) → WritesSlots tells mid next between new result
       → WritesSlots tells site next old new result
   slots_then mid between same past later first then = record {
@@ -184,7 +184,7 @@ no_track v x (Delta d y kind ∷ pairs) are has = cc are
 no_track v x (Pair row ∷ pairs) are has = no_track v x pairs are has
 no_track v x (Gone d ∷ pairs) are has = cc are
 
--- What waits behind a group is of tracks of rows that weren't suspended before it.
+-- What waits after a group is of tracks of rows that weren't suspended before it.
 pub slots_logged : (tells : Type 0) (group : FormedGroup) (failed : List Bool) (known : List (List KnownVolume)) (site next : SiteState) (rows : List PairRow) (old : PlantState) → KnowsRows known site.told → list_all (is_of_carried known) group.entries ≡ true
     → KeepPairs site.told rows → KeepPairs site.told next.told → AreItemsOf tells group failed rows next.told old next.waiting → (v x : ℕ) → is_track_of_mover next v x ≡ true → is_track_of_mover site v x ≡ true
 slots_logged tells group failed known site next rows old knows carried before still items = slots_before site next still waits

@@ -45,7 +45,7 @@ module _ (traces : List Trace) (k v : ℕ) where
   one_back (Resume j w) reply run end rest s log kept = absurd (true≢false (sym (and_parts (is_call_of_seat (answer_of (Resume j w) reply)) (list_all is_call_of_seat run) log.seats).0))
   one_back (Forget j w) reply run end rest s log kept = absurd (true≢false (sym (and_parts (is_call_of_seat (answer_of (Forget j w) reply)) (list_all is_call_of_seat run) log.seats).0))
 
-  -- A volume that is kept behind a log was kept before it.
+  -- A volume that is kept after a log was kept before it.
   pub kept_back : (run : List Answer) (end : Group) → KeptBack run end
   kept_back [] end = λ s log kept. subst (λ (g : Group). is_volume_kept v (control_at g k) ≡ true) log.runs kept
   kept_back (a ∷ run) end = one_back a.call a.reply run end (kept_back run end)

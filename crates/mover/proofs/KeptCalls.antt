@@ -58,7 +58,7 @@ quiet_before time quiet deeds rows next done (a ∷ run) is makes = record {
   goes_on = makes.goes_on;
 }
 
--- What was kept of a call is kept with more deeds behind it, if what follows is.
+-- What was kept of a call is kept with more deeds after it, if what follows is.
 module _ (rest then : Following) (more : List Deed) (on : (t : ℕ) (r : List PairRow) (p : Plans) (d : List Deed) → rest t r p d → then t r p (d ++ more)) where
   shown_on : (time : ℕ) (rows : List PairRow) (done : Plans) (o : Option Shown) (deeds : List Deed) → KeepsShown time rows done o deeds rest → KeepsShown time rows done o (deeds ++ more) then
   shown_on time rows done None deeds keeps = absurd keeps
@@ -89,7 +89,7 @@ module _ (rest then : Following) (more : List Deed) (on : (t : ℕ) (r : List Pa
   call_on time rows done (Resume k v) reply deeds keeps = absurd keeps
   call_on time rows done (Forget k v) reply deeds keeps = absurd keeps
 
--- What was kept of calls and of others behind them was kept of all of them.
+-- What was kept of calls and of others after them was kept of all of them.
 module _ (mid : ℕ) (between : List PairRow) (known : Plans) (others : List Answer) (more : List Deed) where
   pub all_then_all : (end : ℕ) (last : List PairRow) (still : Plans) → MakesAllDeeds mid between known others more end last still → (run : List Answer) (time : ℕ) (rows : List PairRow) (done : Plans) (deeds : List Deed) → MakesAllDeeds time rows done run deeds mid between known
       → MakesAllDeeds time rows done (run ++ others) (deeds ++ more) end last still
@@ -120,16 +120,16 @@ module _ (mid : ℕ) (between : List PairRow) (known : Plans) (others : List Ans
 
 -- ---- drops
 
-abbrev pub plans_behind : List VolumeDrop → Plans → Plans
-plans_behind [] done = done
-plans_behind (d ∷ drops) done = plans_behind drops (plans_without d.control d.volume done)
+abbrev pub plans_after_drops : List VolumeDrop → Plans → Plans
+plans_after_drops [] done = done
+plans_after_drops (d ∷ drops) done = plans_after_drops drops (plans_without d.control d.volume done)
 
 -- Each drop is of a volume whose row isn't duplex, and of one without all its tracks it is known that its plan is done.
 abbrev AreDroppable : List PairRow → Plans → List VolumeDrop → Type 0
 AreDroppable rows done [] = Unit {0}
 AreDroppable rows done (d ∷ drops) = (HasRowIn IsDuplex d.control d.volume rows → ⊥) × (d.all ≡ false → IsTrue (done d.control d.volume)) × AreDroppable rows (plans_without d.control d.volume done) drops
 
-drops_make : (time : ℕ) (rows : List PairRow) (done : Plans) (drops : List VolumeDrop) → AreDroppable rows done drops → MakesAllDeeds time rows done (map answer_of_drop drops) [] time rows (plans_behind drops done)
+drops_make : (time : ℕ) (rows : List PairRow) (done : Plans) (drops : List VolumeDrop) → AreDroppable rows done drops → MakesAllDeeds time rows done (map answer_of_drop drops) [] time rows (plans_after_drops drops done)
 drops_make time rows done [] may = (refl, refl, refl)
 drops_make time rows done (d ∷ drops) may = record {
   quiet = [];
@@ -141,7 +141,7 @@ drops_make time rows done (d ∷ drops) may = record {
 }
 
 -- A plan that none of the drops is of is known still.
-known_still : (k v : ℕ) (drops : List VolumeDrop) (done : Plans) → is_dropped k v drops ≡ false → done k v ≡ true → plans_behind drops done k v ≡ true
+known_still : (k v : ℕ) (drops : List VolumeDrop) (done : Plans) → is_dropped k v drops ≡ false → done k v ≡ true → plans_after_drops drops done k v ≡ true
 known_still k v [] done none is = is
 known_still k v (d ∷ drops) done none is = known_still k v drops (plans_without d.control d.volume done) parts.1 (and_from (done k v) (not (names_volume k v d.control d.volume)) is (not_from_false (names_volume k v d.control d.volume) (other_way parts.0)))
   where
@@ -200,7 +200,7 @@ droppable all was place (r ∷ rows) done apart gone known =
       later (plans_without r.control r.volume done) (λ i s at duplex. and_from (done s.control s.volume) (not (names_volume s.control s.volume r.control r.volume)) (known_on i s at duplex) (not_from_false (names_volume s.control s.volume r.control r.volume) (other i s at))),
     )
 
--- ---- drops behind rows
+-- ---- drops after rows
 
 module _ (was : List (Option PairState)) (rows next : List PairRow) (states : are_states_of rows was) (still : KeepPairs rows next) (apart : none_clash next ≡ true) where
   abbrev drops : List VolumeDrop
@@ -214,7 +214,7 @@ module _ (was : List (Option PairState)) (rows next : List PairRow) (states : ar
 
   -- Plans of rows that were duplex are known, and those of rows that are.
   module _ (time : ℕ) (done : Plans) (before_known : KnowsDuplex rows done) (knows : KnowsDuplex next done) where
-    pub drops_kept : MakesAllDeeds time next done (map answer_of_drop drops) [] time next (plans_behind drops done)
+    pub drops_kept : MakesAllDeeds time next done (map answer_of_drop drops) [] time next (plans_after_drops drops done)
     drops_kept = drops_make time next done drops (droppable next was 0 next done apart gone_of (λ i r at duplex. known_of i r at (before KeepsPair rows next i r still at) duplex))
       where
         known_of : (i : ℕ) (r : PairRow) → slice_get next i ≡ Some r → (b : Before KeepsPair rows i r) → get_or was (i + 0) None ≡ Some Duplex → done r.control r.volume ≡ true
@@ -223,7 +223,7 @@ module _ (was : List (Option PairState)) (rows next : List PairRow) (states : ar
             let state : b.row.state ≡ Duplex = same_Some b.row.state Duplex (sym (states i b.row b.at) ∙ ap (λ (n : ℕ). get_or was n None) same ∙ duplex) in
             before_known r.control r.volume (record { row = b.row; among = contains_at rows i b.row b.at; control = ap (λ (x : PairRow). x.control) (sym b.is.same); volume = ap (λ (x : PairRow). x.volume) (sym b.is.same); state = state })
 
-    pub knows_still : KnowsDuplex next (plans_behind drops done)
+    pub knows_still : KnowsDuplex next (plans_after_drops drops done)
     knows_still k v has = known_still k v drops done (by (is_dropped k v drops) refl) (knows k v has)
       where
         by : (b : Bool) → is_dropped k v drops ≡ b → b ≡ false

@@ -27,11 +27,11 @@ some_item [] k low = absurd (omega (arith, low))
 some_item (x ∷ items) k low = x
 
 module _ {S : Type 0} (left : S → Option (List ℕ)) (t : Trace) (old new : Lane S) (was is : LaneReaderState) (run : List Answer) (reads : ReadsOn (left old.source) (left new.source) was.feed is.feed run) (out : TurnsOut left t old new was is) (goes : was.feed.halted ≡ None) where
-  -- what the bytes are that still come behind what the reader used
+  -- what the bytes are that still come after what the reader used
   abbrev later_of : List ℕ
   later_of = let r = reads.reads goes out.bytes out.ahead in (out.gave r.used r.rest r.split r.left).0
 
-  -- Calls of a reader that read on at first were fed by its trace, and it stands so behind them.
+  -- Calls of a reader that read on at first were fed by its trace, and it stands so after them.
   pub went_so : Went out.outlook later_of t was.feed is.feed run
   went_so =
       let r = reads.reads goes out.bytes out.ahead in

@@ -1,4 +1,4 @@
--- Behind an epoch that reached its limit each lane is again its control's.
+-- After an epoch that reached its limit each lane is again its controller's.
 use Rattle.std.proofs.Common.{◌≡◌, ◌<◌, ◌≤◌, ◌*◌, ◌==◌, ◌&&◌, ◌||◌, ℕ, nat_lt, Bool, true, false, List, [], ◌∷◌, length, map, Option, Some, None, refl, sym, ap, ◌∙◌, subst, ◌⊎◌, inl, inr}
 use Rattle.std.specs.List.{list_all}
 use Rattle.std.proofs.lemmas.Bool.{and_parts}
@@ -11,8 +11,8 @@ use Rattle.write_trace.specs.Headers.{cylinders_of}
 use Rattle.sidefile.specs.declared.hand.Halt.{Halt}
 use Rattle.sidefile.specs.declared.hand.Halt.TheVariants as halts
 use Rattle.group_state.specs.declared.volume.Volume.{Volume}
-use Rattle.group_state.specs.Calls.{is_by_mover, telling_after}
-use Rattle.group_state.specs.Controls.{is_telling}
+use Rattle.group_state.specs.Calls.{is_by_mover, reporting_after}
+use Rattle.group_state.specs.Controls.{is_reporting}
 use Rattle.group_state.specs.Groups.{Group, control_at}
 use Rattle.group_state.specs.Machine.{Call}
 use Rattle.group_state.specs.Machine.Call.{Join, NextWanted, Copied, Raise, Break, Form, Carry, Drop, Resume, Forget}
@@ -21,10 +21,10 @@ use Rattle.fed_logs.specs.Feeds.{is_call_of_reader, part_of_reader}
 use Rattle.fed_logs.specs.Logs.{is_call_of_seat}
 use Rattle.fed_logs.specs.declared.reading.Reading.{Reading}
 use Rattle.fed_logs.specs.declared.reading.Reading.TheVariants as readings
-use Rattle.fed_logs.specs.LaneFeeds.{FeedState, floor_behind_calls, telling_behind_calls}
+use Rattle.fed_logs.specs.LaneFeeds.{FeedState, floor_after_calls, reporting_after_calls}
 use Rattle.fed_logs.specs.Reads.{ReadsOn}
-use Rattle.fed_logs.specs.Tellers.{StandsAs}
-use Rattle.fed_logs.proofs.ToldControls.{floors_are_told, telling_is_told}
+use Rattle.fed_logs.specs.Reporters.{StandsAs}
+use Rattle.fed_logs.proofs.ToldControls.{floors_are_by_calls, reporting_is_by_calls}
 use Rattle.fed_logs.proofs.InTurn.{no_halt}
 use Rattle.turn_group.specs.Notes.{known_of, known_volume, volumes_known}
 use Rattle.turn_group.proofs.Known.{HasSizesOf, sizes_at, sizes_in, sizes_known, sizes_last}
@@ -46,7 +46,7 @@ sizes_stay first s (a ∷ run) end (next, may, is, rest) seats h =
 count_known : (s : Group) → length (sizes_known (volumes_known s)) ≡ length s.controls
 count_known s = length-map (volumes_known s) sizes_in ∙ length-map s.controls known_of
 
--- They leave how many controls there are.
+-- They leave how many controllers there are.
 pub count_stays : (first end : Group) → HasSizesOf first end → length end.controls ≡ length first.controls
 count_stays first end h = sym (count_known end) ∙ ap length h ∙ count_known first
 
@@ -65,7 +65,7 @@ sized_still first end k heads h is =
 
 -- ---- a reader at the limit
 
--- A feed that reads on behind calls did so before.
+-- A feed that reads on after calls did so before.
 pub went_on : (before now : Option (List ℕ)) (old new : FeedState) (gained : List Answer) → ReadsOn before now old new gained → new.halted ≡ None → old.halted ≡ None
 went_on before now old new gained reads goes = of old.halted refl
   where
@@ -97,14 +97,14 @@ done_at_limit limit r done stands goes = of (stands_done limit r done stands)
     of (inl at) = (at.1, at.2)
     of (inr (cause, upto, is)) = absurd (no_halt r.feed.halted (halts.Broken cause upto) goes is)
 
--- ---- a control that doesn't tell
+-- ---- a controller that doesn't tell
 
--- It tells no more behind further calls.
-pub tells_no_more : (run : List Answer) → telling_behind_calls false run ≡ false
+-- It reports no more after further calls.
+pub tells_no_more : (run : List Answer) → reporting_after_calls false run ≡ false
 tells_no_more [] = refl
-tells_no_more (a ∷ run) = ap (λ (t : Bool). telling_behind_calls t run) (still a.call) ∙ tells_no_more run
+tells_no_more (a ∷ run) = ap (λ (t : Bool). reporting_after_calls t run) (still a.call) ∙ tells_no_more run
   where
-    still : (call : Call) → telling_after call false ≡ false
+    still : (call : Call) → reporting_after call false ≡ false
     still (Join b) = refl
     still (NextWanted k) = refl
     still (Copied k v x at slot) = refl
@@ -116,36 +116,36 @@ tells_no_more (a ∷ run) = ap (λ (t : Bool). telling_behind_calls t run) (stil
     still (Resume k v) = refl
     still (Forget k v) = refl
 
--- ---- a lane's reader behind the epoch
+-- ---- a lane's reader after the epoch
 
 module _ (first end : Group) (log : List Answer) (runs : Runs first log end) (seats : list_all is_call_of_seat log ≡ true) (k limit : ℕ) (low : k < length first.controls) (before now : Option (List ℕ)) (was is : LaneReaderState) (reader : IsReaderOf first k limit was) (same : IsSameLane was.feed is.feed)
     (reads : ReadsOn before now was.feed is.feed (part_of_reader k log)) (within : is.feed.side.upto ≤ limit) (goes : MayGoOn is.feed) where
   floor_again : is.feed.halted ≡ None → (control_at end k).floor.0 ≡ is.feed.primary.time
   floor_again on =
       let was_on = went_on before now was.feed is.feed (part_of_reader k log) reads on in
-      floors_are_told first log end runs k low ∙ ap (λ n. floor_behind_calls n (part_of_reader k log)) (reader.floor was_on) ∙ reads.floor goes
+      floors_are_by_calls first log end runs k low ∙ ap (λ n. floor_after_calls n (part_of_reader k log)) (reader.floor was_on) ∙ reads.floor goes
 
-  telling_again : is.feed.halted ≡ None → is_telling (control_at end k).phase ≡ true
-  telling_again on =
+  reporting_again : is.feed.halted ≡ None → is_reporting (control_at end k).phase ≡ true
+  reporting_again on =
       let was_on = went_on before now was.feed is.feed (part_of_reader k log) reads on in
-      telling_is_told first log end runs k low ∙ ap (λ b. telling_behind_calls b (part_of_reader k log)) (reader.telling was_on) ∙ reads.telling on
+      reporting_is_by_calls first log end runs k low ∙ ap (λ b. reporting_after_calls b (part_of_reader k log)) (reader.reporting was_on) ∙ reads.reporting on
 
   -- A reader that has broken told its break, now or before.
-  silent_again : (cause : Cause) (upto : Stamp) → is.feed.halted ≡ Some (halts.Broken cause upto) → is_telling (control_at end k).phase ≡ false
-  silent_again cause upto broken = telling_is_told first log end runs k low ∙ of was.feed.halted refl
+  silent_again : (cause : Cause) (upto : Stamp) → is.feed.halted ≡ Some (halts.Broken cause upto) → is_reporting (control_at end k).phase ≡ false
+  silent_again cause upto broken = reporting_is_by_calls first log end runs k low ∙ of was.feed.halted refl
     where
-      of : (halted : Option Halt) → was.feed.halted ≡ halted → telling_behind_calls (is_telling (control_at first k).phase) (part_of_reader k log) ≡ false
-      of None on = ap (λ b. telling_behind_calls b (part_of_reader k log)) (reader.telling on) ∙ reads.told on cause upto broken
+      of : (halted : Option Halt) → was.feed.halted ≡ halted → reporting_after_calls (is_reporting (control_at first k).phase) (part_of_reader k log) ≡ false
+      of None on = ap (λ b. reporting_after_calls b (part_of_reader k log)) (reader.reporting on) ∙ reads.told on cause upto broken
       of (Some halt) stopped =
           let still = reader.broken cause upto (ap (λ (f : FeedState). f.halted) (sym (reads.stays halt stopped).0) ∙ broken) in
-          ap (λ b. telling_behind_calls b (part_of_reader k log)) still ∙ tells_no_more (part_of_reader k log)
+          ap (λ b. reporting_after_calls b (part_of_reader k log)) still ∙ tells_no_more (part_of_reader k log)
 
   pub reader_again : IsReaderOf end k limit is
   reader_again = record {
     control = same.control ∙ reader.control;
     sized = subst (λ (h : List VolumeHead). IsOfHeader h (control_at end k)) (sym same.heads) (sized_still first end k (heads_of was.feed) (sizes_stay first first log end runs seats refl) reader.sized);
     floor = floor_again;
-    telling = telling_again;
+    reporting = reporting_again;
     broken = silent_again;
     within = within;
     goes = goes;

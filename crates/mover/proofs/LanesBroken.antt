@@ -14,7 +14,7 @@ use Rattle.sidefile.specs.Halts.{broken_in}
 use Rattle.group_state.specs.Runs.{Answer}
 use Rattle.fed_logs.specs.LaneFeeds.{FeedState}
 use Rattle.fed_logs.specs.Reads.{HasRead, IsHeldRun, Outlook, ReadsOn, StandsSo}
-use Rattle.fed_logs.specs.Tellers.{IsHaltBelow}
+use Rattle.fed_logs.specs.Reporters.{IsHaltBelow}
 use Rattle.mover.specs.declared.lane.Lane.{Lane}
 use Rattle.mover.specs.Readers.{LaneReaderState}
 use Rattle.mover.specs.Lanes.{MayGoOn}

@@ -9,7 +9,7 @@ use Rattle.group_state.specs.Runs.{Answer}
 use Rattle.fed_logs.specs.ShownBreaks.{is_break_below}
 use Rattle.fed_logs.specs.LaneFeeds.{FeedState}
 use Rattle.fed_logs.specs.Reads.{ReadsOn}
-use Rattle.fed_logs.specs.Tellers.{BreaksBelow, HasFaultBy, TellerState, TellsOn, break_bound}
+use Rattle.fed_logs.specs.Reporters.{BreaksBelow, HasFaultBy, ReporterState, ReportsOn, break_bound}
 use Rattle.fed_logs.proofs.Below.{below_in_turn}
 use Rattle.fed_logs.proofs.InTurn.{reads_in_turn}
 use Rattle.fed_logs.proofs.UpToLimit.{up_to_in_turn}
@@ -21,7 +21,7 @@ use Rattle.mover.proofs.Parts.{fault_then, reads_none}
 
 -- ---- a reader
 
--- A count of faults behind two rounds: a feed that has broken stays so.
+-- A count of faults after two rounds: a feed that has broken stays so.
 faults_then : (old mid new : Option Halt) (faults between risen : ℕ) → ((halt : Halt) → old ≡ Some halt → mid ≡ old) → ((halt : Halt) → mid ≡ Some halt → new ≡ mid) → HasFaultFrom old faults between mid → HasFaultFrom mid between risen new
     → HasFaultFrom old faults risen new
 faults_then (Some halt) mid new faults between risen stays later first then = subst (λ (h : Option Halt). HasFaultFrom h between risen new) (stays halt refl) then ∙ first
@@ -29,14 +29,14 @@ faults_then None None new faults between risen stays later first then = fault_th
 faults_then None (Some halt) new faults between risen stays later first then =
     subst (λ (h : Option Halt). HasFaultBy faults risen h) (sym (later halt refl)) (subst (λ (n : ℕ). HasFaultBy faults n (Some halt)) (sym then) first)
 
--- a teller of which these answers alone are told
-abbrev teller_with : List Answer → TellerState
-teller_with answers = record { control = 0; volumes = []; floor = 0; telling = true; answers = answers }
+-- a reporter of which these answers alone are told
+abbrev reporter_with : List Answer → ReporterState
+reporter_with answers = record { control = 0; volumes = []; floor = 0; reporting = true; answers = answers }
 
-tells_with : (before now : Option (List ℕ)) (old new : FeedState) (told gained : List Answer) → ReadsOn before now old new gained → TellsOn before now old new (teller_with told) (teller_with (told ++ gained))
+tells_with : (before now : Option (List ℕ)) (old new : FeedState) (told gained : List Answer) → ReadsOn before now old new gained → ReportsOn before now old new (reporter_with told) (reporter_with (told ++ gained))
 tells_with before now old new told gained reads = record { same = record { control = refl; volumes = refl }; gained = gained; answers = refl; reads_on = reads }
 
-below_with : (limit : ℕ) (before : Option (List ℕ)) (old new : FeedState) (told gained : List Answer) → BreaksInRound limit before old new gained → BreaksBelow limit before old new (teller_with told) (teller_with (told ++ gained))
+below_with : (limit : ℕ) (before : Option (List ℕ)) (old new : FeedState) (told gained : List Answer) → BreaksInRound limit before old new gained → BreaksBelow limit before old new (reporter_with told) (reporter_with (told ++ gained))
 below_with limit before old new told gained low = record {
   told_so = λ bytes there more same. subst (λ (l : List Answer). list_all (is_break_below (break_bound limit)) l ≡ true) (append_cancel_left told gained more same) (low.told bytes there);
   halts = low.halts;
@@ -45,7 +45,7 @@ below_with limit before old new told gained low = record {
 module _ (limit : ℕ) (before mid now : Option (List ℕ)) where
   breaks_then : (a b c : FeedState) (one two : List Answer) → ReadsOn before mid a b one → BreaksInRound limit before a b one → ReadsOn mid now b c two → BreaksInRound limit mid b c two → BreaksInRound limit before a c (one ++ two)
   breaks_then a b c one two first low then below =
-      let all = below_in_turn limit before mid now a b c (teller_with []) (teller_with one) (teller_with (one ++ two)) (tells_with before mid a b [] one first) (below_with limit before a b [] one low) (tells_with mid now b c one two then) (below_with limit mid b c one two below) in
+      let all = below_in_turn limit before mid now a b c (reporter_with []) (reporter_with one) (reporter_with (one ++ two)) (tells_with before mid a b [] one first) (below_with limit before a b [] one low) (tells_with mid now b c one two then) (below_with limit mid b c one two below) in
       record { told = λ bytes there. all.told_so bytes there (one ++ two) refl; halts = all.halts }
 
   pub reads_then : (faults between risen : ℕ) (old turn new : LaneReaderState) → ReadsInRound limit before mid faults between old turn → ReadsInRound limit mid now between risen turn new → ReadsInRound limit before now faults risen old new
@@ -62,7 +62,7 @@ module _ (limit : ℕ) (before mid now : Option (List ℕ)) where
 -- ---- lanes
 
 module _ {S : Type 0} (left : S → Option (List ℕ)) (faults : S → ℕ) (at : TurnState) (limit : ℕ) where
-  -- what a lane's reader did, by the reader before and behind it
+  -- what a lane's reader did, by the reader before and after it
   abbrev pub DidRead : (source then : S) → (old new : Option LaneReaderState) → Type 0
   DidRead source then old new = IsSomeAnd old (λ was. IsSomeAnd new (λ is. Sits at limit is × SourceRead left faults limit source then was is))
 

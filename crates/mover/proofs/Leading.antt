@@ -8,7 +8,7 @@ use Rattle.write_trace.specs.declared.trace.Trace.{Trace}
 use Rattle.sidefile.specs.Breaks.{break_time}
 use Rattle.row_changes.specs.Changes.{Due, Timed, after_changes, break_time_of}
 use Rattle.row_changes.specs.Spans.{hit_count}
-use Rattle.record_rows.specs.Deeds.{Deed, rows_behind, rows_by_deed, time_by_deed, time_meant_behind}
+use Rattle.record_rows.specs.Deeds.{Deed, rows_after_deeds, rows_by_deed, time_by_deed, time_meant_after}
 use Rattle.record_rows.specs.Deeds.Deed.{Logged, Changed, Marked}
 use Rattle.record_rows.specs.ToldRows.{due_after_changes}
 use Rattle.record_rows.proofs.Counting.{counts_append}
@@ -16,7 +16,7 @@ use Rattle.site_store.specs.DeedChanges.{DeedOfChanges, changes_of, deeds_of}
 use Rattle.consistency.specs.Leads.{Comes, Leads, Point, may_rest}
 use Rattle.consistency.specs.Ways.{are_at_time}
 use Rattle.consistency.proofs.Leading.{leads_itself, leads_on}
-use Rattle.mover.specs.Points.{AreSteps, IsStep, LeavesSo, point_behind, point_by}
+use Rattle.mover.specs.Points.{AreSteps, IsStep, LeavesSo, point_after_deeds, point_by}
 use Rattle.mover.specs.SilentBreaks.{all_silent, silent_from, silent_of, with_silent}
 use Rattle.mover.proofs.Breaking.{all_are, silent_comes, silent_due, silent_hits, silent_leaves, silent_together}
 use Rattle.mover.proofs.Held.{KeepPairs}
@@ -45,20 +45,20 @@ first_steps level breaks (suc n) p (step ∷ steps) each = (each.0, first_steps 
 
 -- ---- what points are
 
-pub time_there : (level : Level) (p : Point) (steps : List DeedOfChanges) → (point_behind level p steps).time ≡ time_meant_behind (deeds_of steps) p.time
+pub time_there : (level : Level) (p : Point) (steps : List DeedOfChanges) → (point_after_deeds level p steps).time ≡ time_meant_after (deeds_of steps) p.time
 time_there level p [] = refl
 time_there level p (step ∷ steps) = time_there level (point_by level p step) steps
 
-pub rows_there : (level : Level) (p : Point) (steps : List DeedOfChanges) → (point_behind level p steps).rows ≡ rows_behind (deeds_of steps) p.rows
+pub rows_there : (level : Level) (p : Point) (steps : List DeedOfChanges) → (point_after_deeds level p steps).rows ≡ rows_after_deeds (deeds_of steps) p.rows
 rows_there level p [] = refl
 rows_there level p (step ∷ steps) = rows_there level (point_by level p step) steps
 
-pub flag_there : (level : Level) (p : Point) (steps : List DeedOfChanges) → (point_behind level p steps).is_ended ≡ p.is_ended
+pub flag_there : (level : Level) (p : Point) (steps : List DeedOfChanges) → (point_after_deeds level p steps).is_ended ≡ p.is_ended
 flag_there level p [] = refl
 flag_there level p (step ∷ steps) = flag_there level (point_by level p step) steps
 
--- Behind steps it may rest, where it did before.
-pub rests_there : (level : Level) (breaks : List (Option ℕ)) (p : Point) (steps : List DeedOfChanges) → may_rest true p ≡ true → AreSteps level breaks p steps → may_rest true (point_behind level p steps) ≡ true
+-- After steps it may rest, where it did before.
+pub rests_there : (level : Level) (breaks : List (Option ℕ)) (p : Point) (steps : List DeedOfChanges) → may_rest true p ≡ true → AreSteps level breaks p steps → may_rest true (point_after_deeds level p steps) ≡ true
 rests_there level breaks p [] rests each = rests
 rests_there level breaks p (step ∷ steps) rests each = rests_there level breaks (point_by level p step) steps each.0.rests each.1
 
@@ -77,19 +77,19 @@ steps_keep_failed level breaks p (step ∷ steps) apart each =
       steps_keep_failed level breaks q steps (apart_still p.rows q.rows (ap pairs_of leads.rows ∙ same_pairs level step.changes p.rows) apart) each.1,
     )
 
-pub lead_there : (level : Level) (breaks : List (Option ℕ)) (p : Point) (steps : List DeedOfChanges) → AreSteps level breaks p steps → Leads level breaks p (point_behind level p steps) (changes_of steps)
+pub lead_there : (level : Level) (breaks : List (Option ℕ)) (p : Point) (steps : List DeedOfChanges) → AreSteps level breaks p steps → Leads level breaks p (point_after_deeds level p steps) (changes_of steps)
 lead_there level breaks p [] each = leads_itself level breaks p
-lead_there level breaks p (step ∷ steps) each = leads_on level breaks p (point_by level p step) (point_behind level (point_by level p step) steps) step.changes (changes_of steps) each.0.leads (lead_there level breaks (point_by level p step) steps each.1)
+lead_there level breaks p (step ∷ steps) each = leads_on level breaks p (point_by level p step) (point_after_deeds level (point_by level p step) steps) step.changes (changes_of steps) each.0.leads (lead_there level breaks (point_by level p step) steps each.1)
 
 -- ---- one step more
 
-pub behind_both : (level : Level) (p : Point) (a b : List DeedOfChanges) → point_behind level p (a ++ b) ≡ point_behind level (point_behind level p a) b
-behind_both level p [] b = refl
-behind_both level p (step ∷ a) b = behind_both level (point_by level p step) a b
+pub after_both : (level : Level) (p : Point) (a b : List DeedOfChanges) → point_after_deeds level p (a ++ b) ≡ point_after_deeds level (point_after_deeds level p a) b
+after_both level p [] b = refl
+after_both level p (step ∷ a) b = after_both level (point_by level p step) a b
 
-pub steps_behind : (level : Level) (breaks : List (Option ℕ)) (p : Point) (a b : List DeedOfChanges) → AreSteps level breaks p (a ++ b) → AreSteps level breaks (point_behind level p a) b
-steps_behind level breaks p [] b each = each
-steps_behind level breaks p (step ∷ a) b each = steps_behind level breaks (point_by level p step) a b each.1
+pub steps_after : (level : Level) (breaks : List (Option ℕ)) (p : Point) (a b : List DeedOfChanges) → AreSteps level breaks p (a ++ b) → AreSteps level breaks (point_after_deeds level p a) b
+steps_after level breaks p [] b each = each
+steps_after level breaks p (step ∷ a) b each = steps_after level breaks (point_by level p step) a b each.1
 
 -- ---- silent breaks
 
@@ -102,7 +102,7 @@ silent_leaves_due level limit breaks flag due (Logged cut entries rows) leaves =
 silent_leaves_due level limit breaks flag due (Changed time rows) leaves = refl
 silent_leaves_due level limit breaks flag due (Marked spot ended rows) leaves = refl
 
--- The point behind is the same.
+-- The point after it is the same.
 due_with_silent : (level : Level) (limit : ℕ) (breaks : List (Option ℕ)) (p : Point) (step : DeedOfChanges) → IsStep level breaks p step → due_after_changes level p.due (step.changes ++ silent_of limit breaks step.deed) ≡ due_after_changes level p.due step.changes
 due_with_silent level limit breaks p step is = due_append level p.due step.changes (silent_of limit breaks step.deed) ∙ silent_leaves_due level limit breaks p.is_ended (due_after_changes level p.due step.changes) step.deed is.leaves
 
@@ -112,7 +112,7 @@ point_due p deed due = record { time = time_by_deed p.time deed; rows = rows_by_
 pub same_point : (level : Level) (limit : ℕ) (breaks : List (Option ℕ)) (p : Point) (step : DeedOfChanges) → IsStep level breaks p step → point_by level p (with_silent limit breaks step) ≡ point_by level p step
 same_point level limit breaks p step is = ap (point_due p step.deed) (due_with_silent level limit breaks p step is)
 
--- The silent breaks of a deed lead from the point behind it to itself.
+-- The silent breaks of a deed lead from the point after it to itself.
 silent_leads : (level : Level) (limit : ℕ) (breaks : List (Option ℕ)) (flag : Bool) (time : ℕ) (due : Due) (deed : Deed) → LeavesSo flag due deed
     → Comes level breaks due (time_by_deed time deed) (time_by_deed time deed) (rows_by_deed deed) (silent_of limit breaks deed) due × (after_changes level (silent_of limit breaks deed) (rows_by_deed deed) ≡ rows_by_deed deed)
     × (are_at_time (time_by_deed time deed) (silent_of limit breaks deed) ≡ true)
@@ -147,10 +147,10 @@ take_silent limit breaks zero steps = refl
 take_silent limit breaks (suc n) [] = refl
 take_silent limit breaks (suc n) (step ∷ steps) = ap (λ (rest : List DeedOfChanges). with_silent limit breaks step ∷ rest) (take_silent limit breaks n steps)
 
-pub silent_points : (level : Level) (limit : ℕ) (breaks : List (Option ℕ)) (p : Point) (steps : List DeedOfChanges) → AreSteps level breaks p steps → point_behind level p (all_silent limit breaks steps) ≡ point_behind level p steps
+pub silent_points : (level : Level) (limit : ℕ) (breaks : List (Option ℕ)) (p : Point) (steps : List DeedOfChanges) → AreSteps level breaks p steps → point_after_deeds level p (all_silent limit breaks steps) ≡ point_after_deeds level p steps
 silent_points level limit breaks p [] each = refl
 silent_points level limit breaks p (step ∷ steps) each =
-    ap (λ (q : Point). point_behind level q (all_silent limit breaks steps)) (same_point level limit breaks p step each.0) ∙ silent_points level limit breaks (point_by level p step) steps each.1
+    ap (λ (q : Point). point_after_deeds level q (all_silent limit breaks steps)) (same_point level limit breaks p step each.0) ∙ silent_points level limit breaks (point_by level p step) steps each.1
 
 -- ---- hits
 

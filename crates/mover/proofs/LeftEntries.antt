@@ -7,7 +7,7 @@ use Rattle.pair_table.specs.Devices.{is_among}
 use Rattle.pair_table.specs.Rows.{is_suspended}
 use Rattle.pair_table.specs.Tables.{in_state}
 use Rattle.row_changes.specs.Changes.{hit_row, since}
-use Rattle.record_rows.specs.Deeds.{Deed, rows_behind}
+use Rattle.record_rows.specs.Deeds.{Deed, rows_after_deeds}
 use Rattle.record_rows.specs.Deeds.Deed.{Logged, Changed, Marked}
 use Rattle.record_rows.specs.Hits.{rows_marked}
 use Rattle.fed_logs.specs.Moves.{AreQuiet, HasRowIn, IsLive}
@@ -58,7 +58,7 @@ quiet_entries seen time rows (Logged cut entries fewer ∷ deeds) next is = absu
 quiet_entries seen time rows (Changed at fewer ∷ deeds) next is = quiet_entries fewer time fewer deeds next is.2
 quiet_entries seen time rows (Marked spot ended fewer ∷ deeds) next is = quiet_entries fewer time fewer deeds next is.1
 
-pub entries_then : (rows : List PairRow) (a b : List Deed) → LogsEntriesOf rows a → LogsEntriesOf (rows_behind a rows) b → LogsEntriesOf rows (a ++ b)
+pub entries_then : (rows : List PairRow) (a b : List Deed) → LogsEntriesOf rows a → LogsEntriesOf (rows_after_deeds a rows) b → LogsEntriesOf rows (a ++ b)
 entries_then rows [] b first then = then
 entries_then rows (Logged cut entries next ∷ a) b first then = (first.0, entries_then next a b first.1 then)
 entries_then rows (Changed at next ∷ a) b first then = entries_then next a b first then

@@ -13,7 +13,7 @@ use Rattle.mover.specs.Dropping.{MakesDrops, VolumeDrop, answer_of_drop}
 use Rattle.mover.specs.Moves.{KeepsLimit}
 use Rattle.mover.proofs.MoverCalls.{FormsGroup, form_answer}
 
--- Calls behind others are limited where both are.
+-- Calls after others are limited where both are.
 limited_then : (limit : ℕ) (calls gained : List MadeCall) → list_all (is_at_limit limit) (map as_answer calls) ≡ true → list_all (is_at_limit limit) (map as_answer gained) ≡ true → list_all (is_at_limit limit) (map as_answer (calls ++ gained)) ≡ true
 limited_then limit [] gained before now = now
 limited_then limit (c ∷ calls) gained before now =

@@ -4,7 +4,7 @@ use Rattle.std.proofs.lemmas.Bool.{eqb-true, le-leb, leb-false}
 use Rattle.pair_table.specs.declared.row.PairRow.{PairRow}
 use Rattle.record_rows.specs.Deeds.{Deed, rows_by_deed}
 use Rattle.record_rows.specs.Deeds.Deed.{Logged, Changed, Marked}
-use Rattle.fed_logs.specs.Moves.{AreEntriesLive, AreLiveIn, AreQuiet, LiveByDeeds, is_mark_due_behind}
+use Rattle.fed_logs.specs.Moves.{AreEntriesLive, AreLiveIn, AreQuiet, LiveByDeeds, is_mark_due_after}
 use Rattle.site_store.specs.Records.{one_more}
 use Rattle.mover.specs.Moves.{InPlacesByDeeds, KeepPairs, KeepsPair}
 use Rattle.mover.proofs.SamePairs.{at_of, before, contains_at}
@@ -38,13 +38,13 @@ quiet_live false seen time rows (Marked spot ended fewer ∷ deeds) next is = qu
 
 -- ---- marks that are due
 
-pub due_append : (due : Bool) (a b : List Deed) → is_mark_due_behind due (a ++ b) ≡ is_mark_due_behind (is_mark_due_behind due a) b
+pub due_append : (due : Bool) (a b : List Deed) → is_mark_due_after due (a ++ b) ≡ is_mark_due_after (is_mark_due_after due a) b
 due_append due [] b = refl
 due_append due (Logged cut entries rows ∷ a) b = due_append true a b
 due_append due (Changed time rows ∷ a) b = due_append due a b
 due_append due (Marked spot ended rows ∷ a) b = due_append false a b
 
--- Behind a group a mark is due.
+-- After a group a mark is due.
 pub one_is_due : (since : ℕ) → nat_le 1 (one_more since) ≡ true
 one_is_due since = by (nat_eq since (2 ^ 32 - 1)) refl
   where

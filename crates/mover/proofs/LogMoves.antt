@@ -18,12 +18,12 @@ use Rattle.image_former.specs.Entries.{HasEntry, entry_device, entry_row, is_dev
 use Rattle.image_former.specs.Forms.{is_image}
 use Rattle.xrc_journal.specs.Bodies.{have_image}
 use Rattle.xrc_journal.specs.Contents.{HasItem, is_of_track}
-use Rattle.xrc_journal.specs.Items.{Earlier, Item, behind_all, is_drawn, none_earlier}
+use Rattle.xrc_journal.specs.Items.{Earlier, Item, earlier_after_all, is_drawn, none_earlier}
 use Rattle.xrc_journal.specs.Items.Item.{Image, Delta, Pair, Gone}
 use Rattle.record_rows.specs.Hits.{hit_now, is_down}
 use Rattle.pair_table.specs.States.{is_device_suspended}
 use Rattle.record_rows.proofs.Telling.{none_hit_again}
-use Rattle.site_store.specs.Exceptions.{Exceptions, excepted_behind, is_kept, is_whole_on}
+use Rattle.site_store.specs.Exceptions.{Exceptions, excepted_after, is_kept, is_whole_on}
 use Rattle.fed_logs.specs.Moves.{HasRowIn, IsLive}
 use Rattle.turn_group.specs.Notes.{KnownVolume, is_of_carried}
 use Rattle.site_store.specs.declared.store_error.StoreError.{StoreError}
@@ -31,8 +31,8 @@ use Rattle.site_store.specs.declared.store_error.StoreError.TheVariants.{Spent}
 use Rattle.site_store.specs.Applying.{excepted_by_apply}
 use Rattle.site_store.specs.Causes.{FailByCounts, HasStoreCause}
 use Rattle.site_store.specs.Jobs.{has_device, is_of_device}
-use Rattle.site_store.specs.Logging.{AreItemsOf, HasEntryOn, IsOfLog, IsOfSomeRow, behind_group, is_entry_of_device, is_pair_item, log_deeds, rows_before, rows_logged}
-use Rattle.site_store.specs.Records.{IsOfRecord, VolumesStay, behind_placement}
+use Rattle.site_store.specs.Logging.{AreItemsOf, HasEntryOn, IsOfLog, IsOfSomeRow, after_group, is_entry_of_device, is_pair_item, log_deeds, rows_before, rows_logged}
+use Rattle.site_store.specs.Records.{IsOfRecord, VolumesStay, after_placement}
 use Rattle.site_store.specs.Sites.{SiteState, is_written}
 use Rattle.site_store.proofs.ByPlacements.{RecordPlacement, by_placements, placement_here, placement_marked, placement_switched}
 use Rattle.mover.specs.Moves.{IsOfLive, IsOfMover, KeepPairs, KnowsRows, MoverWorks, is_device_of_row, is_row_of_volume, is_worked_on, known_at_control, row_of_volume}
@@ -114,14 +114,14 @@ no_entries known rows (e ∷ entries) none knows are =
 
 -- ---- images that wait
 
-drawn_more : (d x : ℕ) (items : List Item) (earlier : Earlier) → is_drawn earlier.drawn d x ≡ true → is_drawn (behind_all items earlier).drawn d x ≡ true
+drawn_more : (d x : ℕ) (items : List Item) (earlier : Earlier) → is_drawn earlier.drawn d x ≡ true → is_drawn (earlier_after_all items earlier).drawn d x ≡ true
 drawn_more d x [] earlier is = is
 drawn_more d x (Image e y recs ∷ items) earlier is = drawn_more d x items _ (or_right (nat_eq e d && nat_eq y x) (is_drawn earlier.drawn d x) is)
 drawn_more d x (Delta e y kind ∷ items) earlier is = drawn_more d x items earlier is
 drawn_more d x (Pair row ∷ items) earlier is = drawn_more d x items _ is
 drawn_more d x (Gone e ∷ items) earlier is = drawn_more d x items _ is
 
-drawn_there : (d x : ℕ) (images more : List Item) (earlier : Earlier) → list_all is_image images ≡ true → HasItem d x images → is_drawn (behind_all (images ++ more) earlier).drawn d x ≡ true
+drawn_there : (d x : ℕ) (images more : List Item) (earlier : Earlier) → list_all is_image images ≡ true → HasItem d x images → is_drawn (earlier_after_all (images ++ more) earlier).drawn d x ≡ true
 drawn_there d x [] more earlier are has = absurd cc
 drawn_there d x (Image e y recs ∷ images) more earlier are has = elim (or_cases (nat_eq e d && nat_eq y x) (list_any (is_of_track d x) images) has) [
   | inl here ↦ drawn_more d x (images ++ more) _ (or_left (nat_eq e d && nat_eq y x) (is_drawn earlier.drawn d x) here)
@@ -215,10 +215,10 @@ kept_is_up failed d rows none kept = by (is_down failed d) refl
         let hit = hit_at failed rows k.place k.row k.at (and_from (is_down failed k.row.device) (not (is_device_suspended k.row.state)) (ap (is_down failed) k.device ∙ e) k.up) in
         absurd (true≢false (sym hit ∙ ap (is_among k.row.device) none))
 
--- ---- exceptions behind a group's record
+-- ---- exceptions after a group's record
 
 module _ (tells : Type 0) (group : FormedGroup) (site next : SiteState) (placement : RecordPlacement) (early : List Bool) (old : PlantState) (idle : site.waiting ≡ []) (s : LogSteps group site placement early next.failed)
-    (items : AreItemsOf tells group next.failed (rows_before placement site early) next.told old next.waiting) (is_next : next ≡ behind_group old.journals placement group next.waiting early next.failed site) where
+    (items : AreItemsOf tells group next.failed (rows_before placement site early) next.told old next.waiting) (is_next : next ≡ after_group old.journals placement group next.waiting early next.failed site) where
   pub rows_are : next.told ≡ rows_logged placement site group early next.failed
   rows_are = ap (λ (s : SiteState). s.told) is_next
 
@@ -238,8 +238,8 @@ module _ (tells : Type 0) (group : FormedGroup) (site next : SiteState) (placeme
   waits_no_more true true false image is so = absurd cc
   waits_no_more true true true image is so = rw (so refl refl) refl
 
-  -- Behind the deeds no track is excepted that isn't excepted behind them, once what waits is applied.
-  pub logged_fewer : (e : Exceptions) (d x : ℕ) → excepted_behind site.told (log_deeds placement site group early next.failed) (excepted_by_apply site e) d x ≡ false → excepted_by_apply next e d x ≡ false
+  -- After the deeds no track is excepted that isn't excepted after them, once what waits is applied.
+  pub logged_fewer : (e : Exceptions) (d x : ℕ) → excepted_after site.told (log_deeds placement site group early next.failed) (excepted_by_apply site e) d x ≡ false → excepted_by_apply next e d x ≡ false
   logged_fewer e d x is = by_placements Fewer here_fewer here_fewer_switched marked_fewer placement (λ kept whole. image_waits d x kept whole) is
     where
       now : excepted_by_apply site e d x ≡ e d x
@@ -248,20 +248,20 @@ module _ (tells : Type 0) (group : FormedGroup) (site next : SiteState) (placeme
       plain : (kept whole : Bool) → (not kept || (excepted_by_apply site e d x && not whole)) ≡ false → (kept ≡ true → whole ≡ true → have_image next.waiting d x ≡ true) → excepted_by_apply next e d x ≡ false
       plain kept whole is so = waits_no_more (e d x) kept whole (have_image next.waiting d x) (sym (ap (λ (b : Bool). not kept || (b && not whole)) now) ∙ is) so
 
-      behind : (marked kept whole excepted : Bool) → (not kept || ((not marked || (excepted && true)) && not whole)) ≡ false → (not kept || (excepted && not whole)) ≡ false
-      behind marked false whole excepted is = absurd cc
-      behind false true true excepted is = by excepted
+      after : (marked kept whole excepted : Bool) → (not kept || ((not marked || (excepted && true)) && not whole)) ≡ false → (not kept || (excepted && not whole)) ≡ false
+      after marked false whole excepted is = absurd cc
+      after false true true excepted is = by excepted
         where
           by : (b : Bool) → (false || (b && false)) ≡ false
           by true = refl
           by false = refl
-      behind false true false excepted is = absurd cc
-      behind true true whole true is = is
-      behind true true whole false is = refl
+      after false true false excepted is = absurd cc
+      after true true whole true is = is
+      after true true whole false is = refl
 
       Fewer : RecordPlacement → Type 0
       Fewer w = (is_kept d (rows_logged w site group early next.failed) ≡ true → list_any (is_whole_on (rows_before w site early) d x) group.entries ≡ true → have_image next.waiting d x ≡ true)
-          → excepted_behind site.told (log_deeds w site group early next.failed) (excepted_by_apply site e) d x ≡ false → excepted_by_apply next e d x ≡ false
+          → excepted_after site.told (log_deeds w site group early next.failed) (excepted_by_apply site e) d x ≡ false → excepted_by_apply next e d x ≡ false
 
       here_fewer : Fewer placement_here
       here_fewer so is = plain (is_kept d (rows_logged placement_here site group early next.failed)) (list_any (is_whole_on site.told d x) group.entries) is so
@@ -273,7 +273,7 @@ module _ (tells : Type 0) (group : FormedGroup) (site next : SiteState) (placeme
       marked_fewer so is =
           let kept = is_kept d (rows_logged placement_marked site group early next.failed) in
           let whole = list_any (is_whole_on (rows_before placement_marked site early) d x) group.entries in
-          plain kept whole (behind (is_kept d (rows_before placement_marked site early)) kept whole (excepted_by_apply site e d x) is) so
+          plain kept whole (after (is_kept d (rows_before placement_marked site early)) kept whole (excepted_by_apply site e d x) is) so
 
   -- ---- what it leaves
 
@@ -285,7 +285,7 @@ module _ (tells : Type 0) (group : FormedGroup) (site next : SiteState) (placeme
   logged_rest = works_less site next logged_still (λ v is. worked_written site v (written placement v (ap (λ (s : SiteState). is_written s v) (sym is_next) ∙ is))) waits
     where
       Written : RecordPlacement → Type 0
-      Written w = (v : ℕ) → is_written (behind_placement w site) v ≡ true → is_written site v ≡ true
+      Written w = (v : ℕ) → is_written (after_placement w site) v ≡ true → is_written site v ≡ true
 
       written : (w : RecordPlacement) → Written w
       written = by_placements Written (λ v is. is) (λ v is. is) (λ v is. absurd (none_written (length site.written) v is))

@@ -22,15 +22,15 @@ use Rattle.row_changes.specs.Spans.{hit_count}
 use Rattle.record_rows.specs.Deeds.{Deed}
 use Rattle.record_rows.specs.Deeds.Deed.{Logged, Marked}
 use Rattle.record_rows.specs.GroupRows.{are_breaks_at_cut, is_break_at, is_shown_done, row_in, row_with_group, rows_with_group, shown_break, state_by_group}
-use Rattle.record_rows.specs.Hits.{due_behind_mark, hit_now, marked_changes, rows_marked}
-use Rattle.record_rows.specs.Records.{changes_behind_mark, record_changes, rows_behind_mark, rows_with_record}
+use Rattle.record_rows.specs.Hits.{due_once_marked, hit_now, marked_changes, rows_marked}
+use Rattle.record_rows.specs.Records.{changes_after_mark, record_changes, rows_after_mark, rows_with_record}
 use Rattle.record_rows.specs.ToldRows.{AreGrouped, AreTold, InPlaces, IsGrouped, IsTold}
-use Rattle.record_rows.proofs.Coming.{behind_marks_are_changes, behind_marks_may_come, records_are_changes, records_may_come}
-use Rattle.record_rows.proofs.Counting.{behind_marks_count, counts_append, marked_records_count, marks_count, once, records_count}
+use Rattle.record_rows.proofs.Coming.{after_marks_are_changes, after_marks_may_come, records_are_changes, records_may_come}
+use Rattle.record_rows.proofs.Counting.{after_marks_count, counts_append, marked_records_count, marks_count, once, records_count}
 use Rattle.record_rows.proofs.Devices.{apart_of, devices_apart}
-use Rattle.record_rows.proofs.Grouped.{behind_marks_group, records_group}
+use Rattle.record_rows.proofs.Grouped.{after_marks_group, records_group}
 use Rattle.record_rows.proofs.HitRows.{marks_are_changes}
-use Rattle.record_rows.proofs.Telling.{behind_marks_tell, marks_tell, only_failed, records_tell}
+use Rattle.record_rows.proofs.Telling.{after_marks_tell, marks_tell, only_failed, records_tell}
 use Rattle.site_store.specs.DeedChanges.{AreByChanges, DeedOfChanges, changes_of, deeds_of}
 use Rattle.fed_logs.specs.LogLaws.{WasShown}
 use Rattle.fed_logs.specs.Moves.{AreQuiet, MayFollow, is_mark_at_most, is_plan_shown_done}
@@ -40,7 +40,7 @@ use Rattle.site_store.proofs.ByPlacements.{RecordPlacement, by_placements, place
 use Rattle.mover.specs.Groups.{is_to_log}
 use Rattle.mover.specs.Moves.{Fades, InPlacesByDeeds, KeepPairs, KeepsPair, is_broken_at}
 use Rattle.mover.specs.Steps.{AreMade}
-use Rattle.mover.proofs.Making.{behind_mark_made, record_made}
+use Rattle.mover.proofs.Making.{after_mark_made, record_made}
 use Rattle.mover.proofs.SamePairs.{apart_still, at_of, before, contains_at, each_mapped, each_more, fade_pair, fewer_of, pair_self, still_self, still_then}
 use Rattle.mover.proofs.SiteCalls.{fades_hit, fades_marked, fades_told}
 use Rattle.mover.proofs.ToldHits.{hit_before, hit_by_others}
@@ -247,7 +247,7 @@ module _ (group : FormedGroup) (site : SiteState) (early failed : List Bool) (ap
     grouped = records_group site.level group failed site.told;
   }
 
-  -- a record behind a mark
+  -- a record after a mark
   abbrev early_hits : List ℕ
   early_hits = hit_now early site.told
 
@@ -260,34 +260,34 @@ module _ (group : FormedGroup) (site : SiteState) (early failed : List Bool) (ap
   mid_still : KeepPairs site.told mid
   mid_still = each_more Fades KeepsPair fade_pair site.told mid mid_fades
 
-  mid_kept : KeepPairs mid (rows_behind_mark site.level early_hits group failed mid)
-  mid_kept = fades_keep group mid (rows_behind_mark site.level early_hits group failed mid) (fades_told site.level group.cut.0 early_hits (hit_now failed mid) (rows_with_group group mid))
+  mid_kept : KeepPairs mid (rows_after_mark site.level early_hits group failed mid)
+  mid_kept = fades_keep group mid (rows_after_mark site.level early_hits group failed mid) (fades_told site.level group.cut.0 early_hits (hit_now failed mid) (rows_with_group group mid))
 
-  abbrev behind : List Timed
-  behind = changes_behind_mark site.level early_hits group failed mid
+  abbrev after : List Timed
+  after = changes_after_mark site.level early_hits group failed mid
 
-  marked_hit : FailedBetween site.failed early failed → (d : ℕ) → hit_count d (marked_changes site.time early_hits ++ (behind ++ [])) ≤ once (is_among d (hit_now failed site.told))
+  marked_hit : FailedBetween site.failed early failed → (d : ℕ) → hit_count d (marked_changes site.time early_hits ++ (after ++ [])) ≤ once (is_among d (hit_now failed site.told))
   marked_hit between d = by (is_among d early_hits) refl (is_among d (hit_now failed mid)) refl (is_among d (hit_now failed site.told)) refl
     where
-      most : hit_count d (marked_changes site.time early_hits ++ behind) ≤ 1
+      most : hit_count d (marked_changes site.time early_hits ++ after) ≤ 1
       most = marked_records_count d site.level group early failed site.time site.told
 
-      sum : hit_count d (marked_changes site.time early_hits ++ behind) ≡ once (is_among d early_hits) + once (is_among d (hit_now failed mid))
-      sum = counts_append d (marked_changes site.time early_hits) behind ∙ ap (λ (k : ℕ). k + hit_count d behind) (marks_count d site.time early_hits) ∙ ap (λ (k : ℕ). once (is_among d early_hits) + k) (behind_marks_count d site.level early_hits group failed mid)
+      sum : hit_count d (marked_changes site.time early_hits ++ after) ≡ once (is_among d early_hits) + once (is_among d (hit_now failed mid))
+      sum = counts_append d (marked_changes site.time early_hits) after ∙ ap (λ (k : ℕ). k + hit_count d after) (marks_count d site.time early_hits) ∙ ap (λ (k : ℕ). once (is_among d early_hits) + k) (after_marks_count d site.level early_hits group failed mid)
 
-      same : hit_count d (marked_changes site.time early_hits ++ (behind ++ [])) ≡ hit_count d (marked_changes site.time early_hits ++ behind)
-      same = ap (λ (l : List Timed). hit_count d (marked_changes site.time early_hits ++ l)) (append-nil behind)
+      same : hit_count d (marked_changes site.time early_hits ++ (after ++ [])) ≡ hit_count d (marked_changes site.time early_hits ++ after)
+      same = ap (λ (l : List Timed). hit_count d (marked_changes site.time early_hits ++ l)) (append-nil after)
 
-      by : (a : Bool) → is_among d early_hits ≡ a → (b : Bool) → is_among d (hit_now failed mid) ≡ b → (c : Bool) → is_among d (hit_now failed site.told) ≡ c → hit_count d (marked_changes site.time early_hits ++ (behind ++ [])) ≤ once c
+      by : (a : Bool) → is_among d early_hits ≡ a → (b : Bool) → is_among d (hit_now failed mid) ≡ b → (c : Bool) → is_among d (hit_now failed site.told) ≡ c → hit_count d (marked_changes site.time early_hits ++ (after ++ [])) ≤ once c
       by a e b f true g = omega (arith, most, same)
       by false e false f false g = let x : once (is_among d early_hits) ≡ 0 = ap once e in let y : once (is_among d (hit_now failed mid)) ≡ 0 = ap once f in omega (arith, sum, same, x, y)
-      by true e b f false g = absurd (true≢false (sym (hit_by_others early failed d site.told e (between.behind d (only_failed d early site.told e))) ∙ g))
+      by true e b f false g = absurd (true≢false (sym (hit_by_others early failed d site.told e (between.after d (only_failed d early site.told e))) ∙ g))
       by false e true f false g = absurd (true≢false (sym (hit_before early failed site.time d site.told mid (marks_tell site.time early site.told (apart_of site.told apart)) f) ∙ g))
 
   pub marked_steps : FailedBetween site.failed early failed → LogSteps group site placement_marked early failed
   marked_steps between = record {
     quiet = Marked site.at site.mark.ended mid ∷ [];
-    steps = record { deed = Marked site.at site.mark.ended mid; changes = marked_changes site.time early_hits } ∷ record { deed = Logged group.cut.0 group.entries (rows_behind_mark site.level early_hits group failed mid); changes = behind } ∷ [];
+    steps = record { deed = Marked site.at site.mark.ended mid; changes = marked_changes site.time early_hits } ∷ record { deed = Logged group.cut.0 group.entries (rows_after_mark site.level early_hits group failed mid); changes = after } ∷ [];
     deeds_are = refl;
     are = refl;
     suspends = (fewer_of site.told mid mid_fades, refl);
@@ -296,20 +296,20 @@ module _ (group : FormedGroup) (site : SiteState) (early failed : List Bool) (ap
       record { rows_are = marks_are_changes site.level site.time early_hits site.told; in_time = marked_in_time site.time early_hits },
       (
         record {
-          rows_are = behind_marks_are_changes site.level breaks early_hits group failed mid mid_apart (at_cut is);
-          in_time = in_time site.level breaks false (due_behind_mark site.level site.time early_hits) site.time group.cut.0 mid behind (behind_marks_may_come site.level breaks early_hits group failed site.time site.time mid mid_apart (at_cut is) up) site.time (omega arith);
+          rows_are = after_marks_are_changes site.level breaks early_hits group failed mid mid_apart (at_cut is);
+          in_time = in_time site.level breaks false (due_once_marked site.level site.time early_hits) site.time group.cut.0 mid after (after_marks_may_come site.level breaks early_hits group failed site.time site.time mid mid_apart (at_cut is) up) site.time (omega arith);
         },
         tt,
       ),
     );
-    made = λ answers shown up to_log going. behind_mark_made site.level answers site.at site.mark.ended going group site.time site.told early failed shown up to_log;
+    made = λ answers shown up to_log going. after_mark_made site.level answers site.at site.mark.ended going group site.time site.told early failed shown up to_log;
     hit = marked_hit between;
     still = mid_still;
     fades = (mid_fades, tt);
     pairs = (mid_still, (mid_kept, tt));
     kept = mid_kept;
-    told = behind_marks_tell site.level early_hits group failed mid mid_apart;
-    grouped = behind_marks_group site.level early_hits group failed mid;
+    told = after_marks_tell site.level early_hits group failed mid mid_apart;
+    grouped = after_marks_group site.level early_hits group failed mid;
   }
     where
       mid_apart : devices_apart mid ≡ true

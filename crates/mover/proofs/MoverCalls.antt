@@ -1,4 +1,4 @@
--- The mover's calls with the deeds of its site: a form, with the group's log or without, and the drops behind it.
+-- The mover's calls with the deeds of its site: a form, with the group's log or without, and the drops after it.
 use Rattle.std.proofs.Common.{◌≡◌, ◌⊎◌, inl, inr, ℕ, ◌≤◌, ◌<◌, Bool, true, false, not, cond, nat_eq, nat_le, nat_lt, ◌==◌, ◌&&◌, ◌||◌, List, [], ◌∷◌, ◌++◌, length, map, Option, Some, Result, Ok, Err, refl, sym, ap, subst, ◌∙◌, arith, true≢false, slice_get, append-nil, append_assoc, OnOk}
 use Rattle.std.specs.List.{list_all, list_any}
 use Rattle.std.proofs.lemmas.Bool.{and_parts, eqb-false, eqb-true, ltb-false, ltb-true, or_left, or_right}
@@ -18,7 +18,7 @@ use Rattle.group_state.specs.Groups.{Shown, shown_in}
 use Rattle.group_state.specs.Machine.{Reply}
 use Rattle.group_state.specs.Machine.Call.{Form}
 use Rattle.group_state.specs.Runs.{Answer, shown_by}
-use Rattle.record_rows.specs.Deeds.{Deed, rows_behind, time_meant_behind}
+use Rattle.record_rows.specs.Deeds.{Deed, rows_after_deeds, time_meant_after}
 use Rattle.record_rows.specs.Deeds.Deed.{Logged, Changed, Marked}
 use Rattle.record_rows.specs.GroupRows.{is_shown_done}
 use Rattle.record_rows.specs.Hits.{hit_now}
@@ -26,14 +26,14 @@ use Rattle.record_rows.proofs.Counting.{once}
 use Rattle.pair_table.specs.States.{is_settled}
 use Rattle.site_store.specs.DeedChanges.{AreByChanges, deeds_of}
 use Rattle.site_store.specs.DoneDeeds.{BeginsDeeds, DoesDeeds}
-use Rattle.site_store.specs.Exceptions.{excepted_behind}
+use Rattle.site_store.specs.Exceptions.{excepted_after}
 use Rattle.site_store.specs.DeedLaws.{LeavesInTurn}
 use Rattle.site_store.proofs.Moments.{have_begun}
 use Rattle.site_store.proofs.Single.{no_call}
 use Rattle.site_store.proofs.Turning.{leave_in_turn}
 use Rattle.site_store.proofs.Widening.{begins_still, does_still}
 use Rattle.fed_logs.specs.LogLaws.{WasShown}
-use Rattle.fed_logs.specs.Moves.{AreEntriesLive, AreQuiet, Following, HasRowIn, IsDuplex, IsUnsettled, KeepsCall, KeepsShown, MakesAllDeeds, MakesDeeds, Plans, ShowsNothing, is_mark_due_behind, is_plan_shown_done, plans_with_shown}
+use Rattle.fed_logs.specs.Moves.{AreEntriesLive, AreQuiet, Following, HasRowIn, IsDuplex, IsUnsettled, KeepsCall, KeepsShown, MakesAllDeeds, MakesDeeds, Plans, ShowsNothing, is_mark_due_after, is_plan_shown_done, plans_with_shown}
 use Rattle.turn.specs.Turn.{ticketed}
 use Rattle.turn_group.specs.Calls.{MadeCall, as_answer}
 use Rattle.turn_group.specs.Notes.{is_of_carried}
@@ -41,19 +41,19 @@ use Rattle.turn_group.specs.Seats.{MoverCalled, MoverSeatState, mover_after}
 use Rattle.site_store.specs.declared.store_error.StoreError.{StoreError}
 use Rattle.site_store.specs.Applying.{excepted_by_apply}
 use Rattle.site_store.specs.Causes.{FailByCounts}
-use Rattle.site_store.specs.Logging.{AreItemsOf, LogsGroup, behind_group, log_deeds, rows_before, rows_logged}
-use Rattle.site_store.specs.Records.{behind_placement}
+use Rattle.site_store.specs.Logging.{AreItemsOf, LogsGroup, after_group, log_deeds, rows_before, rows_logged}
+use Rattle.site_store.specs.Records.{after_placement}
 use Rattle.site_store.specs.Sites.{SiteState}
 use Rattle.site_store.specs.Standing.{Leaves, StandsFast}
 use Rattle.site_store.proofs.ByPlacements.{RecordPlacement, by_placements, placement_marked}
-use Rattle.mover.specs.Dropping.{AreOfControls, Drops, OwesExactly, VolumeDrop, are_states_of, answer_of_drop, drops_from, known_behind, stood_duplex}
+use Rattle.mover.specs.Dropping.{AreOfControls, Drops, OwesExactly, VolumeDrop, are_states_of, answer_of_drop, drops_from, known_after_drops, stood_duplex}
 use Rattle.mover.specs.Groups.{are_none, is_to_log, matures}
-use Rattle.mover.specs.Moves.{Fades, AreHitsCounted, BeginsAll, DidAll, IsLeftBehind, IsInStep, IsStillAt, KeepPairs, KeepsAll, KeepsPair, KnowsDuplex, KnowsRows, KnowsSite, LogsEntriesOf, MaySettle, Moved, SiteMoved, are_shown_at_cuts, is_broken_at, is_mark_due, is_shown_at_cut, is_worked_on, untold_hits}
+use Rattle.mover.specs.Moves.{Fades, AreHitsCounted, BeginsAll, DidAll, IsLeftAfter, IsInStep, IsStillAt, KeepPairs, KeepsAll, KeepsPair, KnowsDuplex, KnowsRows, KnowsSite, LogsEntriesOf, MaySettle, Moved, SiteMoved, are_shown_at_cuts, is_broken_at, is_mark_due, is_shown_at_cut, is_worked_on, untold_hits}
 use Rattle.mover.specs.Slots.{is_track_of_mover}
 use Rattle.mover.proofs.DeedPairs.{by_deeds_more}
-use Rattle.mover.proofs.DropKnown.{knows_behind, same_controls}
+use Rattle.mover.proofs.DropKnown.{knows_after, same_controls}
 use Rattle.mover.proofs.InSlots.{slots_logged}
-use Rattle.mover.proofs.KeptCalls.{all_then, drops_kept, knows_still, plans_behind, quiet_before_all}
+use Rattle.mover.proofs.KeptCalls.{all_then, drops_kept, knows_still, plans_after_drops, quiet_before_all}
 use Rattle.mover.proofs.LeftEntries.{live_may, marked_may, quiet_entries}
 use Rattle.mover.proofs.LiveRows.{one_is_due, quiet_live}
 use Rattle.mover.proofs.LogMoves.{entries_of_live, logged_fewer, logged_rest, logged_still, logged_told, no_entries}
@@ -103,7 +103,7 @@ pub makes_of_all : (run : List Answer) (time : ℕ) (rows : List PairRow) (done 
 makes_of_all run time rows done deeds end last known all =
     subst (λ (l : List Deed). MakesDeeds time rows done run l) (append-nil deeds) (subst (λ (l : List Answer). MakesDeeds time rows done l (deeds ++ [])) (append-nil run) (all_then end last known [] [] (last, refl) run time rows done deeds all))
 
--- ---- quiet deeds, and drops behind them
+-- ---- quiet deeds, and drops after them
 
 duplex_before : (time : ℕ) (rows : List PairRow) (quiet : List Deed) (next : List PairRow) → AreQuiet time rows quiet next → (k v : ℕ) → HasRowIn IsDuplex k v next → HasRowIn IsDuplex k v rows
 duplex_before time rows [] next is k v has = subst (HasRowIn IsDuplex k v) is has
@@ -133,7 +133,7 @@ module _ (tells : Type 0) (seat : MoverSeatState) (site after : SiteState) (old 
     entries = quiet_entries site.told site.time site.told (deeds_of moved.steps) moved.quiet.0 moved.quiet.1;
     makes = λ done knows. moved.quiet;
     all = tt;
-    behind = tt;
+    is_left = tt;
     owed = tt;
     due = tt;
     begins = moved.begins;
@@ -150,10 +150,10 @@ module _ (tells : Type 0) (seat : MoverSeatState) (site after : SiteState) (old 
 
     keeps : (done : Plans) → KnowsDuplex site.told done → KeepsAll site after done (map answer_of_drop dropped) (deeds_of moved.steps)
     keeps done knows = record {
-      known = plans_behind dropped done;
-      makes = subst (λ (t : ℕ). MakesAllDeeds site.time site.told done (map answer_of_drop dropped) (deeds_of moved.steps) t after.told (plans_behind dropped done)) (sym moved.all.time)
-          (subst (λ (l : List Deed). MakesAllDeeds site.time site.told done (map answer_of_drop dropped) l site.time after.told (plans_behind dropped done)) (append-nil (deeds_of moved.steps))
-          (quiet_before_all site.time (deeds_of moved.steps) [] site.told after.told done (map answer_of_drop dropped) site.time after.told (plans_behind dropped done) moved.all.suspends
+      known = plans_after_drops dropped done;
+      makes = subst (λ (t : ℕ). MakesAllDeeds site.time site.told done (map answer_of_drop dropped) (deeds_of moved.steps) t after.told (plans_after_drops dropped done)) (sym moved.all.time)
+          (subst (λ (l : List Deed). MakesAllDeeds site.time site.told done (map answer_of_drop dropped) l site.time after.told (plans_after_drops dropped done)) (append-nil (deeds_of moved.steps))
+          (quiet_before_all site.time (deeds_of moved.steps) [] site.told after.told done (map answer_of_drop dropped) site.time after.told (plans_after_drops dropped done) moved.all.suspends
           (drops_kept was site.told after.told states moved.all.still apart_then site.time done knows still_known)));
       knows = knows_still was site.told after.told states moved.all.still apart_then site.time done knows still_known;
     }
@@ -176,7 +176,7 @@ module _ (tells : Type 0) (seat : MoverSeatState) (site after : SiteState) (old 
       makes = λ done knows. subst (λ (l : List Answer). MakesDeeds site.time site.told done l (deeds_of moved.steps)) (sym drops.are)
           (let k = keeps done knows in makes_of_all (map answer_of_drop dropped) site.time site.told done (deeds_of moved.steps) after.time after.told k.known k.makes);
       all = λ done knows. subst (λ (l : List Answer). KeepsAll site after done l (deeds_of moved.steps)) (sym drops.are) (keeps done knows);
-      behind = moved.behind;
+      is_left = moved.is_left;
       owed = subst (λ (l : List Answer). OwesExactly site.told after.told l (deeds_of moved.steps)) (sym drops.are)
           (owed_once was site.told after.told (deeds_of moved.steps) states apart_then (λ place r s at there gone. stood_faded place site.told (deeds_of moved.steps) r moved.fades at));
       due = moved.due;
@@ -187,8 +187,8 @@ module _ (tells : Type 0) (seat : MoverSeatState) (site after : SiteState) (old 
     -- What the mover knows stands to the site again.
     pub kept_knows : (limit : ℕ) → KnowsSite limit seat site → hit_now after.failed after.told ≡ [] → KnowsSite limit next after
     kept_knows limit knows none = record {
-      rows = subst (λ (l : List _). KnowsRows l after.told) (sym drops.known) (knows_behind was site.told after.told states moved.all.still apart_then seat.known knows.rows);
-      controls = omega (arith, knows.controls, ap length drops.known, same_controls dropped seat.known, moved.behind.controls);
+      rows = subst (λ (l : List _). KnowsRows l after.told) (sym drops.known) (knows_after was site.told after.told states moved.all.still apart_then seat.known knows.rows);
+      controls = omega (arith, knows.controls, ap length drops.known, same_controls dropped seat.known, moved.is_left.controls);
       in_step = record {
         up = omega (arith, knows.in_step.up, ap (λ (s : Stamp). s.0) drops.last, moved.all.time);
         same = elim knows.in_step.same [
@@ -295,7 +295,7 @@ module _ (tells : Type 0) (limit : Stamp) (r : forming.Forming) (group : FormedG
     entries = tt;
     makes = λ done known. subst (λ (l : List Answer). MakesDeeds site.time site.told done l []) (sym gained_is) (let k = keeps_nothing done known in makes_of_all (form_answer limit r group ∷ []) site.time site.told done [] site.time site.told k.known k.makes);
     all = λ done known. subst (λ (l : List Answer). KeepsAll site site done l []) (sym gained_is) (keeps_nothing done known);
-    behind = record { level = refl; controls = refl; table = refl; rows = refl; time = refl };
+    is_left = record { level = refl; controls = refl; table = refl; rows = refl; time = refl };
     owed = subst (λ (l : List Answer). OwesExactly site.told site.told l []) (sym gained_is) (owed_none site.told (form_answer limit r group ∷ []) [] (λ k v. refl));
     due = refl;
     begins = λ told e stands. have_begun plant plant (excepted_by_apply site e) site.told [] (no_call plant (excepted_by_apply site e) site.told);
@@ -429,7 +429,7 @@ module _ (tells : Type 0) (limit : Stamp) (r : forming.Forming) (group : FormedG
       goes_on = inr (kept done (λ t rows p d. MakesDeeds t rows p [] d) (rows, refl));
     });
     all = tt;
-    behind = tt;
+    is_left = tt;
     owed = tt;
     due = tt;
     begins = begins;
@@ -444,7 +444,7 @@ module _ (tells : Type 0) (limit : Stamp) (r : forming.Forming) (group : FormedG
     items : AreItemsOf tells group next.failed (rows_before placement site early) next.told old next.waiting
     items = at_ok logs.logs.items
 
-    is_next : next ≡ behind_group old.journals placement group next.waiting early next.failed site
+    is_next : next ≡ after_group old.journals placement group next.waiting early next.failed site
     is_next = at_ok logs.logs.next_is
 
     told_is : next.told ≡ rows
@@ -489,16 +489,16 @@ module _ (tells : Type 0) (limit : Stamp) (r : forming.Forming) (group : FormedG
 
       keeps_logged : (done : Plans) → KnowsDuplex site.told done → KeepsAll site next done run (deeds_of steps.steps)
       keeps_logged done known = record {
-        known = plans_behind dropped_next then;
+        known = plans_after_drops dropped_next then;
         makes = record {
           quiet = [];
           next = site.told;
           more = deeds_of steps.steps;
           are = refl;
           suspends = refl;
-          goes_on = kept done (λ t rows p d. MakesAllDeeds t rows p (map answer_of_drop dropped_next) d next.time next.told (plans_behind dropped_next then))
-              (subst (λ (t : ℕ). MakesAllDeeds group.cut.0 rows then (map answer_of_drop dropped_next) [] t next.told (plans_behind dropped_next then)) (sym time_is)
-              (subst (λ (l : List PairRow). MakesAllDeeds group.cut.0 l then (map answer_of_drop dropped_next) [] group.cut.0 next.told (plans_behind dropped_next then)) told_is
+          goes_on = kept done (λ t rows p d. MakesAllDeeds t rows p (map answer_of_drop dropped_next) d next.time next.told (plans_after_drops dropped_next then))
+              (subst (λ (t : ℕ). MakesAllDeeds group.cut.0 rows then (map answer_of_drop dropped_next) [] t next.told (plans_after_drops dropped_next then)) (sym time_is)
+              (subst (λ (l : List PairRow). MakesAllDeeds group.cut.0 l then (map answer_of_drop dropped_next) [] group.cut.0 next.told (plans_after_drops dropped_next then)) told_is
               (drops_kept was site.told next.told states log_still apart_next group.cut.0 then (λ k v has. or_left (done k v) (is_plan_shown_done k v shown) (known k v has)) (duplex_then done known))));
         };
         knows = knows_still was site.told next.told states log_still apart_next group.cut.0 then (λ k v has. or_left (done k v) (is_plan_shown_done k v shown) (known k v has)) (duplex_then done known);
@@ -507,28 +507,28 @@ module _ (tells : Type 0) (limit : Stamp) (r : forming.Forming) (group : FormedG
           then : Plans
           then = plans_with_shown shown done
 
-      -- Behind it a mark is due.
-      due : is_mark_due next ≡ is_mark_due_behind (is_mark_due site) (deeds_of steps.steps)
+      -- After it a mark is due.
+      due : is_mark_due next ≡ is_mark_due_after (is_mark_due site) (deeds_of steps.steps)
       due =
-          ap is_mark_due is_next ∙ one_is_due (behind_placement placement site).since ∙ sym (ap (is_mark_due_behind (is_mark_due site)) steps.deeds_are ∙ due_by placement)
+          ap is_mark_due is_next ∙ one_is_due (after_placement placement site).since ∙ sym (ap (is_mark_due_after (is_mark_due site)) steps.deeds_are ∙ due_by placement)
         where
-          due_by : (w : RecordPlacement) → is_mark_due_behind (is_mark_due site) (log_deeds w site group early next.failed) ≡ true
-          due_by = by_placements (λ (w : RecordPlacement). is_mark_due_behind (is_mark_due site) (log_deeds w site group early next.failed) ≡ true) refl refl refl
+          due_by : (w : RecordPlacement) → is_mark_due_after (is_mark_due site) (log_deeds w site group early next.failed) ≡ true
+          due_by = by_placements (λ (w : RecordPlacement). is_mark_due_after (is_mark_due site) (log_deeds w site group early next.failed) ≡ true) refl refl refl
 
-      behind : IsLeftBehind site next (deeds_of steps.steps)
-      behind = record {
+      is_left : IsLeftAfter site next (deeds_of steps.steps)
+      is_left = record {
         level = ap (λ (s : SiteState). s.level) is_next ∙ level_of placement;
         controls = ap (λ (s : SiteState). s.controls) is_next ∙ controls_of placement;
         table = in_rows_alone site.table next.table rows (ap (λ (s : SiteState). s.table) is_next);
-        rows = told_is ∙ sym turn_by.rows_are ∙ ap (λ (l : List Deed). rows_behind l site.told) (sym all_deeds);
-        time = time_is ∙ sym (turn_by.time site.time) ∙ ap (λ (l : List Deed). time_meant_behind l site.time) (sym all_deeds);
+        rows = told_is ∙ sym turn_by.rows_are ∙ ap (λ (l : List Deed). rows_after_deeds l site.told) (sym all_deeds);
+        time = time_is ∙ sym (turn_by.time site.time) ∙ ap (λ (l : List Deed). time_meant_after l site.time) (sym all_deeds);
       }
         where
-          level_of : (w : RecordPlacement) → (behind_placement w site).level ≡ site.level
-          level_of = by_placements (λ (w : RecordPlacement). (behind_placement w site).level ≡ site.level) refl refl refl
+          level_of : (w : RecordPlacement) → (after_placement w site).level ≡ site.level
+          level_of = by_placements (λ (w : RecordPlacement). (after_placement w site).level ≡ site.level) refl refl refl
 
-          controls_of : (w : RecordPlacement) → (behind_placement w site).controls ≡ site.controls
-          controls_of = by_placements (λ (w : RecordPlacement). (behind_placement w site).controls ≡ site.controls) refl refl refl
+          controls_of : (w : RecordPlacement) → (after_placement w site).controls ≡ site.controls
+          controls_of = by_placements (λ (w : RecordPlacement). (after_placement w site).controls ≡ site.controls) refl refl refl
 
           record_deed : List Deed
           record_deed = Logged group.cut.0 group.entries rows ∷ []
@@ -545,7 +545,7 @@ module _ (tells : Type 0) (limit : Stamp) (r : forming.Forming) (group : FormedG
             (does_still old new e (excepted_by_apply site e) site.told (λ d x is. sym (none_waits site e d x idle) ∙ is) deeds (at_ok (logs.logs.does.does told) e stands));
         still = e;
         stands = (at_ok leaves).stands told e stands;
-        fewer = λ d x is. logged_fewer tells group site next placement early old idle steps items is_next e d x (ap (λ (l : List Deed). excepted_behind site.told l (excepted_by_apply site e) d x) (sym steps.deeds_are) ∙ is);
+        fewer = λ d x is. logged_fewer tells group site next placement early old idle steps items is_next e d x (ap (λ (l : List Deed). excepted_after site.told l (excepted_by_apply site e) d x) (sym steps.deeds_are) ∙ is);
       }
 
       owed_run : OwesExactly site.told next.told run (deeds_of steps.steps)
@@ -560,14 +560,14 @@ module _ (tells : Type 0) (limit : Stamp) (r : forming.Forming) (group : FormedG
         steps = steps.steps;
         changes = λ shown_at. changes (map answer_of_drop dropped_next) (ap are_shown_at_cuts (sym run_is) ∙ shown_at);
         made = λ going. steps.made (map as_answer gained) (was_shown drops.gained) up is_logged going;
-        going = λ going. ap (λ (s : SiteState). s.mark.ended) is_next ∙ by_placements (λ (w : RecordPlacement). (behind_placement w site).mark.ended ≡ site.mark.ended) refl refl refl placement ∙ going;
+        going = λ going. ap (λ (s : SiteState). s.mark.ended) is_next ∙ by_placements (λ (w : RecordPlacement). (after_placement w site).mark.ended ≡ site.mark.ended) refl refl refl placement ∙ going;
         pairs = steps.pairs;
         counted = counted;
         live = live;
         entries = left_entries;
         makes = λ done known. subst (λ (l : List Answer). MakesDeeds site.time site.told done l (deeds_of steps.steps)) (sym run_is) (let k = keeps_logged done known in makes_of_all run site.time site.told done (deeds_of steps.steps) next.time next.told k.known k.makes);
         all = λ done known. subst (λ (l : List Answer). KeepsAll site next done l (deeds_of steps.steps)) (sym run_is) (keeps_logged done known);
-        behind = behind;
+        is_left = is_left;
         owed = subst (λ (l : List Answer). OwesExactly site.told next.told l (deeds_of steps.steps)) (sym run_is) owed_run;
         due = due;
         begins = begins;
@@ -579,15 +579,15 @@ module _ (tells : Type 0) (limit : Stamp) (r : forming.Forming) (group : FormedG
         fast = fast_then tells (λ e. e) site next old new fast (at_ok leaves);
         level = log_level;
         knows = record {
-          rows = subst (λ (l : List _). KnowsRows l next.told) (sym known_is) (knows_behind was site.told next.told states log_still apart_next turn.known (subst (λ (l : List _). KnowsRows l site.told) (sym f.known) knows.rows));
-          controls = omega (arith, knows.controls, ap length known_is, same_controls dropped_next turn.known, ap length f.known, behind.controls);
+          rows = subst (λ (l : List _). KnowsRows l next.told) (sym known_is) (knows_after was site.told next.told states log_still apart_next turn.known (subst (λ (l : List _). KnowsRows l site.told) (sym f.known) knows.rows));
+          controls = omega (arith, knows.controls, ap length known_is, same_controls dropped_next turn.known, ap length f.known, is_left.controls);
           in_step = record { up = omega (arith, last_is, time_is); same = inr (last_is ∙ sym time_is) };
           below = omega (arith, low, time_is);
           told = logged_told tells group site next placement early old idle steps items is_next;
         };
       }
         where
-          known_is : end.known ≡ known_behind dropped_next turn.known
+          known_is : end.known ≡ known_after_drops dropped_next turn.known
           known_is = drops.known
 
           last_is : end.last.0 ≡ group.cut.0
@@ -609,7 +609,7 @@ nothing_done tells seat site plant = record {
   entries = tt;
   makes = λ done known. (site.told, refl);
   all = λ done known. record { known = done; makes = (refl, refl, refl); knows = known };
-  behind = record { level = refl; controls = refl; table = refl; rows = refl; time = refl };
+  is_left = record { level = refl; controls = refl; table = refl; rows = refl; time = refl };
   owed = owed_none site.told [] [] (λ k v. refl);
   due = refl;
   begins = λ told e stands. have_begun plant plant (excepted_by_apply site e) site.told [] (no_call plant (excepted_by_apply site e) site.told);

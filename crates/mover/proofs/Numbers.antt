@@ -15,9 +15,9 @@ use Rattle.turn_group.specs.Seats.{MoverSeatState}
 use Rattle.site_store.specs.declared.store_error.StoreError.{StoreError}
 use Rattle.site_store.specs.Applying.{Applies}
 use Rattle.site_store.specs.Changing.{Suspends, with_suspensions}
-use Rattle.site_store.specs.Logging.{LogsGroup, behind_group}
+use Rattle.site_store.specs.Logging.{LogsGroup, after_group}
 use Rattle.site_store.specs.Marking.{Marks, rows_at_mark}
-use Rattle.site_store.specs.Records.{behind_mark}
+use Rattle.site_store.specs.Records.{after_mark}
 use Rattle.site_store.specs.Sites.{SiteState}
 use Rattle.site_store.specs.Placements.{is_spent, is_suspension_spent, most}
 use Rattle.site_store.proofs.ByPlacements.{RecordPlacement, by_placements, placement_here, placement_marked, placement_switched}
@@ -28,9 +28,9 @@ use Rattle.mover.proofs.MovedOn.{answers_append, on_ok}
 
 -- ---- in turn
 
--- the numbers behind calls that use up so many
-abbrev Behind : (records marks : ℕ) → (site after : SiteState) → Type 0
-Behind records marks site after = (after.at.number ≤ site.at.number + records) × (after.mark.number ≤ site.mark.number + marks)
+-- the numbers after calls that use up so many
+abbrev After : (records marks : ℕ) → (site after : SiteState) → Type 0
+After records marks site after = (after.at.number ≤ site.at.number + records) × (after.mark.number ≤ site.mark.number + marks)
 
 -- The greatest number is that near.
 abbrev IsNear : (records marks : ℕ) → SiteState → Type 0
@@ -45,7 +45,7 @@ in_turn m n k a b then first = omega (arith, then, first)
 -- What uses up fewer uses up at most as many.
 pub uses_more : (a b c d : ℕ) (site after : SiteState) (result : Result (Unit {0}) StoreError) → a ≤ c → b ≤ d → UsesUpTo a b site after result → UsesUpTo c d site after result
 uses_more a b c d site after result records marks uses = record {
-  behind = on_ok result (λ (n : Behind a b site after). (more after.at.number site.at.number a c n.0 records, more after.mark.number site.mark.number b d n.1 marks)) uses.behind;
+  within = on_ok result (λ (n : After a b site after). (more after.at.number site.at.number a c n.0 records, more after.mark.number site.mark.number b d n.1 marks)) uses.within;
   spent = λ is. elim (uses.spent is) [
     | inl at ↦ inl (more most site.at.number a c at records)
     | inr mark ↦ inr (more most site.mark.number b d mark marks)
@@ -54,10 +54,10 @@ uses_more a b c d site after result records marks uses = record {
 
 pub uses_then : (a b c d : ℕ) (site mid after : SiteState) (result : Result (Unit {0}) StoreError) → UsesUpTo a b site mid (Ok tt) → UsesUpTo c d mid after result → UsesUpTo (a + c) (b + d) site after result
 uses_then a b c d site mid after result first then = record {
-  behind = on_ok result (λ (n : Behind c d mid after). (in_turn after.at.number mid.at.number site.at.number a c n.0 first.behind.0, in_turn after.mark.number mid.mark.number site.mark.number b d n.1 first.behind.1)) then.behind;
+  within = on_ok result (λ (n : After c d mid after). (in_turn after.at.number mid.at.number site.at.number a c n.0 first.within.0, in_turn after.mark.number mid.mark.number site.mark.number b d n.1 first.within.1)) then.within;
   spent = λ is. elim (then.spent is) [
-    | inl at ↦ inl (in_turn most mid.at.number site.at.number a c at first.behind.0)
-    | inr mark ↦ inr (in_turn most mid.mark.number site.mark.number b d mark first.behind.1)
+    | inl at ↦ inl (in_turn most mid.at.number site.at.number a c at first.within.0)
+    | inr mark ↦ inr (in_turn most mid.mark.number site.mark.number b d mark first.within.1)
   ];
 }
 
@@ -65,7 +65,7 @@ pub uses_as : (records marks : ℕ) (site after : SiteState) (r s : Result (Unit
 uses_as records marks site after r s same uses = subst (λ (r : Result (Unit {0}) StoreError). UsesUpTo records marks site after r) same uses
 
 uses_none : (site after : SiteState) → after.at.number ≡ site.at.number → after.mark.number ≡ site.mark.number → UsesUpTo 0 0 site after (Ok tt)
-uses_none site after at mark = record { behind = (omega (arith, at), omega (arith, mark)); spent = λ none. cc none }
+uses_none site after at mark = record { within = (omega (arith, at), omega (arith, mark)); spent = λ none. cc none }
 
 -- No call has no form.
 pub none_used : (site : SiteState) → UsesNumbersOf [] site site (Ok tt)
@@ -80,7 +80,7 @@ at_most m n k e = omega (arith, e)
 -- The numbers of a record and of a switch before it, and that of a mark which comes first.
 module _ (tells : Type 0) (group : FormedGroup) (site next : SiteState) (old new : PlantState) (result : Result (Unit {0}) StoreError) (logs : LogsGroup tells group site next old new result) where
   abbrev Goes : RecordPlacement → Type 0
-  Goes placement = next ≡ behind_group old.journals placement group next.waiting logs.logs.early next.failed site → Behind 2 1 site next
+  Goes placement = next ≡ after_group old.journals placement group next.waiting logs.logs.early next.failed site → After 2 1 site next
 
   goes : (placement : RecordPlacement) → Goes placement
   goes = by_placements Goes
@@ -104,13 +104,13 @@ module _ (tells : Type 0) (group : FormedGroup) (site next : SiteState) (old new
       up_to m n low = omega (arith, low)
 
   pub log_uses : UsesUpTo 2 1 site next result
-  log_uses = record { behind = on_ok result (goes logs.placement) logs.logs.next_is; spent = λ is. near logs.placement (logs.first.spent.0 is) }
+  log_uses = record { within = on_ok result (goes logs.placement) logs.logs.next_is; spent = λ is. near logs.placement (logs.first.spent.0 is) }
 
 -- ---- suspensions
 
 module _ {P : Type 0} (cut : ℕ) (site next : SiteState) (old : PlantState) (was is : P) (result : Result (Unit {0}) StoreError) (ok : Suspends cut site next old was is result) where
   abbrev Tells : RecordPlacement → Type 0
-  Tells placement = next ≡ with_suspensions old.journals placement cut ok.items next.failed site → Behind 2 1 site next
+  Tells placement = next ≡ with_suspensions old.journals placement cut ok.items next.failed site → After 2 1 site next
 
   tells_by : (placement : RecordPlacement) → Tells placement
   tells_by = by_placements Tells
@@ -141,13 +141,13 @@ module _ {P : Type 0} (cut : ℕ) (site next : SiteState) (old : PlantState) (wa
       by [] e = let n = ok.nothing e in none result n.0 n.1
       by (d ∷ hits) e =
           let some : hit_now site.failed site.told ≢ [] = λ none. let clash : d ∷ hits ≡ [] = sym e ∙ none in cc clash in
-          record { behind = on_ok result (tells_by ok.placement) (ok.logged some); spent = λ is. near_then ok.placement ((ok.spent some).0 is) }
+          record { within = on_ok result (tells_by ok.placement) (ok.logged some); spent = λ is. near_then ok.placement ((ok.spent some).0 is) }
 
 -- ---- a mark
 
 pub mark_uses : {P : Type 0} (site next : SiteState) (ended : Bool) (was is : P) (result : Result (Unit {0}) StoreError) → Marks site next ended was is result → UsesUpTo 0 1 site next result
 mark_uses site next ended was is result ok = record {
-  behind = on_ok result (λ (e : next ≡ behind_mark ended (rows_at_mark site.level site next.failed) next.failed site).
+  within = on_ok result (λ (e : next ≡ after_mark ended (rows_at_mark site.level site next.failed) next.failed site).
       let at : next.at.number ≡ site.at.number = ap (λ (s : SiteState). s.at.number) e in let mark : next.mark.number ≡ site.mark.number + 1 = ap (λ (s : SiteState). s.mark.number) e in (omega (arith, at), omega (arith, mark))) ok.next_is;
   spent = λ is. inr (at_most most site.mark.number 1 (sym (eqb-true site.mark.number most (ok.spent.0 is))));
 }
@@ -193,7 +193,7 @@ form_uses limit r group seat turn site after result f uses = record { made = one
 pub unlogged_uses : (limit : Stamp) (r : forming.Forming) (group : FormedGroup) (seat turn : MoverSeatState) (site : SiteState) → FormsGroup limit r group seat turn → FormsUse 1 2 1 seat turn site site (Ok tt)
 unlogged_uses limit r group seat turn site f = form_uses limit r group seat turn site site (Ok tt) f (uses_more 0 0 2 1 site site (Ok tt) (omega arith) (omega arith) (uses_none site site refl refl))
 
--- Drops behind it change no number.
+-- Drops after it change no number.
 pub drops_use : (forms records marks : ℕ) (drops : List VolumeDrop) (seat turn next : MoverSeatState) (site after : SiteState) (result : Result (Unit {0}) StoreError) → MakesDrops drops turn next → FormsUse forms records marks seat turn site after result → FormsUse forms records marks seat next site after result
 drops_use forms records marks drops seat turn next site after result made before = record { made = forms_still drops turn next made ∙ before.made; uses = before.uses }
 
@@ -221,7 +221,7 @@ numbers_then seat turn next site mid after result first then =
     let uses = uses_then (4 * a) (3 * a) (4 * b) (3 * b) site mid after result first.1.uses then.1.uses in
     (a + b, record { made = omega (arith, first.1.made, then.1.made); uses = uses_more (4 * a + 4 * b) (3 * a + 3 * b) (4 * (a + b)) (3 * (a + b)) site after result (omega arith) (omega arith) uses })
 
--- Calls behind none are all that the seat has.
+-- Calls after none are all that the seat has.
 pub numbers_of : (seat next : MoverSeatState) (site after : SiteState) (result : Result (Unit {0}) StoreError) → seat.calls ≡ [] → UsesNumbers seat next site after result → UsesNumbersOf (map as_answer next.calls) site after result
 numbers_of seat next site after result none numbers =
     let before : forms_among (map as_answer seat.calls) ≡ 0 = ap (λ (calls : List MadeCall). forms_among (map as_answer calls)) none in

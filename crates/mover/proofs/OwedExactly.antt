@@ -1,4 +1,4 @@
--- The drops of each row's volume are exactly those of what it owes more: behind one half of a round, and behind parts in turn.
+-- The drops of each row's volume are exactly those of what it owes more: after one half of a round, and after parts in turn.
 use Rattle.std.proofs.Common.{◌≡◌, ◌⊎◌, inl, inr, ℕ, zero, suc, ◌+◌, Bool, true, false, not, cond, nat_eq, ◌&&◌, ◌||◌, List, [], ◌∷◌, ◌++◌, get_or, map, Option, Some, None, refl, sym, ap, subst, ◌∙◌, arith, true≢false, slice_get}
 use Rattle.std.specs.List.{list_any}
 use Rattle.std.proofs.lemmas.Bool.{and_from, eq-eqb, or_cases, or_from, or_left, or_parts, or_right}
@@ -11,12 +11,12 @@ use Rattle.pair_table.specs.Tables.{clashes, none_clash}
 use Rattle.pair_table.proofs.PutLaws.{number_sym}
 use Rattle.pair_table.proofs.TableLaws.{first_apart}
 use Rattle.group_state.specs.Runs.{Answer}
-use Rattle.record_rows.specs.Deeds.{Deed, rows_behind, rows_by_deed}
+use Rattle.record_rows.specs.Deeds.{Deed, rows_after_deeds, rows_by_deed}
 use Rattle.pair_table.specs.States.{is_by_device, is_device_suspended, is_duplex, owes_suspended, owes_through}
 use Rattle.record_rows.specs.ToldRows.{InPlaces}
 use Rattle.mover.specs.Dropping.{OwesExactly, answer_of_drop, are_states_of, drop_of, drops_from, is_duplex_row, owed_by_call, owed_by_calls, owed_in_turn, owes_since, stood_duplex}
 use Rattle.mover.specs.Moves.{Fades, InPlacesByDeeds, KeepsPair}
-use Rattle.mover.proofs.DeedPairs.{After, after, in_place, pairs_behind}
+use Rattle.mover.proofs.DeedPairs.{After, after, in_place, pairs_after}
 use Rattle.mover.proofs.SamePairs.{device_still, none_there}
 
 -- ---- drops in turn
@@ -133,7 +133,7 @@ or_fades r s f = elim f.fades [
   | inr gone ↦ or_gone (is_duplex r.state) s.state gone
 ]
 
--- Behind deeds that only suspend rows, a row stood duplex if it did at first.
+-- After deeds that only suspend rows, a row stood duplex if it did at first.
 pub stood_faded : (place : ℕ) (rows : List PairRow) (deeds : List Deed) (r : PairRow) → InPlacesByDeeds Fades rows deeds → slice_get rows place ≡ Some r → stood_duplex place rows deeds ≡ is_duplex r.state
 stood_faded place rows [] r fade at = ap is_duplex_row at
 stood_faded place rows (deed ∷ deeds) r fade at =
@@ -148,7 +148,7 @@ stood_logged place rows (first ∷ quiet) deed r s fade at there gone =
     let m = after Fades rows (rows_by_deed first) place r fade.0 at in
     (λ i. is_duplex_row (at i) || stood_logged place (rows_by_deed first) quiet deed m.row s fade.1 m.at there gone i) ∙ or_fades r m.row m.is
 
-stood_in_turn : (place : ℕ) (rows : List PairRow) (a b : List Deed) → stood_duplex place rows (a ++ b) ≡ (stood_duplex place rows a || stood_duplex place (rows_behind a rows) b)
+stood_in_turn : (place : ℕ) (rows : List PairRow) (a b : List Deed) → stood_duplex place rows (a ++ b) ≡ (stood_duplex place rows a || stood_duplex place (rows_after_deeds a rows) b)
 stood_in_turn place rows [] [] = sym (or_same (is_duplex_row (slice_get rows place)))
 stood_in_turn place rows [] (deed ∷ b) =
     let first = is_duplex_row (slice_get rows place) in
@@ -156,7 +156,7 @@ stood_in_turn place rows [] (deed ∷ b) =
     ap (λ (t : Bool). t || rest) (sym (or_same first)) ∙ sym (or_more first first rest)
 stood_in_turn place rows (deed ∷ a) b =
     let first = is_duplex_row (slice_get rows place) in
-    ap (λ (t : Bool). first || t) (stood_in_turn place (rows_by_deed deed) a b) ∙ or_more first (stood_duplex place (rows_by_deed deed) a) (stood_duplex place (rows_behind a (rows_by_deed deed)) b)
+    ap (λ (t : Bool). first || t) (stood_in_turn place (rows_by_deed deed) a b) ∙ or_more first (stood_duplex place (rows_by_deed deed) a) (stood_duplex place (rows_after_deeds a (rows_by_deed deed)) b)
 
 duplex_is : (state : PairState) → is_duplex state ≡ true → state ≡ Duplex
 duplex_is Pending e = absurd cc
@@ -179,11 +179,11 @@ none_stood place rows (deed ∷ deeds) r keep at gone =
     still s is false e = absurd (true≢false (sym gone ∙ is.live e))
 
 -- A row that stood duplex is so still, unless it is suspended.
-stands_still : (place : ℕ) (rows : List PairRow) (deeds : List Deed) (r s : PairRow) → InPlacesByDeeds KeepsPair rows deeds → slice_get rows place ≡ Some r → slice_get (rows_behind deeds rows) place ≡ Some s → stood_duplex place rows deeds ≡ true
+stands_still : (place : ℕ) (rows : List PairRow) (deeds : List Deed) (r s : PairRow) → InPlacesByDeeds KeepsPair rows deeds → slice_get rows place ≡ Some r → slice_get (rows_after_deeds deeds rows) place ≡ Some s → stood_duplex place rows deeds ≡ true
     → is_suspended s.state ≡ false → s.state ≡ Duplex
 stands_still place rows [] r s keep at there stood live = duplex_is s.state (ap is_duplex_row (sym there) ∙ stood)
 stands_still place rows (deed ∷ deeds) r s keep at there stood live = elim (or_cases (is_duplex_row (slice_get rows place)) (stood_duplex place (rows_by_deed deed) deeds) stood) [
-  | inl here ↦ (in_place KeepsPair rows (rows_behind deeds (rows_by_deed deed)) place r s (pairs_behind rows (deed ∷ deeds) keep) at there).duplex (duplex_is r.state (ap is_duplex_row (sym at) ∙ here)) live
+  | inl here ↦ (in_place KeepsPair rows (rows_after_deeds deeds (rows_by_deed deed)) place r s (pairs_after rows (deed ∷ deeds) keep) at there).duplex (duplex_is r.state (ap is_duplex_row (sym at) ∙ here)) live
   | inr later ↦ let m = after KeepsPair rows (rows_by_deed deed) place r keep.0 at in stands_still place (rows_by_deed deed) deeds m.row s keep.1 m.at there later live
 ]
 
@@ -261,7 +261,7 @@ owed_none rows answers deeds none place r s at there =
 
 -- ---- parts in turn
 
--- What is owed more in two parts, by the states of a row before, between and behind them, and by whether it stood duplex in each.
+-- What is owed more in two parts, by the states of a row before, between and after them, and by whether it stood duplex in each.
 module _ (was mid is : PairRow) (first then : Bool) (a : KeepsPair was mid) (b : KeepsPair mid is) (none : is_suspended mid.state ≡ true → then ≡ false) (still : first ≡ true → is_suspended mid.state ≡ false → then ≡ true) where
   abbrev before : Option Bool
   before = owes_through was.state mid.state first
@@ -308,7 +308,7 @@ module _ (was mid is : PairRow) (first then : Bool) (a : KeepsPair was mid) (b :
       by true e true f = hit_through f
       by true e false f = other_through e f
 
-module _ (rows mid next : List PairRow) (a b : List Answer) (d e : List Deed) (first : InPlacesByDeeds KeepsPair rows d) (then : InPlacesByDeeds KeepsPair mid e) (mid_is : mid ≡ rows_behind d rows) (next_is : next ≡ rows_behind e mid) where
+module _ (rows mid next : List PairRow) (a b : List Answer) (d e : List Deed) (first : InPlacesByDeeds KeepsPair rows d) (then : InPlacesByDeeds KeepsPair mid e) (mid_is : mid ≡ rows_after_deeds d rows) (next_is : next ≡ rows_after_deeds e mid) where
   pub owed_then : OwesExactly rows mid a d → OwesExactly mid next b e → OwesExactly rows next (a ++ b) (d ++ e)
   owed_then one two place r s at there =
       calls_in_turn s.control s.volume a b
@@ -317,10 +317,10 @@ module _ (rows mid next : List PairRow) (a b : List Answer) (d e : List Deed) (f
       ∙ ap (owes_through r.state s.state) (sym stood)
     where
       m : After KeepsPair mid place r
-      m = after KeepsPair rows mid place r (subst (InPlaces KeepsPair rows) (sym mid_is) (pairs_behind rows d first)) at
+      m = after KeepsPair rows mid place r (subst (InPlaces KeepsPair rows) (sym mid_is) (pairs_after rows d first)) at
 
       keeps : KeepsPair m.row s
-      keeps = in_place KeepsPair mid next place m.row s (subst (InPlaces KeepsPair mid) (sym next_is) (pairs_behind mid e then)) m.at there
+      keeps = in_place KeepsPair mid next place m.row s (subst (InPlaces KeepsPair mid) (sym next_is) (pairs_after mid e then)) m.at there
 
       owed_first : owed_by_calls s.control s.volume a ≡ owes_through r.state m.row.state (stood_duplex place rows d)
       owed_first = ap (λ (x : PairRow). owed_by_calls x.control x.volume a) keeps.same ∙ one place r m.row at m.at

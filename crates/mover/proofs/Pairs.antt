@@ -1,4 +1,4 @@
--- Rows of the same pairs: what entries are on, and which device a control's volume has.
+-- Rows of the same pairs: what entries are on, and which device a controller's volume has.
 use Rattle.std.proofs.Common.{◌≡◌, ℕ, zero, suc, ◌<◌, Bool, true, false, cond, not, nat_eq, ◌&&◌, ◌||◌, List, [], ◌∷◌, map, length, ◌⊎◌, inl, inr, Option, Some, refl, sym, ap, subst, ◌∙◌, arith, true≢false}
 use Rattle.std.specs.Prelude.{find, bytes_eq, slice_index_or}
 use Rattle.std.specs.List.{list_any, Contains}
@@ -93,7 +93,7 @@ pub contains_of : (r : PairRow) (rows : List PairRow) → Among r rows → Conta
 contains_of r _ (Here rows) = (0, omega arith, refl)
 contains_of r _ (Later s rows there) = let c = contains_of r rows there in (suc c.0, (let low = c.1 in omega (arith, low)), c.2)
 
--- where no row clashes with one, none has its device, and none its control and volume
+-- where no row clashes with one, none has its device, and none its controller and volume
 pub record Apart (r s : PairRow) : Type 0 where
   pub device : nat_eq r.device s.device ≡ false
   pub volume : (nat_eq r.control s.control && nat_eq r.volume s.volume) ≡ false
@@ -107,7 +107,7 @@ pub apart_among : (r s : PairRow) (rows : List PairRow) → list_any (clashes r)
 apart_among r s _ none (Here rows) = apart_from r s (either_false (clashes r s) (list_any (clashes r) rows) none).0
 apart_among r s _ none (Later x rows there) = apart_among r s rows (either_false (clashes r x) (list_any (clashes r) rows) none).1 there
 
--- the first of control and volume
+-- the first of controller and volume
 abbrev pub is_of_volume_at : (k v : ℕ) → PairRow → Bool
 is_of_volume_at k v r = nat_eq r.control k && nat_eq r.volume v
 
@@ -117,7 +117,7 @@ both_there k v r s h g =
     let b = and_parts (nat_eq s.control k) (nat_eq s.volume v) g in
     and_from (nat_eq r.control s.control) (nat_eq r.volume s.volume) (eq-eqb r.control s.control (eqb-true r.control k a.0 ∙ sym (eqb-true s.control k b.0))) (eq-eqb r.volume s.volume (eqb-true r.volume v a.1 ∙ sym (eqb-true s.volume v b.1)))
 
--- the row of a control's volume is found
+-- the row of a controller's volume is found
 pub found_row : (k v : ℕ) (r : PairRow) (rows : List PairRow) → none_clash rows ≡ true → Among r rows → is_of_volume_at k v r ≡ true → find (is_of_volume_at k v) rows ≡ Some r
 found_row k v r _ apart (Here rows) is = rw is refl
 found_row k v r _ apart (Later s rows there) is = choose (is_of_volume_at k v s) refl (found_row k v r rows (first_apart s rows apart).others there is)
@@ -146,7 +146,7 @@ no_device d test (r ∷ rows) none =
     choose true here others = number_sym r.device d ∙ here
     choose false here others = others
 
--- An entry is on a row's device exactly where it names the row's control and volume.
+-- An entry is on a row's device exactly where it names the row's controller and volume.
 device_is : (k v : ℕ) (r : PairRow) (rows : List PairRow) → none_clash rows ≡ true → Among r rows → is_device r.device (device_by (is_of_volume_at k v) rows) ≡ is_of_volume_at k v r
 device_is k v r _ apart (Here rows) = choose (is_of_volume_at k v r)
   where
@@ -175,7 +175,7 @@ entry_names r rows apart there x e =
     ∙ ap (λ (b : Bool). (nat_eq e.head.control r.control && b) && nat_eq e.head.track x) (number_sym r.volume e.head.volume)
     ∙ regroup (nat_eq e.head.control r.control) (nat_eq e.head.volume r.volume) (nat_eq e.head.track x)
 
--- ---- the device of a control's volume
+-- ---- the device of a controller's volume
 
 pub named_by : (k v : ℕ) (r : PairRow) → r.control ≡ k → r.volume ≡ v → is_of_volume_at k v r ≡ true
 named_by k v r control volume = and_from (nat_eq r.control k) (nat_eq r.volume v) (eq-eqb r.control k control) (eq-eqb r.volume v volume)
@@ -183,7 +183,7 @@ named_by k v r control volume = and_from (nat_eq r.control k) (nat_eq r.volume v
 same_number : (a b : ℕ) → (let x : Option ℕ = Some a in let y : Option ℕ = Some b in x ≡ y) → a ≡ b
 same_number a b e = cc
 
--- Rows of one control's volume, among rows of the same pairs, have one device.
+-- Rows of one controller's volume, among rows of the same pairs, have one device.
 pub one_device : (is now : PairState → Type 0) (k v : ℕ) (rows next : List PairRow) → none_clash rows ≡ true → pairs_of next ≡ pairs_of rows → (a : HasRowIn is k v rows) (b : HasRowIn now k v next) → a.row.device ≡ b.row.device
 one_device is now k v rows next apart same a b =
     let first = found_row k v a.row rows apart (among_of rows a.row a.among) (named_by k v a.row a.control a.volume) in

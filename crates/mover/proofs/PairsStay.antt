@@ -1,10 +1,10 @@
--- Behind deeds whose rows come by changes each row's pair is that of the row in its place before.
+-- After deeds whose rows come by changes each row's pair is that of the row in its place before.
 use Rattle.std.proofs.Common.{◌==◌, ℕ, Bool, true, false, cond, List, [], ◌∷◌, map, refl, sym, subst}
 use Rattle.pair_table.specs.declared.level.Level.{Level}
 use Rattle.pair_table.specs.declared.row.PairRow.{PairRow}
 use Rattle.row_changes.specs.Changes.{FaultReach, Timed, after_change, after_changes, reach_of, row_after_change}
 use Rattle.row_changes.proofs.Reaching.{changes_state}
-use Rattle.record_rows.specs.Deeds.{rows_behind, rows_by_deed, time_by_deed}
+use Rattle.record_rows.specs.Deeds.{rows_after_deeds, rows_by_deed, time_by_deed}
 use Rattle.record_rows.specs.ToldRows.{InPlaces}
 use Rattle.site_store.specs.DeedChanges.{AreByChanges, DeedOfChanges, deeds_of}
 use Rattle.mover.specs.Epochs.{IsSamePair}
@@ -31,9 +31,9 @@ pairs_after level (t ∷ changes) rows =
     let next = after_change level t rows in
     pairs_then rows next (after_changes level changes next) (pairs_mapped (reach_of level rows) t rows) (pairs_after level changes next)
 
-pub pairs_stay : (level : Level) (time : ℕ) (rows : List PairRow) (steps : List DeedOfChanges) → AreByChanges level time rows steps → InPlaces IsSamePair rows (rows_behind (deeds_of steps) rows)
+pub pairs_stay : (level : Level) (time : ℕ) (rows : List PairRow) (steps : List DeedOfChanges) → AreByChanges level time rows steps → InPlaces IsSamePair rows (rows_after_deeds (deeds_of steps) rows)
 pairs_stay level time rows [] are = pairs_self rows
 pairs_stay level time rows (step ∷ steps) are =
-    pairs_then rows (rows_by_deed step.deed) (rows_behind (deeds_of steps) (rows_by_deed step.deed))
+    pairs_then rows (rows_by_deed step.deed) (rows_after_deeds (deeds_of steps) (rows_by_deed step.deed))
     (subst (InPlaces IsSamePair rows) (sym are.0.rows_are) (pairs_after level step.changes rows))
     (pairs_stay level (time_by_deed time step.deed) (rows_by_deed step.deed) steps are.1)

@@ -13,15 +13,15 @@ use Rattle.fed_logs.specs.declared.reading.Reading.{Reading}
 use Rattle.fed_logs.specs.declared.reading.Reading.TheVariants as readings
 use Rattle.fed_logs.specs.LaneFeeds.{FeedState}
 use Rattle.fed_logs.specs.Steps.{held_answer, wanted_answer}
-use Rattle.fed_logs.specs.Tellers.{IsToldBy, HasFaultBy, IsHaltBelow, IsCopiedBy, WasRefused, copying_answers}
-use Rattle.fed_logs.proofs.Below.{nothing_breaks, below_in_turn, copies_tell_no_break}
+use Rattle.fed_logs.specs.Reporters.{IsToldBy, HasFaultBy, IsHaltBelow, IsCopiedBy, WasRefused, copying_answers}
+use Rattle.fed_logs.proofs.Below.{nothing_breaks, below_in_turn, copies_report_no_break}
 use Rattle.fed_logs.proofs.InTurn.{reads_nothing}
 use Rattle.fed_logs.proofs.Telling.{tells_nothing, tells_in_turn}
-use Rattle.fed_logs.proofs.UpToLimit.{copies_go_up_to, none_up_to, nothing_up_to, tells_up_to_in_turn}
+use Rattle.fed_logs.proofs.UpToLimit.{copies_go_up_to, none_up_to, nothing_up_to, reports_up_to_in_turn}
 use Rattle.turn_group.specs.Calls.{as_answer}
 use Rattle.turn_group.specs.Seats.{ReaderSeatState, TurnState, calls_at}
-use Rattle.mover.specs.Readers.{LaneReaderState, teller_of}
-use Rattle.mover.specs.Lanes.{AreLastCopies, AreLastOf, DidPart, EndsIn, HasFaultFrom, IsRefusal, MayGoOn, MayRead, ReadsInRound, SeatCopies, SeatTakesLimit, SeatTells, TellsFor, answers_at, answers_of}
+use Rattle.mover.specs.Readers.{LaneReaderState, reporter_of}
+use Rattle.mover.specs.Lanes.{AreLastCopies, AreLastOf, DidPart, EndsIn, HasFaultFrom, IsRefusal, MayGoOn, MayRead, ReadsInRound, SeatCopies, SeatReports, SeatTakesLimit, TellsFor, answers_at, answers_of}
 
 -- ---- breaks
 
@@ -41,26 +41,26 @@ fault_from old now faults risen none by = subst (λ (h : Option Halt). HasFaultF
 pub no_fault_yet : (faults risen : ℕ) (halted : Option Halt) → halted ≡ None → HasFaultBy faults risen halted → risen ≡ faults
 no_fault_yet faults risen halted goes by = subst (λ (h : Option Halt). HasFaultBy faults risen h) goes by
 
--- What is counted behind it is counted from before.
+-- What is counted after it is counted from before.
 pub fault_then : (faults mid risen : ℕ) (halted : Option Halt) → mid ≡ faults → HasFaultBy mid risen halted → HasFaultBy faults risen halted
 fault_then faults mid risen halted same by = subst (λ (n : ℕ). HasFaultBy n risen halted) same by
 
--- ---- what seats tell
+-- ---- what seats report
 
-pub tells_none : (heads : List VolumeHead) (left : Option (List ℕ)) (feed : FeedState) (seat : ReaderSeatState) → SeatTells heads left left feed feed seat seat
-tells_none heads left feed seat = tells_nothing left feed (teller_of heads seat)
+pub tells_none : (heads : List VolumeHead) (left : Option (List ℕ)) (feed : FeedState) (seat : ReaderSeatState) → SeatReports heads left left feed feed seat seat
+tells_none heads left feed seat = tells_nothing left feed (reporter_of heads seat)
 
-pub tells_then : (heads : List VolumeHead) (before mid now : Option (List ℕ)) (a b c : FeedState) (s t u : ReaderSeatState) → SeatTells heads before mid a b s t → SeatTells heads mid now b c t u → SeatTells heads before now a c s u
-tells_then heads before mid now a b c s t u h k = tells_in_turn before mid now a b c (teller_of heads s) (teller_of heads t) (teller_of heads u) h k
+pub tells_then : (heads : List VolumeHead) (before mid now : Option (List ℕ)) (a b c : FeedState) (s t u : ReaderSeatState) → SeatReports heads before mid a b s t → SeatReports heads mid now b c t u → SeatReports heads before now a c s u
+tells_then heads before mid now a b c s t u h k = tells_in_turn before mid now a b c (reporter_of heads s) (reporter_of heads t) (reporter_of heads u) h k
 
 pub takes_none : (heads : List VolumeHead) (limit : ℕ) (left : Option (List ℕ)) (feed : FeedState) (seat : ReaderSeatState) → SeatTakesLimit heads limit left left feed feed seat seat
-takes_none heads limit left feed seat = record { up_to = nothing_up_to limit left feed (teller_of heads seat); below = nothing_breaks limit left feed (teller_of heads seat) }
+takes_none heads limit left feed seat = record { up_to = nothing_up_to limit left feed (reporter_of heads seat); below = nothing_breaks limit left feed (reporter_of heads seat) }
 
-pub takes_then : (heads : List VolumeHead) (limit : ℕ) (before mid now : Option (List ℕ)) (a b c : FeedState) (s t u : ReaderSeatState) → SeatTells heads before mid a b s t → SeatTakesLimit heads limit before mid a b s t → SeatTells heads mid now b c t u
+pub takes_then : (heads : List VolumeHead) (limit : ℕ) (before mid now : Option (List ℕ)) (a b c : FeedState) (s t u : ReaderSeatState) → SeatReports heads before mid a b s t → SeatTakesLimit heads limit before mid a b s t → SeatReports heads mid now b c t u
     → SeatTakesLimit heads limit mid now b c t u → SeatTakesLimit heads limit before now a c s u
 takes_then heads limit before mid now a b c s t u h low k then = record {
-  up_to = tells_up_to_in_turn limit before mid now a b c (teller_of heads s) (teller_of heads t) (teller_of heads u) h low.up_to k then.up_to;
-  below = below_in_turn limit before mid now a b c (teller_of heads s) (teller_of heads t) (teller_of heads u) h low.below k then.below;
+  up_to = reports_up_to_in_turn limit before mid now a b c (reporter_of heads s) (reporter_of heads t) (reporter_of heads u) h low.up_to k then.up_to;
+  below = below_in_turn limit before mid now a b c (reporter_of heads s) (reporter_of heads t) (reporter_of heads u) h low.below k then.below;
 }
 
 pub copies_none : (heads : List VolumeHead) (feed : FeedState) (seat : ReaderSeatState) → SeatCopies heads feed seat seat
@@ -73,20 +73,20 @@ copies_then heads feed s t u h k = record {
 }
 
 -- One step that copies.
-pub copies_one : (heads : List VolumeHead) (feed : FeedState) (s t : ReaderSeatState) (joined : Option CopyJoin) → feed.halted ≡ None → ((left : Option (List ℕ)) → SeatTells heads left left feed feed s t) → IsCopiedBy joined feed (teller_of heads s) (teller_of heads t)
+pub copies_one : (heads : List VolumeHead) (feed : FeedState) (s t : ReaderSeatState) (joined : Option CopyJoin) → feed.halted ≡ None → ((left : Option (List ℕ)) → SeatReports heads left left feed feed s t) → IsCopiedBy joined feed (reporter_of heads s) (reporter_of heads t)
     → SeatCopies heads feed s t
 copies_one heads feed s t joined goes reads copied = record {
   reads = reads;
   takes = λ limit left. record {
-    up_to = copies_go_up_to limit left joined feed (teller_of heads s) (teller_of heads t) (reads left) copied;
-    below = copies_tell_no_break limit left joined feed (teller_of heads s) (teller_of heads t) goes copied;
+    up_to = copies_go_up_to limit left joined feed (reporter_of heads s) (reporter_of heads t) (reads left) copied;
+    below = copies_report_no_break limit left joined feed (reporter_of heads s) (reporter_of heads t) goes copied;
   };
 }
 
-pub reads_and_copies : (heads : List VolumeHead) (before now : Option (List ℕ)) (old feed : FeedState) (s t u : ReaderSeatState) → SeatTells heads before now old feed s t → SeatCopies heads feed t u → SeatTells heads before now old feed s u
+pub reads_and_copies : (heads : List VolumeHead) (before now : Option (List ℕ)) (old feed : FeedState) (s t u : ReaderSeatState) → SeatReports heads before now old feed s t → SeatCopies heads feed t u → SeatReports heads before now old feed s u
 reads_and_copies heads before now old feed s t u h k = tells_then heads before now now old feed feed s t u h (k.reads now)
 
-pub takes_and_copies : (heads : List VolumeHead) (limit : ℕ) (before now : Option (List ℕ)) (old feed : FeedState) (s t u : ReaderSeatState) → SeatTells heads before now old feed s t → SeatTakesLimit heads limit before now old feed s t → SeatCopies heads feed t u
+pub takes_and_copies : (heads : List VolumeHead) (limit : ℕ) (before now : Option (List ℕ)) (old feed : FeedState) (s t u : ReaderSeatState) → SeatReports heads before now old feed s t → SeatTakesLimit heads limit before now old feed s t → SeatCopies heads feed t u
     → SeatTakesLimit heads limit before now old feed s u
 takes_and_copies heads limit before now old feed s t u h low k = takes_then heads limit before now now old feed feed s t u h low (k.reads now) (k.takes limit now)
 
@@ -96,8 +96,8 @@ pub ends_here : (Is : List Answer → Type 0) (before last after : List Answer) 
 ends_here Is before last after same so = record { earlier = []; last = last; answers = same ∙ ap (λ (l : List Answer). l ++ last) (sym (append-nil before)); so = so }
 
 -- What ends calls ends all calls from before on.
-pub ends_behind : (Is : List Answer → Type 0) (before gained mid after : List Answer) → mid ≡ before ++ gained → EndsIn Is mid after → EndsIn Is before after
-ends_behind Is before gained mid after same h = record {
+pub ends_after : (Is : List Answer → Type 0) (before gained mid after : List Answer) → mid ≡ before ++ gained → EndsIn Is mid after → EndsIn Is before after
+ends_after Is before gained mid after same h = record {
   earlier = gained ++ h.earlier;
   last = h.last;
   answers = h.answers ∙ ap (λ (l : List Answer). (l ++ h.earlier) ++ h.last) same ∙ ap (λ (l : List Answer). l ++ h.last) (append_assoc before gained h.earlier);
@@ -105,16 +105,16 @@ ends_behind Is before gained mid after same h = record {
 }
 
 -- The batch that is held was refused.
-pub ends_refused : (room : Room) (feed : FeedState) (heads : List VolumeHead) (told after : ReaderSeatState) → WasRefused room feed (teller_of heads told) (teller_of heads after) → EndsIn (IsRefusal room feed) (answers_at told) (answers_at after)
+pub ends_refused : (room : Room) (feed : FeedState) (heads : List VolumeHead) (told after : ReaderSeatState) → WasRefused room feed (reporter_of heads told) (reporter_of heads after) → EndsIn (IsRefusal room feed) (answers_at told) (answers_at after)
 ends_refused room feed heads told after was = ends_here (IsRefusal room feed) (answers_at told) (held_answer was.batch room ∷ []) (answers_at after) was.answers (was.batch, was.holds, refl)
 
 -- No track was wanted.
-pub ends_unwanted : (heads : List VolumeHead) (feed : FeedState) (told after : ReaderSeatState) → told.control ≡ feed.side.control → IsCopiedBy None feed (teller_of heads told) (teller_of heads after) → EndsIn (AreLastCopies feed.side.control feed) (answers_at told) (answers_at after)
+pub ends_unwanted : (heads : List VolumeHead) (feed : FeedState) (told after : ReaderSeatState) → told.control ≡ feed.side.control → IsCopiedBy None feed (reporter_of heads told) (reporter_of heads after) → EndsIn (AreLastCopies feed.side.control feed) (answers_at told) (answers_at after)
 ends_unwanted heads feed told after own copied =
     ends_here (AreLastCopies feed.side.control feed) (answers_at told) (wanted_answer feed.side.control None ∷ []) (answers_at after) (copied ∙ ap (λ (k : ℕ). answers_at told ++ wanted_answer k None ∷ []) own) (inl refl)
 
 -- There was no room for the track that was wanted.
-pub ends_full : (heads : List VolumeHead) (feed : FeedState) (told after : ReaderSeatState) (room : Room) → told.control ≡ feed.side.control → IsCopiedBy (Some (copyings.Held room)) feed (teller_of heads told) (teller_of heads after)
+pub ends_full : (heads : List VolumeHead) (feed : FeedState) (told after : ReaderSeatState) (room : Room) → told.control ≡ feed.side.control → IsCopiedBy (Some (copyings.Held room)) feed (reporter_of heads told) (reporter_of heads after)
     → EndsIn (AreLastCopies feed.side.control feed) (answers_at told) (answers_at after)
 ends_full heads feed told after room own copied =
     ends_here (AreLastCopies feed.side.control feed) (answers_at told) (copying_answers feed.side.control feed.primary copied.volume copied.track copied.at (copyings.Held room)) (answers_at after)
@@ -174,7 +174,7 @@ goes_on feed unbroken goes = is_unbroken feed.halted (none_of (broken_in feed.ha
 
 -- Reading and copying in turns of a seat.
 pub reads_part : (limit : ℕ) (before now : Option (List ℕ)) (faults risen : ℕ) (old : LaneReaderState) (seat next : ReaderSeatState) (feed : FeedState) (heads : List VolumeHead) (last : Option Reading) → old.seat ≡ Some seat → old.feed.halted ≡ None
-    → IsToldBy old.feed (teller_of heads seat) → IsToldBy feed (teller_of heads next) → SeatTells heads before now old.feed feed seat next → SeatTakesLimit heads limit before now old.feed feed seat next → HasFaultBy faults risen feed.halted
+    → IsToldBy old.feed (reporter_of heads seat) → IsToldBy feed (reporter_of heads next) → SeatReports heads before now old.feed feed seat next → SeatTakesLimit heads limit before now old.feed feed seat next → HasFaultBy faults risen feed.halted
     → ReadsInRound limit before now faults risen old (reader_with feed (Some next) last)
 reads_part limit before now faults risen old seat next feed heads last is goes was told reads takes by = record {
   gained = reads.gained;

@@ -12,14 +12,14 @@ use Rattle.crash_plant.specs.Moments.{PlantState}
 use Rattle.pair_table.specs.declared.level.Level.{Level}
 use Rattle.row_changes.specs.Changes.{Timed}
 use Rattle.row_changes.specs.Spans.{all_broke}
-use Rattle.record_rows.specs.Deeds.{Deed, time_meant_behind}
+use Rattle.record_rows.specs.Deeds.{Deed, time_meant_after}
 use Rattle.site_means.specs.Images.{Shape, shape_of}
 use Rattle.site_means.proofs.Goes.{shape_same}
 use Rattle.xrc_command.specs.declared.line.Line.{Line}
 use Rattle.site_store.specs.DeedChanges.{DeedOfChanges, changes_of, deeds_of}
 use Rattle.site_store.specs.DoneDeeds.{points_of, with_next}
 use Rattle.site_store.specs.Exceptions.{Exceptions}
-use Rattle.site_store.specs.Seeing.{SeesBehind}
+use Rattle.site_store.specs.Seeing.{SeesAfter}
 use Rattle.site_store.proofs.Moments.{first_seen}
 use Rattle.passages.specs.Points.{AreLinked, GoesThrough, last_point}
 use Rattle.consistency.specs.Stages.{ScriptRun, Stage, breaks_of}
@@ -29,15 +29,15 @@ use Rattle.consistency.specs.Ways.{ComesNext, HasCountedHits, IsAtWork, Leg, Pas
 use Rattle.consistency.specs.Ways.Way.{OnTheWay}
 use Rattle.consistency.proofs.Legs.{ends_alike}
 use Rattle.mover.specs.BorneLaws.{BegunDeedsBear, BegunDeedsPassPoints, DoneDeedsPassPoints, next_point}
-use Rattle.mover.specs.Points.{AreSteps, point_behind, point_by, points_by}
+use Rattle.mover.specs.Points.{AreSteps, point_after_deeds, point_by, points_by}
 use Rattle.mover.specs.Working.{IsOnItsWay, ShowsLast, Work, WorkBegins}
 use Rattle.mover.proofs.Bearing.{bears, broken, counted, may_be_meant, shown}
 use Rattle.mover.specs.SilentBreaks.{all_silent, with_silent}
 use Rattle.mover.proofs.Breaking.{same_deeds}
-use Rattle.mover.proofs.Leading.{behind_both, count_deeds, first_deeds, first_steps, flag_there, same_point, silent_points, silent_step, steps_behind, take_silent}
+use Rattle.mover.proofs.Leading.{after_both, count_deeds, first_deeds, first_steps, flag_there, same_point, silent_points, silent_step, steps_after, take_silent}
 
--- The last of the points of the first deeds is the one behind these.
-last_by : (level : Level) (p : Point) (moments : List ℕ) (steps : List DeedOfChanges) → last_point p (points_by level p moments steps) ≡ point_behind level p (take (length moments) steps)
+-- The last of the points of the first deeds is the one after these.
+last_by : (level : Level) (p : Point) (moments : List ℕ) (steps : List DeedOfChanges) → last_point p (points_by level p moments steps) ≡ point_after_deeds level p (take (length moments) steps)
 last_by level p [] steps = refl
 last_by level p (t ∷ moments) [] = refl
 last_by level p (t ∷ moments) (step ∷ steps) = last_by level (point_by level p step) moments steps
@@ -74,24 +74,24 @@ module _ (old : PlantState) (k : Work) (w : WorkBegins old k) where
   silent front = all_silent line.time.0 (breaks_of run) front
 
   abbrev point_of : List DeedOfChanges → Point
-  point_of front = point_behind run.level p front
+  point_of front = point_after_deeds run.level p front
 
-  -- the leg behind the first steps
+  -- the leg after the first steps
   abbrev leg_of : List DeedOfChanges → Leg
   leg_of front = leg_to l (point_of front) (changes_of (silent front))
 
   -- ---- the first steps
 
-  -- What holds behind the first steps.
+  -- What holds after the first steps.
   record Facts (front : List DeedOfChanges) : Type 0 where
-    pub shown_there : (c : Choice) → SeesBehind old excepted p.rows (deeds_of front) c → ShowsPoint run (shape_of old) (point_of front) c
+    pub shown_there : (c : Choice) → SeesAfter old excepted p.rows (deeds_of front) c → ShowsPoint run (shape_of old) (point_of front) c
     pub may_there : MayBeMeant run stage (point_of front)
     pub broken_there : all_broke stage.replied (point_of front).time 0 (breaks_of run) (l.changes ++ changes_of (silent front)) ≡ true
     pub counted_there : HasCountedHits run (leg_of front)
 
   facts_at : (n : ℕ) → n ≤ length steps → Facts (take n steps)
   facts_at n le = record {
-    shown_there = λ c sees. shown old k w n le c (subst (λ (ds : List Deed). SeesBehind old excepted p.rows ds c) (first_deeds n steps) sees);
+    shown_there = λ c sees. shown old k w n le c (subst (λ (ds : List Deed). SeesAfter old excepted p.rows ds c) (first_deeds n steps) sees);
     may_there = may_be_meant old k w n le;
     broken_there = broken old k w n le;
     counted_there = counted old k w n le;
@@ -108,11 +108,11 @@ module _ (old : PlantState) (k : Work) (w : WorkBegins old k) where
   more front step rest is = append_assoc front (step ∷ []) rest ∙ is
 
   step_there : (front : List DeedOfChanges) (step : DeedOfChanges) (rest : List DeedOfChanges) → front ++ (step ∷ rest) ≡ steps → AreSteps run.level (breaks_of run) (point_of front) (step ∷ rest)
-  step_there front step rest is = steps_behind run.level (breaks_of run) p front (step ∷ rest) (subst (AreSteps run.level (breaks_of run) p) (sym is) w.logged.each)
+  step_there front step rest is = steps_after run.level (breaks_of run) p front (step ∷ rest) (subst (AreSteps run.level (breaks_of run) p) (sym is) w.logged.each)
 
-  -- the point behind it
+  -- the point after it
   point_more : (front : List DeedOfChanges) (step : DeedOfChanges) (rest : List DeedOfChanges) → front ++ (step ∷ rest) ≡ steps → point_of (front ++ step ∷ []) ≡ point_by run.level (point_of front) (with_silent line.time.0 (breaks_of run) step)
-  point_more front step rest is = behind_both run.level p front (step ∷ []) ∙ sym (same_point run.level line.time.0 (breaks_of run) (point_of front) step (step_there front step rest is).0)
+  point_more front step rest is = after_both run.level p front (step ∷ []) ∙ sym (same_point run.level line.time.0 (breaks_of run) (point_of front) step (step_there front step rest is).0)
 
   deeds_more : (front : List DeedOfChanges) (step : DeedOfChanges) → deeds_of front ++ step.deed ∷ [] ≡ deeds_of (front ++ step ∷ [])
   deeds_more front step = sym (map-append (λ (d : DeedOfChanges). d.deed) front (step ∷ []))
@@ -129,13 +129,13 @@ module _ (old : PlantState) (k : Work) (w : WorkBegins old k) where
   -- the one that is on its way tells of deeds on their way
   abbrev TellsNext : (new : PlantState) → Option (List Deed) → Option Point → Type 0
   TellsNext new None None = Unit {0}
-  TellsNext new (Some d) (Some q) = (c : Choice) → SeesBehind old excepted p.rows d c → ShowsPoint run (shape_of new) q c
+  TellsNext new (Some d) (Some q) = (c : Choice) → SeesAfter old excepted p.rows d c → ShowsPoint run (shape_of new) q c
   TellsNext new None (Some q) = ⊥
   TellsNext new (Some d) None = ⊥
 
   module _ (new : PlantState) (site : SameSite old new) where
     abbrev Sees : List Deed → Choice → Type 0
-    Sees d c = SeesBehind old excepted p.rows d c
+    Sees d c = SeesAfter old excepted p.rows d c
 
     abbrev Shows : Point → Choice → Type 0
     Shows q c = ShowsPoint run (shape_of new) q c
@@ -230,15 +230,15 @@ module _ (old : PlantState) (k : Work) (w : WorkBegins old k) where
       subst (λ (m : Leg). AreLinked (ComesNext run asked) leg_after m (points_by run.level m.point moments (silent rest))) (leg_more t front step rest is) (links moments (front ++ step ∷ []) rest (more front step rest is)),
     )
 
-    -- The point on its way comes next behind them, unless all were passed.
-    comes_behind : (moments : List ℕ) (front rest : List DeedOfChanges) → front ++ rest ≡ steps
-        → IsOnItsWay run asked (fold leg_after (leg_of front) (points_by run.level (point_of front) moments (silent rest))) (point_behind run.level (point_of front) (take (suc (length moments)) (silent rest)))
-    comes_behind [] front [] is = inl refl
-    comes_behind [] front (step ∷ rest) is = inr (OnTheWay (with_silent line.time.0 (breaks_of run) step).changes, (comes 0 front step rest is).0)
-    comes_behind (t ∷ moments) front [] is = inl refl
-    comes_behind (t ∷ moments) front (step ∷ rest) is =
-        subst (λ (m : Leg). IsOnItsWay run asked (fold leg_after m (points_by run.level m.point moments (silent rest))) (point_behind run.level m.point (take (suc (length moments)) (silent rest)))) (leg_more t front step rest is)
-        (comes_behind moments (front ++ step ∷ []) rest (more front step rest is))
+    -- The point on its way comes next after them, unless all were passed.
+    comes_after : (moments : List ℕ) (front rest : List DeedOfChanges) → front ++ rest ≡ steps
+        → IsOnItsWay run asked (fold leg_after (leg_of front) (points_by run.level (point_of front) moments (silent rest))) (point_after_deeds run.level (point_of front) (take (suc (length moments)) (silent rest)))
+    comes_after [] front [] is = inl refl
+    comes_after [] front (step ∷ rest) is = inr (OnTheWay (with_silent line.time.0 (breaks_of run) step).changes, (comes 0 front step rest is).0)
+    comes_after (t ∷ moments) front [] is = inl refl
+    comes_after (t ∷ moments) front (step ∷ rest) is =
+        subst (λ (m : Leg). IsOnItsWay run asked (fold leg_after m (points_by run.level m.point moments (silent rest))) (point_after_deeds run.level m.point (take (suc (length moments)) (silent rest)))) (leg_more t front step rest is)
+        (comes_after moments (front ++ step ∷ []) rest (more front step rest is))
 
   may_all : (moments : List ℕ) (front rest : List DeedOfChanges) → front ++ rest ≡ steps → All (λ n. MayBeMeant run stage n.point) (points_by run.level (point_of front) moments (silent rest))
   may_all [] front rest is = All-nil (λ (n : PassedPoint). MayBeMeant run stage n.point)
@@ -260,9 +260,9 @@ module _ (old : PlantState) (k : Work) (w : WorkBegins old k) where
   links_all : (asked : ℕ → Option Line) → IsAtWork run asked l → (moments : List ℕ) → AreLinked (ComesNext run asked) leg_after l (points_by run.level p moments (silent steps))
   links_all asked work moments = subst (λ (m : Leg). AreLinked (ComesNext run asked) leg_after m (points_by run.level p moments (silent steps))) start_leg (links asked work moments [] steps refl)
 
-  comes_all : (asked : ℕ → Option Line) → IsAtWork run asked l → (moments : List ℕ) → IsOnItsWay run asked (fold leg_after l (points_by run.level p moments (silent steps))) (point_behind run.level p (take (suc (length moments)) (silent steps)))
+  comes_all : (asked : ℕ → Option Line) → IsAtWork run asked l → (moments : List ℕ) → IsOnItsWay run asked (fold leg_after l (points_by run.level p moments (silent steps))) (point_after_deeds run.level p (take (suc (length moments)) (silent steps)))
   comes_all asked work moments =
-      subst (λ (m : Leg). IsOnItsWay run asked (fold leg_after m (points_by run.level p moments (silent steps))) (point_behind run.level p (take (suc (length moments)) (silent steps)))) start_leg (comes_behind asked work moments [] steps refl)
+      subst (λ (m : Leg). IsOnItsWay run asked (fold leg_after m (points_by run.level p moments (silent steps))) (point_after_deeds run.level p (take (suc (length moments)) (silent steps)))) start_leg (comes_after asked work moments [] steps refl)
 
   -- the point of the first deeds, with the changes that are named
   first_named : (n : ℕ) → point_of (take n steps) ≡ point_of (take n (silent steps))
@@ -273,20 +273,20 @@ module _ (old : PlantState) (k : Work) (w : WorkBegins old k) where
   next_tells : (new : PlantState) → SameSite old new → (n : ℕ) → TellsNext new (Some (take n (deeds_of steps))) (Some (point_of (take n (silent steps))))
   next_tells new site n c sees =
       subst (λ (q : Point). ShowsPoint run (shape_of new) q c) (first_named n)
-      (tell new site (take n steps) (drop n steps) (take-append-drop n steps) c (subst (λ (ds : List Deed). SeesBehind old excepted p.rows ds c) (sym (first_deeds n steps)) sees))
+      (tell new site (take n steps) (drop n steps) (take-append-drop n steps) c (subst (λ (ds : List Deed). SeesAfter old excepted p.rows ds c) (sym (first_deeds n steps)) sees))
 
   -- A choice that shows so many deeds shows the last of their points.
-  shows_first : (new : PlantState) → SameSite old new → (moments : List ℕ) → (c : Choice) → SeesBehind old excepted p.rows (take (length moments) (deeds_of steps)) c → ShowsPoint run (shape_of new) (last_point p (points_by run.level p moments (silent steps))) c
+  shows_first : (new : PlantState) → SameSite old new → (moments : List ℕ) → (c : Choice) → SeesAfter old excepted p.rows (take (length moments) (deeds_of steps)) c → ShowsPoint run (shape_of new) (last_point p (points_by run.level p moments (silent steps))) c
   shows_first new site moments c sees = subst (λ (q : Point). ShowsPoint run (shape_of new) q c) (sym (last_by run.level p moments (silent steps))) (next_tells new site (length moments) c sees)
 
-  shows_last : (new : PlantState) → SameSite old new → (moments : List ℕ) → (c : Choice) → SeesBehind old excepted p.rows (take (length moments) (deeds_of steps)) c ⊎ SeesBehind old excepted p.rows (with_next (length moments) (deeds_of steps)) c
+  shows_last : (new : PlantState) → SameSite old new → (moments : List ℕ) → (c : Choice) → SeesAfter old excepted p.rows (take (length moments) (deeds_of steps)) c ⊎ SeesAfter old excepted p.rows (with_next (length moments) (deeds_of steps)) c
       → ShowsLast run new (last_point p (points_by run.level p moments (silent steps))) (Some (point_of (take (suc (length moments)) (silent steps)))) c
   shows_last new site moments c (inl sees) = inl (shows_first new site moments c sees)
   shows_last new site moments c (inr sees) = inr (next_tells new site (suc (length moments)) c sees)
 
-  shows_all : (new : PlantState) → SameSite old new → (moments : List ℕ) → length moments ≡ length (deeds_of steps) → (c : Choice) → SeesBehind old excepted p.rows (deeds_of steps) c → ShowsPoint run (shape_of new) (last_point p (points_by run.level p moments (silent steps))) c
+  shows_all : (new : PlantState) → SameSite old new → (moments : List ℕ) → length moments ≡ length (deeds_of steps) → (c : Choice) → SeesAfter old excepted p.rows (deeds_of steps) c → ShowsPoint run (shape_of new) (last_point p (points_by run.level p moments (silent steps))) c
   shows_all new site moments each c sees =
-      shows_first new site moments c (subst (λ (ds : List Deed). SeesBehind old excepted p.rows ds c) (sym (take_all (length moments) (deeds_of steps) (omega (arith, each)))) sees)
+      shows_first new site moments c (subst (λ (ds : List Deed). SeesAfter old excepted p.rows ds c) (sym (take_all (length moments) (deeds_of steps) (omega (arith, each)))) sees)
 
   next_may : (n : ℕ) → MayBeMeant run stage (point_of (take n (silent steps)))
   next_may n = subst (MayBeMeant run stage) (first_named n) (facts (take n steps) (drop n steps) (take-append-drop n steps)).may_there
@@ -295,7 +295,7 @@ pub begun_deeds_bear : (old new : PlantState) → BegunDeedsBear old new
 begun_deeds_bear old new k w up begins t from to c has =
     let seen = first_seen old new k.excepted k.leg.point.rows (deeds_of k.steps) up begins t from to c has in
     let within : seen.0 ≤ length k.steps = (let few = seen.1 in omega (arith, few, count_deeds k.steps)) in
-    let time = time_meant_behind (take seen.0 (deeds_of k.steps)) k.leg.point.time in (
+    let time = time_meant_after (take seen.0 (deeds_of k.steps)) k.leg.point.time in (
       time,
       subst (λ (shape : Shape). Bears k.run k.stage shape c time) (sym (shape_same old new begins.site)) (bears old k w seen.0 within c seen.2),
     )

@@ -16,16 +16,16 @@ use Rattle.row_changes.specs.Changes.RowChange.{Hit, Mature, Reached}
 use Rattle.record_rows.specs.Deeds.Deed.{Logged}
 use Rattle.record_rows.specs.GroupRows.{are_breaks_at_cut, breaking, group_changes, matured_with_group, maturing, maturing_of}
 use Rattle.record_rows.specs.Hits.{hit_changes, hit_now, reached_changes, told_changes}
-use Rattle.record_rows.specs.Records.{changes_behind_mark, record_changes, rows_behind_mark, rows_with_record}
+use Rattle.record_rows.specs.Records.{changes_after_mark, record_changes, rows_after_mark, rows_with_record}
 use Rattle.record_rows.specs.ToldRows.{due_after_changes}
-use Rattle.record_rows.proofs.Coming.{behind_marks_are_changes, behind_marks_may_come, records_are_changes, records_may_come}
+use Rattle.record_rows.proofs.Coming.{after_marks_are_changes, after_marks_may_come, records_are_changes, records_may_come}
 use Rattle.record_rows.proofs.Devices.{apart_of}
 use Rattle.consistency.specs.Stages.{ScriptRun, breaks_of}
 use Rattle.fed_logs.proofs.ShownBreaks.{groups_break_at_cuts}
 use Rattle.consistency.specs.Leads.{Comes, Point}
 use Rattle.consistency.specs.Ways.{are_at_time}
 use Rattle.mover.specs.Points.{IsStep}
-use Rattle.mover.specs.Records.{IsGroupOfLog, RecordsAreSteps, BehindMarksAreSteps}
+use Rattle.mover.specs.Records.{IsGroupOfLog, RecordsAreSteps, AfterMarksAreSteps}
 
 -- ---- changes that may all come
 
@@ -110,12 +110,12 @@ records_are_steps run p group failed is apart none =
     (subst (λ (d : Due). may_all_come run.level breaks false d p.time group.cut.0 p.rows (record_changes group failed p.rows) ≡ true) (sym none) (records_may_come run.level breaks group failed p.time p.rows devices are is.up))
     (all_both group.cut.0 (group_changes group p.rows) (hit_changes group.cut.0 (hit_now failed p.rows)) (group_now group p.rows) (hits_now group.cut.0 (hit_now failed p.rows)))
 
-pub behind_marks_are_steps : BehindMarksAreSteps
-behind_marks_are_steps run p marked time group failed is apart due =
+pub after_marks_are_steps : AfterMarksAreSteps
+after_marks_are_steps run p marked time group failed is apart due =
     let breaks = breaks_of run in
     let are = at_cut run p group is in
     let devices = apart_of p.rows apart in
-    let changes = changes_behind_mark run.level marked group failed p.rows in
-    record_is_step run.level breaks p group.cut.0 group.entries (rows_behind_mark run.level marked group failed p.rows) changes is.up (behind_marks_are_changes run.level breaks marked group failed p.rows devices are)
-    (subst (λ (d : Due). may_all_come run.level breaks false d p.time group.cut.0 p.rows changes ≡ true) (sym due) (behind_marks_may_come run.level breaks marked group failed time p.time p.rows devices are is.up))
+    let changes = changes_after_mark run.level marked group failed p.rows in
+    record_is_step run.level breaks p group.cut.0 group.entries (rows_after_mark run.level marked group failed p.rows) changes is.up (after_marks_are_changes run.level breaks marked group failed p.rows devices are)
+    (subst (λ (d : Due). may_all_come run.level breaks false d p.time group.cut.0 p.rows changes ≡ true) (sym due) (after_marks_may_come run.level breaks marked group failed time p.time p.rows devices are is.up))
     (all_both group.cut.0 (group_changes group p.rows) (told_changes run.level group.cut.0 marked (hit_now failed p.rows)) (group_now group p.rows) (told_now group.cut.0 run.level marked (hit_now failed p.rows)))

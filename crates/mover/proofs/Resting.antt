@@ -1,4 +1,4 @@
--- A site comes to rest behind its last group: it is applied, failures are told, and a mark is made.
+-- A site comes to rest after its last group: it is applied, failures are told, and a mark is made.
 use Rattle.std.proofs.Common.{◌≡◌, ℕ, Bool, true, false, [], Result, Ok, ap, subst, ◌∙◌, OnOk}
 use Rattle.std.specs.Prelude.{IsErrOf}
 use Rattle.crash_plant.specs.Moments.{PlantState}
@@ -47,8 +47,8 @@ module _ (tells : Type 0) {P : Type 0} (state : P → PlantState) (site mid : Si
   apart_mid = ap none_clash told_is ∙ apart
 
   -- Failures may be told.
-  pub may_tell : MayRecord tells mid (state then)
-  may_tell = record { fast = fast_then tells (excepted_by_apply site) site mid (state first) (state then) fast leaves; level = level_mid; idle = idle_mid }
+  pub may_report : MayRecord tells mid (state then)
+  may_report = record { fast = fast_then tells (excepted_by_apply site) site mid (state first) (state then) fast leaves; level = level_mid; idle = idle_mid }
 
   applied : SiteMoved tells site mid (state first) (state then) (Ok tt)
   applied = apply_moved tells site mid (state first) (state then) fast.fits ok leaves works moments
@@ -71,15 +71,15 @@ module _ (tells : Type 0) {P : Type 0} (state : P → PlantState) (site mid : Si
     pub told_by_record : RestsBy tells site next (state first) (state last) result
     told_by_record = record {
       moved = site_then tells site mid next (state first) (state then) (state last) result applied (suspend_moved tells state mid next then last result apart_mid idle_mid level_mid says_now leaves_next moments_now works_next fails);
-      works = works_then tells site mid next (state first) (state then) (state last) result applied_works (suspend_works tells state mid next then last result apart_mid idle_mid level_mid says_now leaves_next moments_now works_next fails cause stay may_tell.fast uncalled);
+      works = works_then tells site mid next (state first) (state then) (state last) result applied_works (suspend_works tells state mid next then last result apart_mid idle_mid level_mid says_now leaves_next moments_now works_next fails cause stay may_report.fast uncalled);
       rests = on_both result (λ (t : Tells mid next) (l : Leaves tells (λ e. e) mid next (state then) (state last)). record {
-        may = record { fast = fast_then tells (λ e. e) mid next (state then) (state last) may_tell.fast l; level = t.level_is; idle = t.idle };
+        may = record { fast = fast_then tells (λ e. e) mid next (state then) (state last) may_report.fast l; level = t.level_is; idle = t.idle };
         told = none_untold_then mid next apart_mid t;
         apart = ap none_clash t.rows ∙ told_apart mid next.failed apart_mid;
       }) tells_next leaves_next;
     }
 
--- A mark behind that.
+-- A mark after that.
 module _ (tells : Type 0) {P : Type 0} (state : P → PlantState) (site mid next : SiteState) (first then last : P) (by : RestsBy tells site mid (state first) (state then) (Ok tt)) (ended : Bool) (goes_on : ended ≡ false) (result : Result (Unit {0}) StoreError) (ok : Marks mid next ended then last result)
     (leaves : OnOk result (Leaves tells (λ e. none_excepted) mid next (state then) (state last))) (moments : DoesMark tells mid next ended (state then) (state last) result) (works : WorksOnLent tells (IsOfMark mid) (state then) (state last)) (cause : HasStoreCause (state then).faults (state last).faults result)
     (fails : FailByCounts mid.failed next.failed (state then).faults (state last).faults) where

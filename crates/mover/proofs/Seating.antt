@@ -17,7 +17,7 @@ use Rattle.mover.specs.Rounds.{AllRead, AreLanesOf, AreNewSeats, HasReached, IsD
 use Rattle.site_store.specs.Sites.{SiteState}
 use Rattle.mover.proofs.LanesOn.{DidRead}
 
--- the seat of a control at the start
+-- the seat of a controller at the start
 pub seat_new : (at : TurnState) (n k : ℕ) → k < n → seat_at (new_readers at.table at.first n) k ≡ Some (new_reader at.table at.first k)
 seat_new at n k low = get_or-map-range_with_len (λ (j : ℕ). Some (new_reader at.table at.first j)) 0 n k k None low (omega arith)
 
@@ -31,7 +31,7 @@ module _ (at : TurnState) (limit k : ℕ) where
   abbrev without_seat : LaneReaderState → LaneReaderState
   without_seat r = record r { seat = None }
 
-  -- A reader that took its control's seat may read.
+  -- A reader that took its controller's seat may read.
   may_begin : (r : LaneReaderState) → IsReaderOf at.first k limit r → MayRead at limit (seated r)
   may_begin r is = (
     record {
@@ -39,7 +39,7 @@ module _ (at : TurnState) (limit k : ℕ) where
       has = refl;
       tells_for = record {
         sits = record { here = refl; begun = refl; sized = is.sized };
-        told = record { control = sym is.control; volumes = refl; floor = is.floor; telling = is.telling };
+        told = record { control = sym is.control; volumes = refl; floor = is.floor; reporting = is.reporting };
       };
       within = is.within;
       stands = is.goes;

@@ -33,11 +33,11 @@ use Rattle.record_rows.proofs.Devices.{apart_of}
 use Rattle.record_rows.proofs.HitRows.{hits_are_changes, hits_row, reach_row, told_row, told_rows as rows_are_told}
 use Rattle.record_rows.proofs.Telling.{hits_tell, none_hit_again}
 use Rattle.site_store.specs.DoneDeeds.{BeginsDeeds, DoesDeeds}
-use Rattle.site_store.specs.Exceptions.{Exceptions, excepted_behind, is_kept, is_whole_on}
+use Rattle.site_store.specs.Exceptions.{Exceptions, excepted_after, is_kept, is_whole_on}
 use Rattle.site_store.proofs.Moments.{have_begun}
 use Rattle.site_store.proofs.Single.{no_call}
 use Rattle.site_store.proofs.Widening.{begins_still, does_still}
-use Rattle.fed_logs.specs.Moves.{AreFewer, AreQuiet, is_mark_due_behind}
+use Rattle.fed_logs.specs.Moves.{AreFewer, AreQuiet, is_mark_due_after}
 use Rattle.site_store.specs.declared.store_error.StoreError.{StoreError}
 use Rattle.site_store.specs.declared.store_error.StoreError.TheVariants.{Spent}
 use Rattle.site_store.specs.Applying.{Applies, AppliesToVolume, DoesApply, excepted_by_apply, is_applied}
@@ -45,7 +45,7 @@ use Rattle.site_store.specs.Causes.{FailByCounts, HasStoreCause}
 use Rattle.site_store.specs.Changing.{DoesSuspend, Suspends, suspension_deeds, suspension_deeds_of, with_suspensions}
 use Rattle.site_store.specs.Jobs.{has_device}
 use Rattle.site_store.specs.Marking.{DoesMark, Marks, MayMark, excepted_with_waiting, rows_at_mark}
-use Rattle.site_store.specs.Records.{IsOfMark, IsOfRecord, IsStore, VolumesStay, behind_mark}
+use Rattle.site_store.specs.Records.{IsOfMark, IsOfRecord, IsStore, VolumesStay, after_mark}
 use Rattle.site_store.specs.Sites.{SiteState, has_failed, is_written}
 use Rattle.site_store.specs.Standing.{FitsPlant, Leaves, SiteStands, StandsFast, none_excepted}
 use Rattle.site_store.specs.Waiting.{IsOfWaiting}
@@ -113,7 +113,7 @@ worked_waiting site v is = by (is_device_of_row v site.told) (is_written site v)
     by false true c e = refl
     by false false c e = e
 
--- The mover works on the volumes of a site behind calls that it worked on before, if it works on their parts.
+-- The mover works on the volumes of a site after calls that it worked on before, if it works on their parts.
 pub works_less : (site next : SiteState) → KeepPairs site.told next.told → ((v : ℕ) → is_written next v ≡ true → is_worked_on site v ≡ true) → ((v : ℕ) → has_device v next.waiting ≡ true → is_worked_on site v ≡ true) → (v : ℕ) → is_worked_on next v ≡ true → is_worked_on site v ≡ true
 works_less site next still written waiting v is = by (is_device_of_row v next.told) refl (is_written next v) refl (has_device v next.waiting) refl is
   where
@@ -166,7 +166,7 @@ module _ (tells : Type 0) (site next : SiteState) (old new : PlantState) (fits :
         omega (arith, rise, is);
     quiet = (site.told, refl);
     all = record { suspends = told_is; time = ap (λ (s : SiteState). s.time) applies.next_is; still = subst (λ (rows : List PairRow). KeepPairs site.told rows) (sym told_is) (still_self site.told) };
-    behind = record {
+    is_left = record {
       level = ap (λ (s : SiteState). s.level) applies.next_is;
       controls = ap (λ (s : SiteState). s.controls) applies.next_is;
       table = in_rows_alone site.table next.table site.table.rows (ap (λ (s : SiteState). s.table) applies.next_is);
@@ -282,7 +282,7 @@ in_time : (time : ℕ) (hit : List ℕ) → All (λ (t : Timed). (time ≤ t.tim
 in_time time [] = All-nil (λ (t : Timed). (time ≤ t.time) × (t.time ≤ time))
 in_time time (d ∷ hit) = All-cons (λ (t : Timed). (time ≤ t.time) × (t.time ≤ time)) _ [] (omega arith, omega arith) (All-nil (λ (t : Timed). (time ≤ t.time) × (t.time ≤ time)))
 
--- the rows behind a record or a mark that tells failures at the site's time
+-- the rows after a record or a mark that tells failures at the site's time
 abbrev pub told_rows : (site : SiteState) → (failed : List Bool) → List PairRow
 told_rows site failed = rows_with_hits site.level site.time failed site.told
 
@@ -314,7 +314,7 @@ told_apart site failed apart = apart_still site.told (told_rows site failed) (to
 pub none_untold_then : (site next : SiteState) → none_clash site.told ≡ true → Tells site next → hit_now next.failed next.told ≡ []
 none_untold_then site next apart t = ap (hit_now next.failed) t.rows ∙ none_hit_again next.failed site.time site.told (told_rows site next.failed) (hits_tell site.level site.time next.failed site.told (apart_of site.told apart))
 
--- Every crash leaves the site behind the call, with no more tracks excepted than before.
+-- Every crash leaves the site after the call, with no more tracks excepted than before.
 abbrev pub StandsFewer : (site next : SiteState) → (old new : PlantState) → Type 0
 StandsFewer site next old new = (e : Exceptions) → SiteStands e site old → (now : Exceptions) × SiteStands now next new × ((d x : ℕ) → e d x ≡ false → now d x ≡ false)
 
@@ -335,7 +335,7 @@ module _ (tells : Type 0) (site next : SiteState) (old new : PlantState) (result
 
   pub tell_moved : (deed : Deed) → rows_by_deed deed ≡ next_rows → time_by_deed site.time deed ≡ site.time → entries_by_deed deed ≡ [] → AreQuiet site.time site.told (deed ∷ []) next_rows
       → (site.mark.ended ≡ false → (answers : List Answer) → AreMade site.level false answers site.time site.told NoneDue (record { deed = deed; changes = changes } ∷ []) NoneDue) → OnOk result (Tells site next)
-      → OnOk result (is_mark_due next ≡ is_mark_due_behind (is_mark_due site) (deed ∷ [])) → (tells → (e : Exceptions) → SiteStands e site old → BeginsDeeds e site.told (deed ∷ []) old new) → (tells → OnOk result ((e : Exceptions) → SiteStands e site old → DoesDeeds e site.told (deed ∷ []) old new)) → SiteMoved tells site next old new result
+      → OnOk result (is_mark_due next ≡ is_mark_due_after (is_mark_due site) (deed ∷ [])) → (tells → (e : Exceptions) → SiteStands e site old → BeginsDeeds e site.told (deed ∷ []) old new) → (tells → OnOk result ((e : Exceptions) → SiteStands e site old → DoesDeeds e site.told (deed ∷ []) old new)) → SiteMoved tells site next old new result
   tell_moved deed rows_are time_is none quiet made tell due begins does = record {
     steps = record { deed = deed; changes = changes } ∷ [];
     changes = (
@@ -353,7 +353,7 @@ module _ (tells : Type 0) (site next : SiteState) (old new : PlantState) (result
     counted_all = on_ok result (λ (t : Tells site next). λ d low. counts (untold_hits next d) d (ap (λ (hit : List ℕ). once (is_among d hit)) (none_untold_then site next apart t)) low) tell;
     quiet = (next_rows, quiet);
     all = on_ok result (λ (t : Tells site next). record { suspends = subst (λ (l : List PairRow). AreQuiet site.time site.told (deed ∷ []) l) (sym t.rows) quiet; time = t.time; still = subst (λ (l : List PairRow). KeepPairs site.told l) (sym t.rows) (told_still site next.failed) }) tell;
-    behind = on_ok result (λ (t : Tells site next). record { level = t.level; controls = t.controls; table = t.table; rows = t.rows ∙ sym rows_are; time = t.time ∙ sym time_is }) tell;
+    is_left = on_ok result (λ (t : Tells site next). record { level = t.level; controls = t.controls; table = t.table; rows = t.rows ∙ sym rows_are; time = t.time ∙ sym time_is }) tell;
     due = due;
     begins = λ told e stands. begins_still old new e (excepted_by_apply site e) site.told (same e) (deed ∷ []) (begins told e stands);
     did = λ told. on_both result (λ (d : (e : Exceptions) → SiteStands e site old → DoesDeeds e site.told (deed ∷ []) old new) (l : StandsFewer site next old new).
@@ -368,7 +368,7 @@ module _ (tells : Type 0) (site next : SiteState) (old new : PlantState) (result
       same : (e : Exceptions) (d x : ℕ) → excepted_by_apply site e d x ≡ false → e d x ≡ false
       same e d x is = sym (none_waits site e d x idle) ∙ is
 
-      before : (e : Exceptions) (d x : ℕ) → excepted_behind site.told (deed ∷ []) e d x ≡ false → e d x ≡ false
+      before : (e : Exceptions) (d x : ℕ) → excepted_after site.told (deed ∷ []) e d x ≡ false → e d x ≡ false
       before e d x is = by (is_kept d (rows_by_deed deed)) (e d x) (sym (ap (λ (l : List WaitingEntry). not (is_kept d (rows_by_deed deed)) || (e d x && not (list_any (is_whole_on site.told d x) l))) none) ∙ is)
         where
           by : (a b : Bool) → (not a || (b && true)) ≡ false → b ≡ false
@@ -389,7 +389,7 @@ nothing_moved tells site plant value = record {
   counted_all = λ d low. omega arith;
   quiet = (site.told, refl);
   all = record { suspends = refl; time = refl; still = still_self site.told };
-  behind = record { level = refl; controls = refl; table = refl; rows = refl; time = refl };
+  is_left = record { level = refl; controls = refl; table = refl; rows = refl; time = refl };
   due = refl;
   begins = λ told e stands. have_begun plant plant (excepted_by_apply site e) site.told [] (no_call plant (excepted_by_apply site e) site.told);
   did = λ told e stands. record { does = no_call plant (excepted_by_apply site e) site.told; still = e; stands = stands; fewer = λ d x is. is };
@@ -492,20 +492,20 @@ module _ (tells : Type 0) {P : Type 0} (state : P → PlantState) (site next : S
       Do : List Deed → Type 0
       Do deeds = tells → OnOk result ((e : Exceptions) → SiteStands e site (state was) → DoesDeeds e site.told deeds (state was) (state is))
 
-      Behind : RecordPlacement → SiteState
-      Behind placement = with_suspensions (state was).journals placement site.time moments.items next.failed site
+      After : RecordPlacement → SiteState
+      After placement = with_suspensions (state was).journals placement site.time moments.items next.failed site
 
       Goes : RecordPlacement → Type 0
-      Goes placement = OnOk result (next ≡ Behind placement) → Begin (suspension_deeds placement site site.time next.failed) → Do (suspension_deeds placement site site.time next.failed) → SiteMoved tells site next (state was) (state is) result
+      Goes placement = OnOk result (next ≡ After placement) → Begin (suspension_deeds placement site site.time next.failed) → Do (suspension_deeds placement site site.time next.failed) → SiteMoved tells site next (state was) (state is) result
 
       by_record : hit_now site.failed site.told ≢ [] → OnOk result (is_mark_due next ≡ is_mark_due site) → Begin (Changed site.time (told_rows site next.failed) ∷ []) → Do (Changed site.time (told_rows site next.failed) ∷ []) → SiteMoved tells site next (state was) (state is) result
       by_record there due begins does = tell_moved tells site next (state was) (state is) result apart idle fails later fewer_stand (Changed site.time (told_rows site next.failed)) refl refl refl (refl, told_fewer site next.failed, refl) (λ going answers. hits_made site.level answers site.time site.told next.failed (still_hit site.failed next.failed (state was).faults (state is).faults site.told fails there)) suspend_tells due begins does
 
-      same_due : (placement : RecordPlacement) → is_mark_due (Behind placement) ≡ is_mark_due site → OnOk result (next ≡ Behind placement) → OnOk result (is_mark_due next ≡ is_mark_due site)
-      same_due placement same left = on_ok result (λ (e : next ≡ Behind placement). ap is_mark_due e ∙ same) left
+      same_due : (placement : RecordPlacement) → is_mark_due (After placement) ≡ is_mark_due site → OnOk result (next ≡ After placement) → OnOk result (is_mark_due next ≡ is_mark_due site)
+      same_due placement same left = on_ok result (λ (e : next ≡ After placement). ap is_mark_due e ∙ same) left
 
-      by_mark : OnOk result (next ≡ Behind placement_marked) → Begin (Marked site.at site.mark.ended (told_rows site next.failed) ∷ []) → Do (Marked site.at site.mark.ended (told_rows site next.failed) ∷ []) → SiteMoved tells site next (state was) (state is) result
-      by_mark left begins does = tell_moved tells site next (state was) (state is) result apart idle fails later fewer_stand (Marked site.at site.mark.ended (told_rows site next.failed)) refl refl refl (told_fewer site next.failed, refl) (λ going answers. mark_made site.level answers site.at site.mark.ended going site.time site.told next.failed) suspend_tells (on_ok result (λ (e : next ≡ Behind placement_marked). ap is_mark_due e) left) begins does
+      by_mark : OnOk result (next ≡ After placement_marked) → Begin (Marked site.at site.mark.ended (told_rows site next.failed) ∷ []) → Do (Marked site.at site.mark.ended (told_rows site next.failed) ∷ []) → SiteMoved tells site next (state was) (state is) result
+      by_mark left begins does = tell_moved tells site next (state was) (state is) result apart idle fails later fewer_stand (Marked site.at site.mark.ended (told_rows site next.failed)) refl refl refl (told_fewer site next.failed, refl) (λ going answers. mark_made site.level answers site.at site.mark.ended going site.time site.told next.failed) suspend_tells (on_ok result (λ (e : next ≡ After placement_marked). ap is_mark_due e) left) begins does
 
       some_deeds : hit_now site.failed site.told ≢ [] → suspension_deeds_of moments.placement site site.time next.failed ≡ suspension_deeds moments.placement site site.time next.failed
       some_deeds some = by_hit (hit_now site.failed site.told) some
@@ -546,7 +546,7 @@ module _ (tells : Type 0) {P : Type 0} (state : P → PlantState) (site next : S
     (ok : Marks site next ended was is result) (leaves : OnOk result (Leaves tells (λ e. none_excepted) site next (state was) (state is))) (moments : DoesMark tells site next ended (state was) (state is) result)
     (works : WorksOnLent tells (IsOfMark site) (state was) (state is)) (fails : FailByCounts site.failed next.failed (state was).faults (state is).faults) where
   pub mark_tells : OnOk result (Tells site next)
-  mark_tells = on_ok result (λ (e : next ≡ behind_mark ended (rows_at_mark site.level site next.failed) next.failed site). record {
+  mark_tells = on_ok result (λ (e : next ≡ after_mark ended (rows_at_mark site.level site next.failed) next.failed site). record {
     level = ap (λ (s : SiteState). s.level) e;
     controls = ap (λ (s : SiteState). s.controls) e;
     table = in_rows_alone site.table next.table (told_rows site next.failed) (ap (λ (s : SiteState). s.table) e);
@@ -568,7 +568,7 @@ module _ (tells : Type 0) {P : Type 0} (state : P → PlantState) (site next : S
       deed = Marked site.at ended (told_rows site next.failed)
 
       mark_due : OnOk result (is_mark_due next ≡ false)
-      mark_due = on_ok result (λ (e : next ≡ behind_mark ended (rows_at_mark site.level site next.failed) next.failed site). ap is_mark_due e) ok.next_is
+      mark_due = on_ok result (λ (e : next ≡ after_mark ended (rows_at_mark site.level site next.failed) next.failed site). ap is_mark_due e) ok.next_is
 
       waits : (e : Exceptions) → excepted_with_waiting site e ≡ e
       waits e = no_more_waits site e idle

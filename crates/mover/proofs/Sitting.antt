@@ -26,34 +26,34 @@ use Rattle.group_state.specs.Machine.{Call, Reply}
 use Rattle.group_state.specs.Machine.Call.{Join, NextWanted}
 use Rattle.group_state.specs.Machine.Reply.{Wanted}
 use Rattle.group_state.specs.Runs.{Answer}
-use Rattle.fed_logs.specs.Tellers.{TellerState, teller_after}
+use Rattle.fed_logs.specs.Reporters.{ReporterState, reporter_after}
 use Rattle.turn.specs.Turn.{ticketed}
 use Rattle.turn_group.specs.Calls.{MadeCall, as_answer}
 use Rattle.turn_group.specs.Seats.{ReaderSeatState, ReaderCalled, reader_after, TurnState, SeatMayJoin, SeatMayCopy, is_track_of_control}
-use Rattle.mover.specs.Readers.{SitsAt, teller_of, is_of_header}
+use Rattle.mover.specs.Readers.{SitsAt, reporter_of, is_of_header}
 
-pub answers_behind : (t : ℕ) (call : Call) (reply : Reply) (calls : List MadeCall) → map as_answer (calls ++ ticketed t call reply ∷ []) ≡ map as_answer calls ++ record { call = call; reply = reply } ∷ []
-answers_behind t call reply [] = refl
-answers_behind t call reply (c ∷ calls) = ap (λ (more : List Answer). as_answer c ∷ more) (answers_behind t call reply calls)
+pub answers_after : (t : ℕ) (call : Call) (reply : Reply) (calls : List MadeCall) → map as_answer (calls ++ ticketed t call reply ∷ []) ≡ map as_answer calls ++ record { call = call; reply = reply } ∷ []
+answers_after t call reply [] = refl
+answers_after t call reply (c ∷ calls) = ap (λ (more : List Answer). as_answer c ∷ more) (answers_after t call reply calls)
 
 module _ (heads : List VolumeHead) (old : ReaderSeatState) where
-  -- a teller behind a call, with these answers
-  abbrev with_answers : TellerState → List Answer → TellerState
+  -- a reporter after a call, with these answers
+  abbrev with_answers : ReporterState → List Answer → ReporterState
   with_answers s answers = record s { answers = answers }
 
-  run_is : (t : ℕ) (batch : Batch) (joined : running.RunJoin) → teller_of heads (reader_after t (Join batch) (run_reply joined) old) ≡ teller_after (Join batch) (run_reply joined) (teller_of heads old)
-  run_is t batch runnings.Joined = ap (with_answers (teller_of heads (record old { floor = batch.upto }))) (answers_behind t (Join batch) (run_reply runnings.Joined) old.calls)
-  run_is t batch (runnings.Held room) = ap (with_answers (teller_of heads old)) (answers_behind t (Join batch) (run_reply (runnings.Held room)) old.calls)
+  run_is : (t : ℕ) (batch : Batch) (joined : running.RunJoin) → reporter_of heads (reader_after t (Join batch) (run_reply joined) old) ≡ reporter_after (Join batch) (run_reply joined) (reporter_of heads old)
+  run_is t batch runnings.Joined = ap (with_answers (reporter_of heads (record old { floor = batch.upto }))) (answers_after t (Join batch) (run_reply runnings.Joined) old.calls)
+  run_is t batch (runnings.Held room) = ap (with_answers (reporter_of heads old)) (answers_after t (Join batch) (run_reply (runnings.Held room)) old.calls)
 
-  wanted_is : (t : ℕ) (found : Option (ℕ × ℕ)) → teller_of heads (reader_after t (NextWanted old.control) (Wanted found) old) ≡ teller_after (NextWanted old.control) (Wanted found) (teller_of heads old)
-  wanted_is t found = ap (with_answers (teller_of heads old)) (answers_behind t (NextWanted old.control) (Wanted found) old.calls)
+  wanted_is : (t : ℕ) (found : Option (ℕ × ℕ)) → reporter_of heads (reader_after t (NextWanted old.control) (Wanted found) old) ≡ reporter_after (NextWanted old.control) (Wanted found) (reporter_of heads old)
+  wanted_is t found = ap (with_answers (reporter_of heads old)) (answers_after t (NextWanted old.control) (Wanted found) old.calls)
 
   module _ (new : ReaderSeatState) where
-    pub wanted : (found : Option (ℕ × ℕ)) → ReaderCalled old (NextWanted old.control) (Wanted found) new → teller_of heads new ≡ teller_after (NextWanted old.control) (Wanted found) (teller_of heads old)
-    wanted found called = ap (teller_of heads) called.after ∙ wanted_is called.ticket found
+    pub wanted : (found : Option (ℕ × ℕ)) → ReaderCalled old (NextWanted old.control) (Wanted found) new → reporter_of heads new ≡ reporter_after (NextWanted old.control) (Wanted found) (reporter_of heads old)
+    wanted found called = ap (reporter_of heads) called.after ∙ wanted_is called.ticket found
 
-    pub ran : (batch : Batch) (joined : running.RunJoin) → ReaderCalled old (Join batch) (run_reply joined) new → teller_of heads new ≡ teller_after (Join batch) (run_reply joined) (teller_of heads old)
-    ran batch joined called = ap (teller_of heads) called.after ∙ run_is called.ticket batch joined
+    pub ran : (batch : Batch) (joined : running.RunJoin) → ReaderCalled old (Join batch) (run_reply joined) new → reporter_of heads new ≡ reporter_after (Join batch) (run_reply joined) (reporter_of heads old)
+    ran batch joined called = ap (reporter_of heads) called.after ∙ run_is called.ticket batch joined
 
 -- ---- a run may be joined
 
@@ -125,11 +125,11 @@ in_order stamp [] are = refl
 in_order stamp (w ∷ writes) are = and_from (list_all (λ (b : Write). not (is_earlier b w)) writes) (is_in_order is_earlier writes) (none_earlier stamp w writes (all_head (IsStamped stamp) w writes are) (all_tail (IsStamped stamp) w writes are))
     (in_order stamp writes (all_tail (IsStamped stamp) w writes are))
 
-pub may_join : (at : TurnState) (heads : List VolumeHead) (seat : ReaderSeatState) (batch : Batch) → SitsAt at heads seat → IsTrue seat.telling → IsRunOf heads seat.control seat.floor.0 batch.upto.0 batch → SeatMayJoin seat batch
-may_join at heads seat batch sits telling run = record {
+pub may_join : (at : TurnState) (heads : List VolumeHead) (seat : ReaderSeatState) (batch : Batch) → SitsAt at heads seat → IsTrue seat.reporting → IsRunOf heads seat.control seat.floor.0 batch.upto.0 batch → SeatMayJoin seat batch
+may_join at heads seat batch sits reporting run = record {
   control = run.from;
   rules = all_keep heads batch.writes run.kept;
-  tells = record { telling = telling; up = omega (arith, run.above, run.there) };
+  tells = record { reporting = reporting; up = omega (arith, run.above, run.there) };
   within = all_in seat.floor.0 batch.upto.0 run.stamp batch.writes run.above run.there run.stamps;
   order = in_order run.stamp batch.writes run.stamps;
   tracks = subst (λ (g : Group). are_within (control_at g seat.control).volumes batch.writes ≡ true) (sym sits.begun) (all_within heads (control_at at.first seat.control).volumes batch.writes sits.sized run.kept);
@@ -140,9 +140,9 @@ may_join at heads seat batch sits telling run = record {
 stamp_is : (a b : Stamp) → a.0 ≡ b.0 → a ≡ b
 stamp_is a b same = ap (λ (n : ℕ). let s : Stamp = record { 0 = n } in s) same
 
-pub may_copy : (at : TurnState) (heads : List VolumeHead) (seat : ReaderSeatState) (v x : ℕ) (when : Stamp) → SitsAt at heads seat → IsTrue seat.telling → when.0 ≡ seat.floor.0 → is_track_of heads v x ≡ true → SeatMayCopy seat v x when
-may_copy at heads seat v x when sits telling floor is = record {
-  telling = telling;
+pub may_copy : (at : TurnState) (heads : List VolumeHead) (seat : ReaderSeatState) (v x : ℕ) (when : Stamp) → SitsAt at heads seat → IsTrue seat.reporting → when.0 ≡ seat.floor.0 → is_track_of heads v x ≡ true → SeatMayCopy seat v x when
+may_copy at heads seat v x when sits reporting floor is = record {
+  reporting = reporting;
   floor = stamp_is when seat.floor floor;
   within = subst (λ (g : Group). is_track_within (control_at g seat.control).volumes v x ≡ true) (sym sits.begun) (track_in heads (control_at at.first seat.control).volumes v x sits.sized is);
 }

@@ -13,7 +13,7 @@ use Rattle.row_changes.specs.Changes.Due.{NoneDue, DueSince, DueIn}
 use Rattle.row_changes.specs.Changes.RowChange.{Hit, MarkedHit}
 use Rattle.record_rows.specs.Deeds.{Deed, rows_by_deed, time_by_deed}
 use Rattle.record_rows.specs.Deeds.Deed.{Changed, Marked}
-use Rattle.record_rows.specs.Hits.{due_behind_mark, hit_changes, hit_now, marked_changes, rows_marked}
+use Rattle.record_rows.specs.Hits.{due_once_marked, hit_changes, hit_now, marked_changes, rows_marked}
 use Rattle.record_rows.specs.Records.{rows_with_hits}
 use Rattle.record_rows.specs.ToldRows.{due_after_changes}
 use Rattle.record_rows.proofs.Coming.{hits_may_come, marks_may_come}
@@ -25,12 +25,12 @@ use Rattle.fed_logs.specs.Logs.{IsFedLog}
 use Rattle.fed_logs.specs.ShownBreaks.{BrokeAsTraces}
 use Rattle.consistency.specs.Leads.{Comes, Point}
 use Rattle.consistency.specs.Ways.{are_at_time}
-use Rattle.mover.specs.Points.{AreSteps, IsStep, LeavesSo, point_behind}
+use Rattle.mover.specs.Points.{AreSteps, IsStep, LeavesSo, point_after_deeds}
 use Rattle.mover.specs.Records.{IsGroupOfLog}
 use Rattle.mover.proofs.Pairs.{apart_still, pairs_of, same_pairs}
-use Rattle.mover.proofs.Records.{behind_marks_are_steps, records_are_steps}
+use Rattle.mover.proofs.Records.{after_marks_are_steps, records_are_steps}
 use Rattle.mover.specs.Steps.{AreMade, IsDeedMade}
-use Rattle.mover.specs.Steps.IsDeedMade.{Suspends, Marks, MarksFirst, Records, RecordsBehind}
+use Rattle.mover.specs.Steps.IsDeedMade.{Suspends, Marks, MarksFirst, Records, RecordsAfter}
 
 -- ---- changes that may all come
 
@@ -108,14 +108,14 @@ module _ (run : ScriptRun) (begun ended : Group) (log answers : List Answer) (fe
       step_now run.level (breaks_of run) true (point_at flag time rows NoneDue) (Marked spot flag (rows_marked time (hit_now failed rows) rows)) (marked_changes time (hit_now failed rows)) refl (marks_are_changes run.level time (hit_now failed rows) rows)
       (marks_may_come run.level (breaks_of run) failed time time rows (omega arith)).0 (marks_now time (hit_now failed rows)) refl
   made_step _ _ _ _ apart (Records time rows group failed shown up to_log) = records_are_steps run (point_at flag time rows NoneDue) group failed (group_of time rows NoneDue group shown up) apart refl
-  made_step _ _ _ _ apart (RecordsBehind time was group failed marked shown up to_log) =
-      let due = due_behind_mark run.level time marked in
+  made_step _ _ _ _ apart (RecordsAfter time was group failed marked shown up to_log) =
+      let due = due_once_marked run.level time marked in
       let rows = rows_marked time marked was in
-      behind_marks_are_steps run (point_at flag time rows due) marked time group failed (group_of time rows due group shown up) apart refl
+      after_marks_are_steps run (point_at flag time rows due) marked time group failed (group_of time rows due group shown up) apart refl
 
   -- So are all, and this is due at the end.
   pub made_are_steps : (time : ℕ) (rows : List PairRow) (due : Due) (steps : List DeedOfChanges) (last : Due) → none_clash rows ≡ true → AreMade run.level flag answers time rows due steps last
-      → AreSteps run.level (breaks_of run) (point_at flag time rows due) steps × ((point_behind run.level (point_at flag time rows due) steps).due ≡ last)
+      → AreSteps run.level (breaks_of run) (point_at flag time rows due) steps × ((point_after_deeds run.level (point_at flag time rows due) steps).due ≡ last)
   made_are_steps time rows due [] last apart made = (tt, made)
   made_are_steps time rows due (step ∷ steps) last apart made =
       let here = made_step time rows due step apart made.0 in

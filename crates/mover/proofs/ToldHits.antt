@@ -47,11 +47,11 @@ hit_at failed (s ∷ rows) zero r at hit = subst (λ (x : PairRow). is_among x.d
     here : (b : Bool) → b ≡ true → is_among s.device (map (λ (x : PairRow). x.device) (cond b (s ∷ filter (is_hit_now failed) rows) (filter (is_hit_now failed) rows))) ≡ true
     here true is = or_left (nat_eq s.device s.device) (is_among s.device (hit_now failed rows)) (eq-eqb s.device s.device refl)
     here false is = absurd cc
-hit_at failed (s ∷ rows) (suc i) r at hit = behind (is_hit_now failed s) (hit_at failed rows i r at hit)
+hit_at failed (s ∷ rows) (suc i) r at hit = after (is_hit_now failed s) (hit_at failed rows i r at hit)
   where
-    behind : (b : Bool) → is_among r.device (hit_now failed rows) ≡ true → is_among r.device (map (λ (x : PairRow). x.device) (cond b (s ∷ filter (is_hit_now failed) rows) (filter (is_hit_now failed) rows))) ≡ true
-    behind true rest = or_right (nat_eq s.device r.device) (is_among r.device (hit_now failed rows)) rest
-    behind false rest = rest
+    after : (b : Bool) → is_among r.device (hit_now failed rows) ≡ true → is_among r.device (map (λ (x : PairRow). x.device) (cond b (s ∷ filter (is_hit_now failed) rows) (filter (is_hit_now failed) rows))) ≡ true
+    after true rest = or_right (nat_eq s.device r.device) (is_among r.device (hit_now failed rows)) rest
+    after false rest = rest
 
 -- A device that is hit by some failed jobs is hit by others, if its own has failed among them.
 pub hit_by_others : (a b : List Bool) (d : ℕ) (rows : List PairRow) → is_among d (hit_now a rows) ≡ true → is_down b d ≡ true → is_among d (hit_now b rows) ≡ true
@@ -60,7 +60,7 @@ hit_by_others a b d rows among down =
     let parts = and_parts (is_down a h.row.device) (not (is_device_suspended h.row.state)) h.hit in
     subst (λ (n : ℕ). is_among n (hit_now b rows) ≡ true) h.device (hit_at b rows h.place h.row h.at (and_from (is_down b h.row.device) (not (is_device_suspended h.row.state)) (ap (is_down b) h.device ∙ down) parts.1))
 
--- A device that is hit behind rows that were told was hit before them.
+-- A device that is hit after rows that were told was hit before them.
 pub hit_before : (early late : List Bool) (time d : ℕ) (rows next : List PairRow) → AreTold early time rows next → is_among d (hit_now late next) ≡ true → is_among d (hit_now late rows) ≡ true
 hit_before early late time d rows next told among =
     let h = hit_row_of late d next among in

@@ -1,4 +1,4 @@
--- Traces that turn out so behind two epochs turn out so behind each.
+-- Traces that turn out so after two epochs turn out so after each.
 use Rattle.std.proofs.Common.{◌≡◌, ◌≢◌, ◌<◌, ℕ, List, [], ◌++◌, length, Option, Some, None, refl, sym, ap, ◌∙◌, subst, arith, append_assoc}
 use Rattle.std.specs.Prelude.{IsSomeAnd, slice_get, slice_index_or}
 use Rattle.std.proofs.lemmas.List.{append_cancel_right}
@@ -37,7 +37,7 @@ lanes_read_in_turn {S} left old mid new first then = record {
 
 -- ---- one lane that reads on between the two
 
--- What still comes behind less comes behind more.
+-- What still comes after less comes after more.
 still_before : (o : Outlook) (rest used more later : List ℕ) → rest ≡ used ++ more → IsStillToCome o more later → IsStillToCome o rest (used ++ later)
 still_before Whole rest used more later split come = ap (λ (x : List ℕ). used ++ x) come ∙ sym split
 still_before Failing rest used more later split come = tt
@@ -65,7 +65,7 @@ module _ {S : Type 0} (left : S → Option (List ℕ)) (t : Trace) (old mid new 
     abbrev s : ReadsBytes (left new.source) is.feed end.feed then r.rest
     s = more.reads on r.rest ahead_mid
 
-    -- however the bytes behind the first calls are split
+    -- however the bytes after the first calls are split
     both : (used rest : List ℕ) → r.rest ≡ used ++ rest → out.bytes ≡ (r.used ++ used) ++ rest
     both used rest split = r.split ∙ ap (λ (x : List ℕ). r.used ++ x) split ∙ sym (append_assoc r.used used rest)
 
@@ -78,7 +78,7 @@ module _ {S : Type 0} (left : S → Option (List ℕ)) (t : Trace) (old mid new 
     read_mid : HasRead o (r.used ++ (s.used ++ g.0)) t was.feed
     read_mid = subst (λ (x : List ℕ). HasRead o x t was.feed) (append_assoc r.used s.used g.0) g.3
 
-    -- The first calls used what they used: the bytes that are left are told, if the trace may fail behind them.
+    -- The first calls used what they used: the bytes that are left are told, if the trace may fail after them.
     same_used : (used rest : List ℕ) → out.bytes ≡ used ++ rest → AreLeft (left mid.source) is.feed.halted is.feed.side.reader rest → is.feed.side.reader.stopped ≡ None → used ≡ r.used
     same_used used rest split there reads_on =
         let told : IsAhead is.feed.side.reader (left mid.source) rest = subst (λ (h : Option Halt). AreLeft (left mid.source) h is.feed.side.reader rest) on there in

@@ -15,7 +15,7 @@ use Rattle.mover.specs.Moves.{IsOfMover, MoverWorks, is_worked_on}
 use Rattle.mover.proofs.InSlots.{slots_here, slots_then}
 use Rattle.mover.proofs.MovedOn.{on_ok}
 
--- A cause behind a call that ended well is the cause of both.
+-- A cause after a call that ended well is the cause of both.
 cause_then : (old mid new : Device → ℕ) (result : Result (Unit {0}) StoreError) → HasStoreCause old mid (Ok tt) → HasStoreCause mid new result → HasStoreCause old new result
 cause_then old mid new result first then = record {
   counts = record {

@@ -56,7 +56,7 @@ pub record HasSite (so : RunSoFar) (site : SiteState) (plant : PlantState) : Typ
   pub idle : site.waiting ≡ []
   pub stands : SiteStands so.excepted site plant
 
--- The shared state is one that every call keeps. Its controls broke as the traces do, and breaks from a time on are still to come.
+-- The shared state is one that every call keeps. Its controllers broke as the traces do, and breaks from a time on are still to come.
 pub record HasSharedState (traces : List Trace) (time : ℕ) (group : Group) : Type 0 where
   pub keeps : IsGroupSound group
   pub broke : BrokeAsTraces traces group
@@ -87,7 +87,7 @@ pub record StandsSoFar (so : RunSoFar) (group : Group) (site : SiteState) (plant
 
 -- ---- the epoch
 
--- A line was heard whole, and the run's traces turn out so behind the readers. No count of faults stands at its end, and each volume
+-- A line was heard whole, and the run's traces turn out so after the readers. No count of faults stands at its end, and each volume
 -- fails so often in the run as its count has risen by then.
 pub record IsForLine {S : Type 0} (left : S → Option (List ℕ)) (so : RunSoFar) (line : Line) (old new : List (Lane S)) (now : PlantState) : Type 0 where
   pub heard : so.stage.next ≡ Some line
@@ -110,7 +110,7 @@ BearsSome so plant c = (time : ℕ) × Bears so.run so.stage (shape_of plant) c 
 -- From the leg on points were passed, and one may be on its way. Each comes next on the way to the line's time, and may be meant. The past of a
 -- plant that keeps one tells the points' moments.
 --   on_the_way: none of those passed comes by a line's command
---   comes_next: the one on its way comes next behind the others, if it isn't the last of these
+--   comes_next: the one on its way comes next after the others, if it isn't the last of these
 --   now: whatever a crash leaves now shows the last of the others, or the one on its way
 pub record PassesOn (so : RunSoFar) (asked : LinesAsked) (old new : PlantState) (points : List PassedPoint) (next : Option Point) : Type 0 where
   pub goes : 0 < old.clock → GoesThroughPoints so.run new old.clock so.leg.point points new.clock next
@@ -135,7 +135,7 @@ EpochsBear {S} tells left faults was is =
 
 -- ---- at the limit
 
--- Behind an epoch that reached its limit a session has again what an epoch begins with, for the next group and the site after it.
+-- After an epoch that reached its limit a session has again what an epoch begins with, for the next group and the site after it.
 --   passes: while the session works for the line, all points are passed, and leave the leg
 --   effect: the line's command may take effect
 pub record StandsAtLimit (so : RunSoFar) (line : Line) (next : Group) (after : SiteState) (was is : PlantState) : Type 0 where

@@ -10,14 +10,14 @@ use Rattle.fed_logs.specs.Moves.{Plans}
 use Rattle.consistency.specs.Bearing.{Bears, ShowsPoint}
 use Rattle.consistency.specs.Leads.{Point}
 use Rattle.consistency.specs.Ways.{IsAtWork}
-use Rattle.mover.specs.Points.{point_behind}
+use Rattle.mover.specs.Points.{point_after_deeds}
 use Rattle.mover.specs.OwedTracks.{CarriedAsLive, FailedAreOwed}
 use Rattle.mover.specs.Working.{LinesAsked, IsKeptToEnd, PassesPoints, SeesFirst, StandsForRows, Work, WorkBegins}
 use Rattle.mover.specs.Working.{excepted_last, last_point_of, named_steps, point_then, time_then}
 
 -- ---- what is seen
 
--- What a choice shows behind the first of the deeds is the point that is meant then: each duplex row's device holds its primary's tracks.
+-- What a choice shows after the first of the deeds is the point that is meant then: each duplex row's device holds its primary's tracks.
 abbrev pub SeenDeedsShowPoints : PlantState → Type 0
 SeenDeedsShowPoints start = (work : Work) → WorkBegins start work → (n : ℕ) → n ≤ length work.steps → (c : Choice) → SeesFirst start work n c
     → ShowsPoint work.run (shape_of start) (point_then n work) c
@@ -41,9 +41,9 @@ abbrev pub BegunDeedsBear : (old new : PlantState) → Type 0
 BegunDeedsBear old new = (work : Work) → WorkBegins old work → 0 < old.clock → Begins old new work
     → AtEveryMoment (λ c. (time : ℕ) × Bears work.run work.stage (shape_of new) c time) old new
 
--- the point behind one deed more than there are moments
+-- the point after one deed more than there are moments
 abbrev pub next_point : Work → (moments : List ℕ) → Option Point
-next_point work moments = Some (point_behind work.run.level work.leg.point (take (suc (length moments)) (named_steps work)))
+next_point work moments = Some (point_after_deeds work.run.level work.leg.point (take (suc (length moments)) (named_steps work)))
 
 -- Calls that begin the deeds pass their points, and the next one is on its way. Calls that do them all pass all.
 abbrev pub BegunDeedsPassPoints : (old new : PlantState) → Type 0

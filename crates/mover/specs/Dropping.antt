@@ -45,9 +45,9 @@ abbrev pub drops_from : (place : ℕ) → (was : List (Option PairState)) → Li
 drops_from place was [] = []
 drops_from place was (r ∷ rows) = drop_of r (owes_since (slice_index_or was place None) r.state) ++ drops_from (suc place) was rows
 
-abbrev pub known_behind : List VolumeDrop → List (List KnownVolume) → List (List KnownVolume)
-known_behind [] known = known
-known_behind (d ∷ drops) known = known_behind drops (known_after (call_of_drop d) known)
+abbrev pub known_after_drops : List VolumeDrop → List (List KnownVolume) → List (List KnownVolume)
+known_after_drops [] known = known
+known_after_drops (d ∷ drops) known = known_after_drops drops (known_after (call_of_drop d) known)
 
 -- The mover's seat dropped these volumes, and did nothing else.
 pub record MakesDrops (drops : List VolumeDrop) (old new : MoverSeatState) : Type 0 where
@@ -55,17 +55,17 @@ pub record MakesDrops (drops : List VolumeDrop) (old new : MoverSeatState) : Typ
   pub calls_are : new.calls ≡ old.calls ++ gained
   pub are : map as_answer gained ≡ map answer_of_drop drops
   pub last : new.last ≡ old.last
-  pub known : new.known ≡ known_behind drops old.known
+  pub known : new.known ≡ known_after_drops drops old.known
 
 -- It dropped the volumes of the rows that are to be dropped, in order.
 abbrev pub Drops : (was : List (Option PairState)) → List PairRow → (old new : MoverSeatState) → Type 0
 Drops was rows = MakesDrops (drops_from 0 was rows)
 
--- The rows are of the first controls.
+-- The rows are of the first controllers.
 abbrev pub AreOfControls : (controls : ℕ) → List PairRow → Type 0
 AreOfControls n rows = (r : PairRow) → Contains rows r → r.control < n
 
--- ---- what is owed behind calls and deeds
+-- ---- what is owed after calls and deeds
 
 abbrev pub IsDeviceSuspended : PairState → Type 0
 IsDeviceSuspended state = IsTrue (is_device_suspended state)
@@ -90,7 +90,7 @@ abbrev pub is_duplex_row : Option PairRow → Bool
 is_duplex_row None = false
 is_duplex_row (Some r) = is_duplex r.state
 
--- whether the row in a place stood duplex: at first, or behind one of the deeds
+-- whether the row in a place stood duplex: at first, or after one of the deeds
 abbrev pub stood_duplex : (place : ℕ) → List PairRow → List Deed → Bool
 stood_duplex place rows [] = is_duplex_row (slice_get rows place)
 stood_duplex place rows (deed ∷ deeds) = is_duplex_row (slice_get rows place) || stood_duplex place (rows_by_deed deed) deeds

@@ -12,12 +12,12 @@ use Rattle.group_state.specs.SoundStates.{IsGroupSound}
 use Rattle.fed_logs.specs.ToldTracks.{HeldTracks}
 use Rattle.pair_table.specs.declared.row.PairRow.{PairRow}
 use Rattle.pair_table.specs.Tables.{in_state, none_clash}
-use Rattle.record_rows.specs.Deeds.{Deed, rows_behind, time_meant_behind}
+use Rattle.record_rows.specs.Deeds.{Deed, rows_after_deeds, time_meant_after}
 use Rattle.record_rows.specs.ToldRows.{InPlaces}
 use Rattle.site_store.specs.DeedChanges.{AreByChanges, DeedOfChanges, deeds_of}
 use Rattle.site_store.specs.DoneDeeds.{BeginsDeeds}
 use Rattle.site_store.specs.Exceptions.{Exceptions}
-use Rattle.fed_logs.specs.Deeds.{held_behind}
+use Rattle.fed_logs.specs.Deeds.{held_after_deeds}
 use Rattle.fed_logs.specs.Feeds.{AllGoUpTo, part_of_mover, part_of_reader, truth_of}
 use Rattle.fed_logs.specs.LogLaws.{ReportsBreak}
 use Rattle.fed_logs.specs.Logs.{AreSized, AwaitsBreak, BeginsLog, HoldTruth, IsFedLog, Sizes, is_call_of_seat}
@@ -36,14 +36,14 @@ use Rattle.mover.specs.declared.ends.EpochEnd.TheVariants as ends
 use Rattle.mover.specs.declared.lane.Lane.{Lane}
 use Rattle.mover.specs.Readers.{LaneReaderState, no_table}
 use Rattle.mover.specs.Dropping.{OwesExactly}
-use Rattle.mover.specs.Moves.{AreHitsCounted, Did, InPlacesByDeeds, IsLeftBehind, KeepsAll, KeepsPair, KnowsDuplex, LogsEntriesOf, MayMove, SessionGoesOn}
+use Rattle.mover.specs.Moves.{AreHitsCounted, Did, InPlacesByDeeds, IsLeftAfter, KeepsAll, KeepsPair, KnowsDuplex, LogsEntriesOf, MayMove, SessionGoesOn}
 use Rattle.mover.specs.Groups.{is_at_limit}
 use Rattle.mover.specs.Numbers.{UsesNumbersOf}
 use Rattle.mover.specs.Steps.{AreMade}
 use Rattle.consistency.specs.Stages.{ScriptRun, breaks_of}
 use Rattle.consistency.specs.Leads.{Point}
 use Rattle.row_changes.specs.Changes.Due.{NoneDue}
-use Rattle.mover.specs.Points.{AreSteps, point_behind}
+use Rattle.mover.specs.Points.{AreSteps, point_after_deeds}
 use Rattle.mover.specs.OwedTracks.{CarriedAsLive, FailedAreOwed}
 use Rattle.mover.specs.Lanes.{HadBroken, HasFaultFrom, IsSameLane, broken_by}
 use Rattle.mover.specs.Rounds.{AreLanesOf}
@@ -68,8 +68,8 @@ IfReached ends.NoMemory is = Unit {0}
 
 -- ---- traces
 
--- A reader's trace turns out so: its feed had read of it what came before these bytes, and behind those that the reader used some still come, or
--- none behind a fault.
+-- A reader's trace turns out so: its feed had read of it what came before these bytes, and after those that the reader used some still come, or
+-- none after a fault.
 pub record TurnsOut {S : Type 0} (left : S → Option (List ℕ)) (t : Trace) (old new : Lane S) (was is : LaneReaderState) : Type 0 where
   pub outlook : Outlook
   pub bytes : List ℕ
@@ -97,7 +97,7 @@ break_below time (Some b) = if nat_lt b.upto time then Some (record { 0 = b.upto
 
 -- ---- an epoch
 
--- A lane's reader read on by its control's part of the run.
+-- A lane's reader read on by its controller's part of the run.
 abbrev pub LaneWent : {S : Type 0} → (left : S → Option (List ℕ)) → (faults : S → ℕ) → (run : List Answer) → (old new : Lane S) → Type 0
 LaneWent left faults run old new =
     IsSomeAnd old.reader (λ was. IsSomeAnd new.reader (λ is. ReadsOn (left old.source) (left new.source) was.feed is.feed run × HasFaultFrom was.feed.halted (faults old.source) (faults new.source) is.feed.halted))
@@ -106,9 +106,9 @@ LaneWent left faults run old new =
 --   limited: each form takes the limit
 --   made: each deed is a record or a mark that tells failures, or the record of a group that a form showed, and at the end nothing is due
 --   pairs: each deed keeps each row's pair
---   live: each group's entries are of rows that were live when it was formed, by the mark behind the group before, too
+--   live: each group's entries are of rows that were live when it was formed, by the mark after the group before, too
 --   entries: none of these is suspended just before its record but by its own device
---   behind, owed: after Ok the site is what the deeds leave, and the volume of each row was dropped exactly for what it owes more
+--   is_left, owed: after Ok the site is what the deeds leave, and the volume of each row was dropped exactly for what it owes more
 --   numbers: numbers of records and of marks are used up by the forms of the run alone, and Spent comes only where they are near their end
 pub record EpochRun {S : Type 0} (left : S → Option (List ℕ)) (faults : S → ℕ) (limit : ℕ) (group : Group) (old new : List (Lane S)) (site after : SiteState) (was is : PlantState) (result : EpochEnd) : Type 0 where
   pub log : List Answer
@@ -127,7 +127,7 @@ pub record EpochRun {S : Type 0} (left : S → Option (List ℕ)) (faults : S �
   pub entries : LogsEntriesOf site.told (deeds_of steps)
   pub makes : (done : Plans) → KnowsDuplex site.told done → MakesDeeds site.time site.told done (part_of_mover log) (deeds_of steps)
   pub all : OnOk (end_result result) ((done : Plans) → KnowsDuplex site.told done → KeepsAll site after done (part_of_mover log) (deeds_of steps))
-  pub behind : OnOk (end_result result) (IsLeftBehind site after (deeds_of steps))
+  pub is_left : OnOk (end_result result) (IsLeftAfter site after (deeds_of steps))
   pub owed : OnOk (end_result result) (OwesExactly site.told after.told (part_of_mover log) (deeds_of steps))
   pub numbers : UsesNumbersOf (part_of_mover log) site after (end_result result)
 
@@ -138,22 +138,22 @@ pub record Shows (site after : SiteState) (steps : List DeedOfChanges) (was is :
 
 -- ---- what it bears
 
--- Behind the first n deeds each duplex row's volume holds its primary's tracks at the time that is then meant, and each break with a time
+-- After the first n deeds each duplex row's volume holds its primary's tracks at the time that is then meant, and each break with a time
 -- below that was told at its own time: for all traces of which the lanes had read, whichever way they turn out.
-abbrev pub HoldsBehind : Sizes → List Trace → HeldTracks → SiteState → List Deed → (n : ℕ) → Type 0
-HoldsBehind size traces held site deeds n =
-    HoldTruth size (truth_of traces) (held_behind (take n deeds) held) (rows_behind (take n deeds) site.told) (time_meant_behind (take n deeds) site.time)
+abbrev pub HoldsAfter : Sizes → List Trace → HeldTracks → SiteState → List Deed → (n : ℕ) → Type 0
+HoldsAfter size traces held site deeds n =
+    HoldTruth size (truth_of traces) (held_after_deeds (take n deeds) held) (rows_after_deeds (take n deeds) site.told) (time_meant_after (take n deeds) site.time)
 
-abbrev pub TellsBreaks : List Trace → Group → SiteState → List Answer → List Deed → (n : ℕ) → Type 0
-TellsBreaks traces group site log deeds n =
+abbrev pub ReportsBreaks : List Trace → Group → SiteState → List Answer → List Deed → (n : ℕ) → Type 0
+ReportsBreaks traces group site log deeds n =
     (k b : ℕ) (t : Trace) → slice_get traces k ≡ Some t → break_time t ≡ Some b → AwaitsBreak group k b → site.time ≤ b
-    → b < time_meant_behind (take n deeds) site.time
+    → b < time_meant_after (take n deeds) site.time
     → ReportsBreak log k b site.told (take n deeds)
 
 -- The time that is meant never falls, and rises to the limit at most.
 abbrev pub TimesRiseTo : (limit time : ℕ) → List Deed → Type 0
 TimesRiseTo limit time deeds =
-    (n m : ℕ) → n ≤ m → m ≤ length deeds → (time_meant_behind (take n deeds) time ≤ time_meant_behind (take m deeds) time) × (time_meant_behind (take m deeds) time ≤ limit)
+    (n m : ℕ) → n ≤ m → m ≤ length deeds → (time_meant_after (take n deeds) time ≤ time_meant_after (take m deeds) time) × (time_meant_after (take m deeds) time ≤ limit)
 
 -- what is meant of a site between its calls, while the session goes on: nothing is due
 abbrev pub point_of : SiteState → Point
@@ -162,20 +162,20 @@ point_of site = record { time = site.time; rows = site.told; due = NoneDue; is_e
 -- The deeds are steps of a run, and at their end nothing is due.
 pub record AreStepsOf (run : ScriptRun) (site : SiteState) (steps : List DeedOfChanges) : Type 0 where
   pub each : AreSteps run.level (breaks_of run) (point_of site) steps
-  pub due : (point_behind run.level (point_of site) steps).due ≡ NoneDue
+  pub due : (point_after_deeds run.level (point_of site) steps).due ≡ NoneDue
 
 -- Each reader's part of the log is fed by its trace. So it is for all traces of which the lanes had read, whichever way they turn out. The shared
 -- state at first is one that every call keeps.
 --   up_to: each reader takes the limit, as far as its trace lets it, if no batch was held at first
 --   times: the time that is meant rises to the limit at most
 --   each: the deeds are steps of each run with these traces, if the shared state at first broke as they do
-pub record BearsBehind {S : Type 0} (left : S → Option (List ℕ)) (limit : ℕ) (group end : Group) (old new : List (Lane S)) (site : SiteState) (log : List Answer) (steps : List DeedOfChanges) : Type 0 where
+pub record BearsAfter {S : Type 0} (left : S → Option (List ℕ)) (limit : ℕ) (group end : Group) (old new : List (Lane S)) (site : SiteState) (log : List Answer) (steps : List DeedOfChanges) : Type 0 where
   pub fed : (traces : List Trace) → IsGroupSound group → AllTurnOut left traces old new → IsFedLog traces group end log
   pub up_to : (traces : List Trace) → HoldNone old → AllTurnOut left traces old new → AllGoUpTo limit traces log
   pub tracks : (size : Sizes) (traces : List Trace) (held : HeldTracks) (done : Plans) → IsGroupSound group → AllTurnOut left traces old new → KnowsDuplex site.told done
       → BeginsLog size traces held group site.time site.told done
-      → (n : ℕ) → n ≤ length (deeds_of steps) → HoldsBehind size traces held site (deeds_of steps) n
-  pub breaks : (traces : List Trace) → IsGroupSound group → AllTurnOut left traces old new → (n : ℕ) → n ≤ length (deeds_of steps) → TellsBreaks traces group site log (deeds_of steps) n
+      → (n : ℕ) → n ≤ length (deeds_of steps) → HoldsAfter size traces held site (deeds_of steps) n
+  pub breaks : (traces : List Trace) → IsGroupSound group → AllTurnOut left traces old new → (n : ℕ) → n ≤ length (deeds_of steps) → ReportsBreaks traces group site log (deeds_of steps) n
   pub times : TimesRiseTo limit site.time (deeds_of steps)
   pub each : (run : ScriptRun) → run.level ≡ site.level → site.mark.ended ≡ false → IsTrue (none_clash site.told) → IsGroupSound group → AllTurnOut left run.traces old new → BrokeAsTraces run.traces group
       → AreStepsOf run site steps
@@ -184,7 +184,7 @@ pub record BearsBehind {S : Type 0} (left : S → Option (List ℕ)) (limit : �
 pub record EpochGoes {S : Type 0} (tells : Type 0) (left : S → Option (List ℕ)) (faults : S → ℕ) (limit : ℕ) (group : Group) (old new : List (Lane S)) (site after : SiteState) (was is : PlantState) (result : EpochEnd) : Type 0 where
   pub ran : EpochRun left faults limit group old new site after was is result
   pub shows : tells → Shows site after ran.steps was is result
-  pub bears : BearsBehind left limit group ran.end old new site ran.log ran.steps
+  pub bears : BearsAfter left limit group ran.end old new site ran.log ran.steps
 
 -- ---- at the limit
 
@@ -203,12 +203,12 @@ IsSamePair r s = s ≡ in_state s.state r
 -- What is meant of the site is at the limit, by some deeds. Each row's pair stays, and the session goes on if it did before.
 pub record IsAtTime (limit : ℕ) (site after : SiteState) : Type 0 where
   pub deeds : List Deed
-  pub behind : IsLeftBehind site after deeds
+  pub is_left : IsLeftAfter site after deeds
   pub time : after.time ≡ limit
   pub pairs : InPlaces IsSamePair site.told after.told
   pub going : SessionGoesOn site after
 
--- Each lane's reader stays one of its control and of its trace's volumes.
+-- Each lane's reader stays one of its controller and of its trace's volumes.
 pub record AreSameLanes {S : Type 0} (old new : List (Lane S)) : Type 0 where
   pub many : length new ≡ length old
   pub each : (k : ℕ) (d : Lane S) → k < length old → IsSomeAnd (slice_index_or old k d).reader (λ was. IsSomeAnd (slice_index_or new k d).reader (λ is. IsSameLane was.feed is.feed))

@@ -13,7 +13,7 @@ use Rattle.ckd_track.specs.declared.write.Batch.{Batch}
 use Rattle.ckd_track.specs.declared.write.Cause.{Cause}
 use Rattle.pending_queue.specs.declared.room.Room.{Room}
 use Rattle.group_state.specs.declared.joining.CopyJoin.TheVariants as copyings
-use Rattle.group_state.specs.Controls.{is_telling}
+use Rattle.group_state.specs.Controls.{is_reporting}
 use Rattle.group_state.specs.Groups.{Group, control_at}
 use Rattle.group_state.specs.Runs.{Answer}
 use Rattle.fed_logs.specs.ShownBreaks.{is_break_below}
@@ -24,11 +24,11 @@ use Rattle.write_trace.specs.declared.trace.Trace.{Trace}
 use Rattle.fed_logs.specs.Reads.{HasBroken, ReadsOn}
 use Rattle.fed_logs.specs.Limits.{GoesUpTo}
 use Rattle.fed_logs.specs.Steps.{held_answer, wanted_answer}
-use Rattle.fed_logs.specs.Tellers.{IsToldBy, StandsAs, HasFaultBy, TellsOn, TellsUpTo, BreaksBelow, IsHaltBelow, break_bound, copying_answers}
+use Rattle.fed_logs.specs.Reporters.{IsToldBy, StandsAs, HasFaultBy, ReportsOn, ReportsUpTo, BreaksBelow, IsHaltBelow, break_bound, copying_answers}
 use Rattle.turn_group.specs.Calls.{as_answer}
 use Rattle.turn_group.specs.Seats.{TurnState, ReaderSeatState, calls_at, seat_at}
 use Rattle.mover.specs.declared.lane.Lane.{Lane}
-use Rattle.mover.specs.Readers.{LaneReaderState, SitsAt, teller_of, IsOfHeader}
+use Rattle.mover.specs.Readers.{LaneReaderState, SitsAt, reporter_of, IsOfHeader}
 
 -- ---- a lane's reader
 
@@ -66,18 +66,18 @@ HadBroken t feed = (cause : Cause) × (upto : Stamp) × (feed.halted ≡ Some (h
 
 -- ---- a reader's seat
 
--- Calls on a feed, whose trace has these volumes, read on, and the seat told them.
-abbrev pub SeatTells : List VolumeHead → (before now : Option (List ℕ)) → (old new : FeedState) → (seat next : ReaderSeatState) → Type 0
-SeatTells heads before now old new seat next = TellsOn before now old new (teller_of heads seat) (teller_of heads next)
+-- Calls on a feed, whose trace has these volumes, read on, and the seat reported them.
+abbrev pub SeatReports : List VolumeHead → (before now : Option (List ℕ)) → (old new : FeedState) → (seat next : ReaderSeatState) → Type 0
+SeatReports heads before now old new seat next = ReportsOn before now old new (reporter_of heads seat) (reporter_of heads next)
 
--- The calls that the seat told took a limit: they go as far towards it as the trace lets them, and the breaks are below it.
+-- The calls that the seat reported took a limit: they go as far towards it as the trace lets them, and the breaks are below it.
 pub record SeatTakesLimit (heads : List VolumeHead) (limit : ℕ) (before now : Option (List ℕ)) (old new : FeedState) (seat next : ReaderSeatState) : Type 0 where
-  pub up_to : TellsUpTo limit before now old new (teller_of heads seat) (teller_of heads next)
-  pub below : BreaksBelow limit before old new (teller_of heads seat) (teller_of heads next)
+  pub up_to : ReportsUpTo limit before now old new (reporter_of heads seat) (reporter_of heads next)
+  pub below : BreaksBelow limit before old new (reporter_of heads seat) (reporter_of heads next)
 
 -- It is so whatever bytes the source has left, since it is asked for none, and whatever the limit is.
 pub record SeatCopies (heads : List VolumeHead) (feed : FeedState) (seat next : ReaderSeatState) : Type 0 where
-  pub reads : (left : Option (List ℕ)) → SeatTells heads left left feed feed seat next
+  pub reads : (left : Option (List ℕ)) → SeatReports heads left left feed feed seat next
   pub takes : (limit : ℕ) (left : Option (List ℕ)) → SeatTakesLimit heads limit left left feed feed seat next
 
 -- ---- how a part of a round ends
@@ -89,7 +89,7 @@ pub record EndsIn (Is : List Answer → Type 0) (before after : List Answer) : T
   pub answers : after ≡ (before ++ earlier) ++ last
   pub so : Is last
 
--- The last call told the batch that is held, which was refused for this room.
+-- The last call reported the batch that is held, which was refused for this room.
 abbrev pub IsRefusal : Room → FeedState → List Answer → Type 0
 IsRefusal room feed last = (batch : Batch) × (feed.held ≡ Some batch) × (last ≡ held_answer batch room ∷ [])
 
@@ -98,7 +98,7 @@ abbrev pub AreLastCopies : (control : ℕ) → FeedState → List Answer → Typ
 AreLastCopies k feed last =
     (last ≡ wanted_answer k None ∷ []) ⊎ ((volume track : ℕ) × (at : Stamp) × (room : Room) × (last ≡ copying_answers k feed.primary volume track at (copyings.Held room)))
 
--- A reader is done for a round where its batch was refused, at the limit once no track is wanted or one was refused, and behind a halt.
+-- A reader is done for a round where its batch was refused, at the limit once no track is wanted or one was refused, and after a halt.
 abbrev pub AreLastOf : Reading → (control : ℕ) → FeedState → List Answer → Type 0
 AreLastOf readings.Joined k feed last = ⊥
 AreLastOf (readings.Held room) k feed last = IsRefusal room feed last
@@ -112,12 +112,12 @@ answers_at seat = map as_answer seat.calls
 
 -- ---- a reader that sits
 
--- A seat tells for a feed, at a table.
+-- A seat reports for a feed, at a table.
 pub record TellsFor (at : TurnState) (feed : FeedState) (seat : ReaderSeatState) : Type 0 where
   pub sits : SitsAt at (heads_of feed) seat
-  pub told : IsToldBy feed (teller_of (heads_of feed) seat)
+  pub told : IsToldBy feed (reporter_of (heads_of feed) seat)
 
--- A reader sits at a table: its seat tells for its feed, which has reported up to the limit at most.
+-- A reader sits at a table: its seat reports for its feed, which has reported up to the limit at most.
 pub record Sits (at : TurnState) (limit : ℕ) (r : LaneReaderState) : Type 0 where
   pub seat : ReaderSeatState
   pub has : r.seat ≡ Some seat
@@ -141,17 +141,17 @@ MayLaneRead at limit lane = IsSomeAnd lane.reader (MayRead at limit)
 abbrev pub answers_of : LaneReaderState → List Answer
 answers_of r = map as_answer (calls_at r.seat)
 
--- The count of the source's faults rose only where the feed broke by one, and none rises behind that.
+-- The count of the source's faults rose only where the feed broke by one, and none rises after that.
 abbrev pub HasFaultFrom : Option Halt → (faults risen : ℕ) → Option Halt → Type 0
 HasFaultFrom None faults risen now = HasFaultBy faults risen now
 HasFaultFrom (Some halt) faults risen now = risen ≡ faults
 
--- A feed stays one of its control and of its trace's volumes.
+-- A feed stays one of its controller and of its trace's volumes.
 pub record IsSameLane (old new : FeedState) : Type 0 where
   pub control : new.side.control ≡ old.side.control
   pub heads : heads_of new ≡ heads_of old
 
--- The breaks that these calls of a reader tell are below a limit, if bytes are ahead of its feed. So is the break by which the feed halts.
+-- The breaks that these calls of a reader report are below a limit, if bytes are ahead of its feed. So is the break by which the feed halts.
 pub record BreaksInRound (limit : ℕ) (before : Option (List ℕ)) (old new : FeedState) (gained : List Answer) : Type 0 where
   pub told : (bytes : List ℕ) → IsAhead old.side.reader before bytes → IsTrue (list_all (is_break_below (break_bound limit)) gained)
   pub halts : old.halted ≡ None → (bytes : List ℕ) → IsAhead old.side.reader before bytes → IsHaltBelow limit new.halted
@@ -196,14 +196,14 @@ pub record DidAllParts {S : Type 0} (old new : List (Lane S)) : Type 0 where
 
 -- ---- before a table is made
 
--- What an epoch needs of the reader of a control: it stands as the control does in the shared state, whose volumes have the tracks that
--- the header of its trace gives them. The control tells exactly if the reader hasn't broken.
+-- What an epoch needs of the reader of a controller: it stands as the controller does in the shared state, whose volumes have the tracks that
+-- the header of its trace gives them. The controller reports exactly if the reader hasn't broken.
 pub record IsReaderOf (first : Group) (k limit : ℕ) (r : LaneReaderState) : Type 0 where
   pub control : r.feed.side.control ≡ k
   pub sized : IsOfHeader (heads_of r.feed) (control_at first k)
   pub floor : r.feed.halted ≡ None → (control_at first k).floor.0 ≡ r.feed.primary.time
-  pub telling : r.feed.halted ≡ None → IsTrue (is_telling (control_at first k).phase)
-  pub broken : (cause : Cause) (upto : Stamp) → r.feed.halted ≡ Some (halts.Broken cause upto) → is_telling (control_at first k).phase ≡ false
+  pub reporting : r.feed.halted ≡ None → IsTrue (is_reporting (control_at first k).phase)
+  pub broken : (cause : Cause) (upto : Stamp) → r.feed.halted ≡ Some (halts.Broken cause upto) → is_reporting (control_at first k).phase ≡ false
   pub within : r.feed.side.upto ≤ limit
   pub goes : MayGoOn r.feed
 
@@ -221,7 +221,7 @@ with_seat seat (Some r) = Some (record r { seat = seat; last = None })
 abbrev pub LaneTakesSeat : {S : Type 0} → List (Option ReaderSeatState) → (k : ℕ) → (old new : Lane S) → Type 0
 LaneTakesSeat seats k old new = (new.source ≡ old.source) × (new.reader ≡ with_seat (seat_at seats k) old.reader)
 
--- The lane's reader has the seat of a control.
+-- The lane's reader has the seat of a controller.
 abbrev pub HasSeatOf : {S : Type 0} → (k : ℕ) → Lane S → Type 0
 HasSeatOf k lane = IsSomeAnd lane.reader (λ r. IsSomeAnd r.seat (λ seat. seat.control ≡ k))
 

@@ -15,7 +15,7 @@ use Rattle.pair_table.specs.Rows.{is_suspended}
 use Rattle.pair_table.specs.Tables.{in_state, with_rows}
 use Rattle.group_state.specs.Groups.{Shown}
 use Rattle.group_state.specs.Runs.{Answer, shown_by}
-use Rattle.record_rows.specs.Deeds.{Deed, rows_behind, rows_by_deed, time_meant_behind}
+use Rattle.record_rows.specs.Deeds.{Deed, rows_after_deeds, rows_by_deed, time_meant_after}
 use Rattle.record_rows.specs.Deeds.Deed.{Logged, Changed, Marked}
 use Rattle.record_rows.specs.Hits.{hit_now}
 use Rattle.pair_table.specs.States.{is_device_suspended}
@@ -24,8 +24,8 @@ use Rattle.row_changes.specs.Changes.Due.{NoneDue}
 use Rattle.row_changes.specs.Spans.{hit_count}
 use Rattle.site_store.specs.DeedChanges.{AreByChanges, DeedOfChanges, changes_of, deeds_of}
 use Rattle.site_store.specs.DoneDeeds.{BeginsDeeds, DoesDeeds}
-use Rattle.site_store.specs.Exceptions.{Exceptions, excepted_behind}
-use Rattle.fed_logs.specs.Moves.{AreEntriesLive, AreQuiet, HasRowIn, IsDuplex, Plans, MakesDeeds, MakesAllDeeds, is_mark_due_behind}
+use Rattle.site_store.specs.Exceptions.{Exceptions, excepted_after}
+use Rattle.fed_logs.specs.Moves.{AreEntriesLive, AreQuiet, HasRowIn, IsDuplex, Plans, MakesDeeds, MakesAllDeeds, is_mark_due_after}
 use Rattle.turn_group.specs.Calls.{MadeCall, as_answer}
 use Rattle.turn_group.specs.Notes.{KnownVolume}
 use Rattle.turn_group.specs.Seats.{MoverSeatState}
@@ -49,7 +49,7 @@ use Rattle.mover.specs.Steps.{AreMade}
 abbrev pub is_row_of_volume : (control volume : ℕ) → PairRow → Bool
 is_row_of_volume k v r = r.control == k && r.volume == v
 
--- the row of a control's volume, where there is one
+-- the row of a controller's volume, where there is one
 abbrev pub row_of_volume : (control volume : ℕ) → List PairRow → Option PairRow
 row_of_volume k v rows = find (is_row_of_volume k v) rows
 
@@ -74,12 +74,12 @@ pub record Fades (r s : PairRow) : Type 0 where
   pub fades : (s.state ≡ r.state) ⊎ IsTrue (is_suspended s.state)
   pub gone : IsTrue (is_suspended r.state) → (s.state ≡ r.state) ⊎ IsTrue (is_device_suspended s.state)
 
--- A relation holds between each row before a deed and the one in its place behind it, for each of these deeds.
+-- A relation holds between each row before a deed and the one in its place after it, for each of these deeds.
 abbrev pub InPlacesByDeeds : (is : PairRow → PairRow → Type 0) → List PairRow → List Deed → Type 0
 InPlacesByDeeds is rows [] = Unit {0}
 InPlacesByDeeds is rows (deed ∷ deeds) = InPlaces is rows (rows_by_deed deed) × InPlacesByDeeds is (rows_by_deed deed) deeds
 
--- the volumes of a control that are known
+-- the volumes of a controller that are known
 abbrev pub known_at_control : (control : ℕ) → List (List KnownVolume) → List KnownVolume
 known_at_control k known = slice_index_or known k []
 
@@ -93,7 +93,7 @@ abbrev pub are_numbers_distinct : List KnownVolume → Bool
 are_numbers_distinct [] = true
 are_numbers_distinct (u ∷ known) = not (list_any (names_number u.number) known) && are_numbers_distinct known
 
--- The rows that aren't suspended are those of the carried volumes. Each row's control is known.
+-- The rows that aren't suspended are those of the carried volumes. Each row's controller is known.
 pub record KnowsRows (known : List (List KnownVolume)) (rows : List PairRow) : Type 0 where
   pub controls : AreOfControls (length known) rows
   pub distinct : (k : ℕ) → IsTrue (are_numbers_distinct (known_at_control k known))
@@ -107,7 +107,7 @@ pub record IsInStep (last time : ℕ) (rows : List PairRow) : Type 0 where
 
 -- ---- the mover's seat
 
--- It stays at its table, with the same controls.
+-- It stays at its table, with the same controllers.
 pub record IsStillAt (old new : MoverSeatState) : Type 0 where
   pub here : new.table ≡ old.table
   pub begun : new.first ≡ old.first
@@ -151,13 +151,13 @@ SettlesFor tells seat next site after old new result = (limit : ℕ) → MaySett
 
 -- ---- deeds
 
--- What is meant of a site behind calls is what deeds leave. Its table is another in its rows alone.
-pub record IsLeftBehind (site next : SiteState) (deeds : List Deed) : Type 0 where
+-- What is meant of a site after calls is what deeds leave. Its table is another in its rows alone.
+pub record IsLeftAfter (site next : SiteState) (deeds : List Deed) : Type 0 where
   pub level : next.level ≡ site.level
   pub controls : next.controls ≡ site.controls
   pub table : next.table ≡ with_rows site.table next.table.rows
-  pub rows : next.told ≡ rows_behind deeds site.told
-  pub time : next.time ≡ time_meant_behind deeds site.time
+  pub rows : next.told ≡ rows_after_deeds deeds site.told
+  pub time : next.time ≡ time_meant_after deeds site.time
 
 -- Calls of a site did deeds, and every crash now leaves the site. Tracks may be excepted at first, but for those of which an image waits to
 -- be applied. None is excepted then that the deeds don't except, and of which no image waits.
@@ -165,7 +165,7 @@ pub record Did (excepted : Exceptions) (site next : SiteState) (deeds : List Dee
   pub does : DoesDeeds (excepted_by_apply site excepted) site.told deeds old new
   pub still : Exceptions
   pub stands : SiteStands still next new
-  pub fewer : (d x : ℕ) → excepted_behind site.told deeds (excepted_by_apply site excepted) d x ≡ false → excepted_by_apply next still d x ≡ false
+  pub fewer : (d x : ℕ) → excepted_after site.told deeds (excepted_by_apply site excepted) d x ≡ false → excepted_by_apply next still d x ≡ false
 
 -- At every moment of calls of a site the first of the deeds are seen, whatever tracks are excepted at first. After Ok all of them are done.
 abbrev pub BeginsAll : (site : SiteState) → List Deed → (old new : PlantState) → Type 0
@@ -236,8 +236,8 @@ AreHitsCounted steps old new = (d : ℕ) → new.faults (Volume d) < most_faults
 --   pairs: each deed keeps each row's pair
 --   live: each group's entries are of rows that were live when it was formed, by the mark that was due before, too
 --   entries: none of these is suspended just before its record but by its own device
---   behind, owed: after Ok the site is what the deeds leave, and the volume of each row was dropped exactly for what it owes more
---   due: after Ok a mark is due exactly if one is behind the deeds
+--   is_left, owed: after Ok the site is what the deeds leave, and the volume of each row was dropped exactly for what it owes more
+--   due: after Ok a mark is due exactly if one is due after the deeds
 --   begins: at every moment the first of the deeds are seen, from each track that isn't excepted
 --   did: after Ok all of them are done
 pub record Moved (tells : Type 0) (seat next : MoverSeatState) (site after : SiteState) (old new : PlantState) (result : Result (Unit {0}) StoreError) : Type 0 where
@@ -253,9 +253,9 @@ pub record Moved (tells : Type 0) (seat next : MoverSeatState) (site after : Sit
   pub entries : LogsEntriesOf site.told (deeds_of steps)
   pub makes : Makes site (map as_answer gained) (deeds_of steps)
   pub all : OnOk result (MakesAll site after (map as_answer gained) (deeds_of steps))
-  pub behind : OnOk result (IsLeftBehind site after (deeds_of steps))
+  pub is_left : OnOk result (IsLeftAfter site after (deeds_of steps))
   pub owed : OnOk result (OwesExactly site.told after.told (map as_answer gained) (deeds_of steps))
-  pub due : OnOk result (is_mark_due after ≡ is_mark_due_behind (is_mark_due site) (deeds_of steps))
+  pub due : OnOk result (is_mark_due after ≡ is_mark_due_after (is_mark_due site) (deeds_of steps))
   pub begins : tells → BeginsAll site (deeds_of steps) old new
   pub did : tells → OnOk result (DidAll site after (deeds_of steps) old new)
 
@@ -271,7 +271,7 @@ abbrev pub AreHitsToldBy : SiteState → List DeedOfChanges → (left : (device 
 AreHitsToldBy site steps left old new =
     (d : ℕ) → new.faults (Volume d) < most_faults → hit_count d (changes_of steps) + old.faults (Volume d) + left d ≤ new.faults (Volume d) + untold_hits site d
 
--- The rows behind quiet deeds, whose time is the one before them.
+-- The rows after quiet deeds, whose time is the one before them.
 pub record IsQuiet (site after : SiteState) (deeds : List Deed) : Type 0 where
   pub suspends : AreQuiet site.time site.told deeds after.told
   pub time : after.time ≡ site.time
@@ -289,8 +289,8 @@ pub record SiteMoved (tells : Type 0) (site after : SiteState) (old new : PlantS
   pub counted_all : OnOk result (AreHitsToldBy site steps (untold_hits after) old new)
   pub quiet : (next : List PairRow) × AreQuiet site.time site.told (deeds_of steps) next
   pub all : OnOk result (IsQuiet site after (deeds_of steps))
-  pub behind : OnOk result (IsLeftBehind site after (deeds_of steps))
-  pub due : OnOk result (is_mark_due after ≡ is_mark_due_behind (is_mark_due site) (deeds_of steps))
+  pub is_left : OnOk result (IsLeftAfter site after (deeds_of steps))
+  pub due : OnOk result (is_mark_due after ≡ is_mark_due_after (is_mark_due site) (deeds_of steps))
   pub begins : tells → BeginsAll site (deeds_of steps) old new
   pub did : tells → OnOk result (DidAll site after (deeds_of steps) old new)
 

@@ -35,7 +35,7 @@ forms_among answers = count_by (λ answer. is_form answer.call) answers
 
 -- Calls use up at most so many numbers of records and of marks. They answer Spent only where the greatest number is that near.
 pub record UsesUpTo (records marks : ℕ) (site after : SiteState) (result : Result (Unit {0}) StoreError) : Type 0 where
-  pub behind : OnOk result ((after.at.number ≤ site.at.number + records) × (after.mark.number ≤ site.mark.number + marks))
+  pub within : OnOk result ((after.at.number ≤ site.at.number + records) × (after.mark.number ≤ site.mark.number + marks))
   pub spent : IsErrOf result Spent → (most ≤ site.at.number + records) ⊎ (most ≤ site.mark.number + marks)
 
 -- Calls of the mover with so many forms use up at most so many.
@@ -53,7 +53,7 @@ UsesNumbersOf answers site after result = UsesUpTo (4 * forms_among answers) (3 
 
 -- ---- spent numbers
 
--- The next record would need a number behind the greatest, with the switch that it may need, or the next mark would. The devices tell these
+-- The next record would need a number after the greatest, with the switch that it may need, or the next mark would. The devices tell these
 -- numbers, since every crash leaves the site.
 pub record IsSiteSpent (tells : Type 0) (site : SiteState) (plant : PlantState) : Type 0 where
   pub at_end : (most ≤ site.at.number) ⊎ (site.mark.number ≡ most)

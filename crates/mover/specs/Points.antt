@@ -1,4 +1,4 @@
--- Deeds on the way to a line's time, each with its changes of rows, and the points that are meant behind them.
+-- Deeds on the way to a line's time, each with its changes of rows, and the points that are meant after them.
 use Rattle.std.specs.Prelude.{◌≡◌, ℕ, List, [], ◌∷◌, Bool, true, Option, IsTrue}
 use Rattle.pair_table.specs.declared.level.Level.{Level}
 use Rattle.row_changes.specs.Changes.{Due}
@@ -13,7 +13,7 @@ use Rattle.consistency.specs.Ways.Way.{OnTheWay}
 
 -- ---- points
 
--- the point behind a deed: the time and the rows that are meant then, and what its changes leave due
+-- the point after a deed: the time and the rows that are meant then, and what its changes leave due
 abbrev pub point_by : Level → Point → DeedOfChanges → Point
 point_by level p step = record {
   time = time_by_deed p.time step.deed;
@@ -22,9 +22,9 @@ point_by level p step = record {
   is_ended = p.is_ended;
 }
 
-abbrev pub point_behind : Level → Point → List DeedOfChanges → Point
-point_behind level p [] = p
-point_behind level p (step ∷ steps) = point_behind level (point_by level p step) steps
+abbrev pub point_after_deeds : Level → Point → List DeedOfChanges → Point
+point_after_deeds level p [] = p
+point_after_deeds level p (step ∷ steps) = point_after_deeds level (point_by level p step) steps
 
 -- the points of the first of these deeds, each at one of the moments
 abbrev pub points_by : Level → Point → (moments : List ℕ) → List DeedOfChanges → List PassedPoint
@@ -35,13 +35,13 @@ points_by level p (t ∷ moments) (step ∷ steps) =
 
 -- ---- steps
 
--- Behind a record nothing is due. A mark leaves the session's flag.
+-- After a record nothing is due. A mark leaves the session's flag.
 abbrev pub LeavesSo : (is_ended : Bool) → Due → Deed → Type 0
 LeavesSo flag due (Logged cut entries rows) = due ≡ NoneDue
 LeavesSo flag due (Changed time rows) = due ≡ NoneDue
 LeavesSo flag due (Marked spot ended rows) = ended ≡ flag
 
--- A deed is a step from a point: its changes lead to the point behind it, at the time that is meant there.
+-- A deed is a step from a point: its changes lead to the point after it, at the time that is meant there.
 pub record IsStep (level : Level) (breaks : List (Option ℕ)) (p : Point) (step : DeedOfChanges) : Type 0 where
   pub leads : Leads level breaks p (point_by level p step) step.changes
   pub together : IsTrue (are_at_time (time_by_deed p.time step.deed) step.changes)

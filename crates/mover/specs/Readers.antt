@@ -9,7 +9,7 @@ use Rattle.group_state.specs.Controls.{ControlState}
 use Rattle.group_state.specs.Groups.{control_at, new_group}
 use Rattle.fed_logs.specs.declared.reading.Reading.{Reading}
 use Rattle.fed_logs.specs.LaneFeeds.{FeedState}
-use Rattle.fed_logs.specs.Tellers.{TellerState}
+use Rattle.fed_logs.specs.Reporters.{ReporterState}
 use Rattle.turn_group.specs.Calls.{as_answer}
 use Rattle.turn_group.specs.Seats.{ReaderSeatState, TurnState}
 
@@ -25,7 +25,7 @@ pub record LaneReaderState : Type 0 where
 abbrev pub is_of_header : List VolumeHead → Volume → Bool
 is_of_header heads u = nat_lt u.number (length heads) && length u.map == TRACKS_OF_CYLINDER * cylinders_of heads u.number
 
--- Each volume that a control carries or keeps a map of has there as many tracks as the header of its trace gives it.
+-- Each volume that a controller carries or keeps a map of has there as many tracks as the header of its trace gives it.
 abbrev pub IsOfHeader : List VolumeHead → ControlState → Type 0
 IsOfHeader heads c = IsTrue (list_all (is_of_header heads) c.volumes)
 
@@ -34,18 +34,18 @@ IsOfHeader heads c = IsTrue (list_all (is_of_header heads) c.volumes)
 abbrev pub no_table : TurnState
 no_table = record { table = record { words = 0; slots = 0; views_name = 0; atom = 0; block = 0; offset = 0; slot_names = [] }; first = new_group 0 0 0 }
 
--- A seat is at a table, and the volumes there are those of its control's trace.
+-- A seat is at a table, and the volumes there are those of its controller's trace.
 pub record SitsAt (at : TurnState) (heads : List VolumeHead) (seat : ReaderSeatState) : Type 0 where
   pub here : seat.table ≡ at.table
   pub begun : seat.first ≡ at.first
   pub sized : IsOfHeader heads (control_at at.first seat.control)
 
--- A seat as what a feed tells, whose trace has these volumes.
-abbrev pub teller_of : List VolumeHead → ReaderSeatState → TellerState
-teller_of heads seat = record {
+-- A seat as what a feed reports, whose trace has these volumes.
+abbrev pub reporter_of : List VolumeHead → ReaderSeatState → ReporterState
+reporter_of heads seat = record {
   control = seat.control;
   volumes = heads;
   floor = seat.floor.0;
-  telling = seat.telling;
+  reporting = seat.reporting;
   answers = map as_answer seat.calls;
 }

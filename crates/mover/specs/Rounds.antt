@@ -22,18 +22,18 @@ use Rattle.mover.specs.Lanes.{AllLanesRead, BreaksInRound, HasFaultFrom, IsReade
 
 -- ---- before
 
--- There is a lane for each control, and lane k is control k's.
+-- There is a lane for each controller, and lane k is controller k's.
 pub record AreLanesOf {S : Type 0} (first : Group) (limit : ℕ) (lanes : List (Lane S)) : Type 0 where
   pub many : length lanes ≡ length first.controls
   pub each : (k : ℕ) (d : Lane S) → k < length lanes → IsSomeAnd (slice_index_or lanes k d).reader (IsReaderOf first k limit)
 
--- The seats are all of a table that was just made, without calls. A group state has few controls.
+-- The seats are all of a table that was just made, without calls. A group state has few controllers.
 pub record AreNewSeats (at : TurnState) (mover : MoverSeatState) (readers : List (Option ReaderSeatState)) : Type 0 where
   pub few : length at.first.controls ≤ MOST_CONTROLS
   pub mover_is : mover ≡ new_mover at.table at.first (length at.first.controls + 1)
   pub readers_are : readers ≡ new_readers at.table at.first (length at.first.controls)
 
--- ---- behind
+-- ---- after
 
 -- What a lane's reader did in the turns of its seat: its calls read on, each as far towards the limit as its trace lets it.
 pub record Read {S : Type 0} (left : S → Option (List ℕ)) (faults : S → ℕ) (limit : ℕ) (seat : Option ReaderSeatState) (old new : Lane S) (was is : LaneReaderState) : Type 0 where
@@ -45,7 +45,7 @@ pub record Read {S : Type 0} (left : S → Option (List ℕ)) (faults : S → �
   pub within : is.feed.side.upto ≤ limit
   pub stands : StandsLast is.last limit is.feed
 
--- Each lane's reader read on by the calls of the seat at its control's place.
+-- Each lane's reader read on by the calls of the seat at its controller's place.
 pub record AllRead {S : Type 0} (left : S → Option (List ℕ)) (faults : S → ℕ) (limit : ℕ) (seats : List (Option ReaderSeatState)) (old new : List (Lane S)) : Type 0 where
   pub each : (k : ℕ) (d : Lane S) → k < length old → let a = slice_index_or old k d in let b = slice_index_or new k d in
       IsSomeAnd a.reader (λ was. IsSomeAnd b.reader (Read left faults limit (seat_at seats k) a b was))
@@ -77,7 +77,7 @@ store_result ends.Reached = Ok tt
 store_result (ends.Store error) = Err error
 store_result ends.NoMemory = Ok tt
 
--- All seats are back in their places, at their table: one for each control of the state that it was made with.
+-- All seats are back in their places, at their table: one for each controller of the state that it was made with.
 pub record SeatsAreBack (at : TurnState) (mover : MoverSeatState) (readers : List (Option ReaderSeatState)) : Type 0 where
   pub mover_at : mover.table ≡ at.table
   pub begun : mover.first ≡ at.first

@@ -1,4 +1,5 @@
--- Breaks that change no row. Where no live row is a control's, the control's break is no change of the group that reports it. It may be named there.
+-- Breaks that change no row. Where no live row is a controller's, the controller's break is no change of the group that reports it. It may be named
+-- there.
 use Rattle.std.specs.Prelude.{ℕ, suc, ◌==◌, ◌&&◌, ◌||◌, ◌++◌, not, List, [], ◌∷◌, map, Bool, Option, nat_lt, if◌then◌else◌}
 use Rattle.std.specs.List.{list_all}
 use Rattle.pair_table.specs.declared.row.PairRow.{PairRow}
@@ -9,18 +10,18 @@ use Rattle.record_rows.specs.Deeds.{Deed}
 use Rattle.record_rows.specs.Deeds.Deed.{Logged, Changed, Marked}
 use Rattle.site_store.specs.DeedChanges.{DeedOfChanges}
 
--- whether no live row is a control's
+-- whether no live row is a controller's
 abbrev pub has_none_live : (control : ℕ) → List PairRow → Bool
 has_none_live k rows = list_all (λ r. not (r.control == k) || is_suspended r.state) rows
 
 abbrev pub breaking_at : (time control : ℕ) → Timed
 breaking_at time k = record { time = time; change = Break k }
 
--- the break of a control at its time below a limit, where no live row is the control's
+-- the break of a controller at its time below a limit, where no live row is the controller's
 abbrev pub silent_at : (limit time control : ℕ) → Option ℕ → List PairRow → List Timed
 silent_at limit time k b rows = if is_at time b && (nat_lt time limit && has_none_live k rows) then breaking_at time k ∷ [] else []
 
--- the same of each control, from one on
+-- the same of each controller, from one on
 abbrev pub silent_from : (limit time control : ℕ) → (breaks : List (Option ℕ)) → List PairRow → List Timed
 silent_from limit time k [] rows = []
 silent_from limit time k (b ∷ breaks) rows = silent_at limit time k b rows ++ silent_from limit time (suc k) breaks rows

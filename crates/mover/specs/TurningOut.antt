@@ -1,4 +1,4 @@
--- Traces over several epochs. How they turn out behind all of these tells how they turn out behind each.
+-- Traces over several epochs. How they turn out after all of these tells how they turn out after each.
 use Rattle.std.specs.Prelude.{◌≡◌, ℕ, ◌<◌, List, length, Option, IsSomeAnd, slice_index_or}
 use Rattle.write_trace.specs.declared.trace.Trace.{Trace}
 use Rattle.group_state.specs.Runs.{Answer}
@@ -25,7 +25,7 @@ AllMayGoOn {S} lanes = (k : ℕ) (d : Lane S) → k < length lanes → IsSomeAnd
 abbrev pub LanesReadInTurn : {S : Type 0} → (left : S → Option (List ℕ)) → Type 0
 LanesReadInTurn {S} left = (old mid new : List (Lane S)) → AllReadOn left old mid → AllReadOn left mid new → AllReadOn left old new
 
--- Traces that turn out so behind both turn out so behind each, if no reader wanted memory between the two. Behind both one may.
+-- Traces that turn out so after both turn out so after each, if no reader wanted memory between the two. After both one may.
 abbrev pub TracesTurnOutInTurn : {S : Type 0} → (left : S → Option (List ℕ)) → Type 0
 TracesTurnOutInTurn {S} left =
     (traces : List Trace) (old mid new : List (Lane S)) → AllReadOn left old mid → AllMayGoOn mid → AllReadOn left mid new → AllTurnOut left traces old new

@@ -8,12 +8,12 @@ use Rattle.pair_table.specs.Tables.{are_below, none_clash}
 use Rattle.group_state.specs.Groups.{Group}
 use Rattle.group_state.specs.Runs.{Answer}
 use Rattle.row_changes.specs.Changes.{break_time_of}
-use Rattle.record_rows.specs.Deeds.{Deed, time_meant_behind}
+use Rattle.record_rows.specs.Deeds.{Deed, time_meant_after}
 use Rattle.site_means.specs.Images.{shape_of}
 use Rattle.xrc_command.specs.declared.line.Line.{Line}
 use Rattle.site_store.specs.DeedChanges.{DeedOfChanges, changes_of, deeds_of}
-use Rattle.site_store.specs.Exceptions.{Exceptions, excepted_behind}
-use Rattle.site_store.specs.Seeing.{SeesBehind}
+use Rattle.site_store.specs.Exceptions.{Exceptions, excepted_after}
+use Rattle.site_store.specs.Seeing.{SeesAfter}
 use Rattle.passages.specs.Points.{AreLinked, last_point}
 use Rattle.consistency.specs.Stages.{ScriptRun, Stage, breaks_of, tracks_of_row}
 use Rattle.fed_logs.specs.Feeds.{part_of_mover}
@@ -23,14 +23,14 @@ use Rattle.fed_logs.specs.Moves.{MakesAllDeeds, MakesDeeds, Plans}
 use Rattle.consistency.specs.Bearing.{GoesThroughPoints, MayBeMeant, ShowsPoint}
 use Rattle.consistency.specs.Leads.{Point, may_rest}
 use Rattle.consistency.specs.Ways.{ComesBy, ComesNext, HasCountedHits, IsLegOf, Leg, PassedPoint, Way, leg_after, leg_to}
-use Rattle.mover.specs.Points.{AreSteps, point_behind, points_by}
+use Rattle.mover.specs.Points.{AreSteps, point_after_deeds, points_by}
 use Rattle.mover.specs.SilentBreaks.{all_silent}
 use Rattle.mover.specs.OwedTracks.{CarriedAsLive, ExceptedAreOwed, FailedAreOwed, KeptHaveRows, held_by_choice}
 
 -- The work for a line's time, from a leg of a run's stage on.
 --   size: how many tracks each volume has
 --   excepted: the tracks of which no content is told at first
---   begun, ended: what readers and mover share before and behind the work, which goes from the one to the other by the log of their calls
+--   begun, ended: what readers and mover share before and after the work, which goes from the one to the other by the log of their calls
 --   done: the plans that are known to be done at first
 --   steps: the deeds that are kept of the mover's calls, each with its changes of rows
 pub record Work : Type 0 where
@@ -52,21 +52,21 @@ first_done n work = take n (deeds_of work.steps)
 
 -- the point, and the time, that is meant once so many of its deeds are done
 abbrev pub point_then : (n : ℕ) → Work → Point
-point_then n work = point_behind work.run.level work.leg.point (take n work.steps)
+point_then n work = point_after_deeds work.run.level work.leg.point (take n work.steps)
 
 abbrev pub time_then : (n : ℕ) → Work → ℕ
-time_then n work = time_meant_behind (first_done n work) work.leg.point.time
+time_then n work = time_meant_after (first_done n work) work.leg.point.time
 
--- the point behind all of its deeds, and the tracks of which no content is told then
+-- the point after all of its deeds, and the tracks of which no content is told then
 abbrev pub last_point_of : Work → Point
-last_point_of work = point_behind work.run.level work.leg.point work.steps
+last_point_of work = point_after_deeds work.run.level work.leg.point work.steps
 
 abbrev pub excepted_last : Work → Exceptions
-excepted_last work = excepted_behind work.leg.point.rows (deeds_of work.steps) work.excepted
+excepted_last work = excepted_after work.leg.point.rows (deeds_of work.steps) work.excepted
 
 -- A choice shows that so many of its deeds are done since a start.
 abbrev pub SeesFirst : PlantState → Work → (n : ℕ) → Choice → Type 0
-SeesFirst start work n c = SeesBehind start work.excepted work.leg.point.rows (first_done n work) c
+SeesFirst start work n c = SeesAfter start work.excepted work.leg.point.rows (first_done n work) c
 
 -- ---- what it begins with
 
@@ -145,7 +145,7 @@ ShowsLast run plant last (Some q) c = ShowsPoint run (shape_of plant) last c ⊎
 
 -- The work passes points, and one may be on its way. Each comes next on the way to the line's time, and each may be meant. The deeds are those
 -- of the work, with the changes by which the points come. The past of a plant that keeps one tells the points' moments.
---   comes_next: the one on its way comes next behind the others, if it isn't the last of these
+--   comes_next: the one on its way comes next after the others, if it isn't the last of these
 --   now: whatever a crash leaves now shows the last of the others, or the one on its way
 pub record PassesPoints (old new : PlantState) (work : Work) (asked : LinesAsked) (moments : List ℕ) (by : List DeedOfChanges) (next : Option Point) : Type 0 where
   pub same : deeds_of by ≡ deeds_of work.steps

@@ -2,7 +2,7 @@
 
 /// What each reader passes before its first handover of an epoch.
 pub trait Gate {
-    /// Lets the reader of a control pass, at once or after a while.
+    /// Lets the reader of a controller pass, at once or after a while.
     fn pass(&self, control: u16);
 }
 

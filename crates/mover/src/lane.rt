@@ -1,4 +1,4 @@
-//! A control's lane.
+//! A controller's lane.
 
 use crate::reader::Reader;
 use ckd_track::{Cause, Slot};
@@ -10,7 +10,7 @@ use std::alloc::Global;
 use tod_stamp::Stamp;
 use xrc_edge::NoMemory;
 
-/// A control's source, and the reader of its trace once that was started.
+/// A controller's source, and the reader of its trace once that was started.
 #[derive(Drop)]
 pub struct Lane<S> {
     pub source: S,
@@ -33,7 +33,7 @@ impl<S> Lane<S> {
     }
 
     /// Gives the lane its reader, once. The sidefile's reader was started on the lane's source, and the primary was made from the
-    /// header that came with it. The sidefile may have broken, and then its control tells no more; it didn't want memory.
+    /// header that came with it. The sidefile may have broken, and then its controller reports no more; it didn't want memory.
     pub fn open(&mut self, alloc: Global, side: Sidefile, primary: Primary) -> Result<(), NoMemory>
         requires closed { self.old.reader ≡ None }
         requires usable { side.halted ≡ Some halts.NoMemory → ⊥ }

@@ -13,7 +13,7 @@ pub fn epochs_bear<S: Source, P: Plant>(old: &P, new: &P)
     ensures reached { EpochsStandAgain P.tells S.left S.faults (P.state old.now) (P.state new.now) }
 {}
 
-/// Lanes that read on in two epochs read on in both together. How traces turn out behind both tells how they turn out behind each, if no lane
+/// Lanes that read on in two epochs read on in both together. How traces turn out after both tells how they turn out after each, if no lane
 /// wanted memory between the two.
 pub fn traces_turn_out_in_turn<S: Source>()
     ensures lanes { LanesReadInTurn S.left }

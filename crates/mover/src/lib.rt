@@ -1,4 +1,4 @@
-//! The epoch: readers of all controls beside the mover, which forms, journals and applies group after group, up to a limit.
+//! The epoch: readers of all controllers beside the mover, which forms, journals and applies group after group, up to a limit.
 //!
 //! What a crash's choice shows once some deeds of the work for a line are done bears the time that is meant then, by its rows, its tracks
 //! and its breaks together. No reader waits for the mover. No proof claims that a turn ever comes, or that readers and mover really run
@@ -17,7 +17,7 @@ mod pace;
 mod reader;
 mod reading;
 mod round;
-mod seat_teller;
+mod seat_reporter;
 mod seats;
 mod settling;
 mod spare;

@@ -3,14 +3,14 @@
 ghost use Rattle.std.specs.Prelude.{◌≡◌, ◌≤◌, ◌<◌, None, All};
 ghost use Rattle.pending_queue.specs.declared.room.Room.{Room as RoomIs};
 ghost use Rattle.fed_logs.specs.declared.reading.Reading.TheVariants as readings;
-ghost use Rattle.fed_logs.specs.Tellers.{IsToldBy, StandsAs, HasFaultBy};
-ghost use Rattle.mover.specs.Readers.{SitsAt, teller_of};
-ghost use Rattle.mover.specs.Lanes.{AllLanesRead, AreLastCopies, AreLastOf, DidAllParts, DidLanePart, DidPart, EndsIn, IsRefusal, LaneReads, MayLaneRead, MayRead, ReadsInRound, SeatCopies, SeatTakesLimit, SeatTells, Sits, answers_at};
+ghost use Rattle.fed_logs.specs.Reporters.{IsToldBy, StandsAs, HasFaultBy};
+ghost use Rattle.mover.specs.Readers.{SitsAt, reporter_of};
+ghost use Rattle.mover.specs.Lanes.{AllLanesRead, AreLastCopies, AreLastOf, DidAllParts, DidLanePart, DidPart, EndsIn, IsRefusal, LaneReads, MayLaneRead, MayRead, ReadsInRound, SeatCopies, SeatReports, SeatTakesLimit, Sits, answers_at};
 
 use crate::gate::Gate;
 use crate::lane::Lane;
 use crate::reader::Reader;
-use crate::seat_teller::{SeatTeller, Sitting};
+use crate::seat_reporter::{SeatReporter, Sitting};
 use ckd_track::Slot;
 use fed_logs::{Feed, Reading};
 use group_state::CopyJoin;
@@ -25,26 +25,26 @@ use xrc_edge::Source;
 
 /// Reads on until the feed has nothing to join up to the limit: the batch that is held is joined first.
 fn read_on<W: Wait, S: Source, B: Sitting>(
-    teller: &mut SeatTeller<'_, W, B>,
+    reporter: &mut SeatReporter<'_, W, B>,
     alloc: Global,
     source: &mut S,
     feed: &mut Feed,
     limit: Stamp,
 ) -> Reading
-    requires told { IsToldBy feed.old (teller_of B.volumes teller.old.seat) }
+    requires told { IsToldBy feed.old (reporter_of B.volumes reporter.old.seat) }
     requires limit { feed.old.side.upto ≤ limit.0 }
-    ensures reads { SeatTells B.volumes (S.left source.old) (S.left source.new) feed.old feed.new teller.old.seat teller.new.seat }
-    ensures takes { SeatTakesLimit B.volumes limit.0 (S.left source.old) (S.left source.new) feed.old feed.new teller.old.seat teller.new.seat }
-    ensures told { IsToldBy feed.new (teller_of B.volumes teller.new.seat) }
+    ensures reads { SeatReports B.volumes (S.left source.old) (S.left source.new) feed.old feed.new reporter.old.seat reporter.new.seat }
+    ensures takes { SeatTakesLimit B.volumes limit.0 (S.left source.old) (S.left source.new) feed.old feed.new reporter.old.seat reporter.new.seat }
+    ensures told { IsToldBy feed.new (reporter_of B.volumes reporter.new.seat) }
     ensures within { feed.new.side.upto ≤ limit.0 }
     ensures stands { StandsAs result limit.0 feed.new }
     ensures fault { feed.old.halted ≡ None → HasFaultBy (S.faults source.old) (S.faults source.new) feed.new.halted }
     ensures ends { result ≡ readings.Joined → ⊥ }
-    ensures refused { (room : RoomIs) → result ≡ readings.Held room → EndsIn (IsRefusal room feed.new) (answers_at teller.old.seat) (answers_at teller.new.seat) }
+    ensures refused { (room : RoomIs) → result ≡ readings.Held room → EndsIn (IsRefusal room feed.new) (answers_at reporter.old.seat) (answers_at reporter.new.seat) }
 {
-    let rt = teller.rt;
+    let rt = reporter.rt;
     for _ in rt.forever() {
-        match feed.read_once(alloc, source, teller, limit) {
+        match feed.read_once(alloc, source, reporter, limit) {
             Reading::Joined => {}
             reading => return reading,
         }
@@ -53,16 +53,20 @@ fn read_on<W: Wait, S: Source, B: Sitting>(
 }
 
 /// Copies wanted tracks, each as it is at the floor, until none is wanted or there is no room.
-fn copy_all<W: Wait, B: Sitting>(teller: &mut SeatTeller<'_, W, B>, feed: &Feed, slot: &mut Slot)
+fn copy_all<W: Wait, B: Sitting>(
+    reporter: &mut SeatReporter<'_, W, B>,
+    feed: &Feed,
+    slot: &mut Slot,
+)
     requires goes_on { feed.now.halted ≡ None }
-    requires told { IsToldBy feed.now (teller_of B.volumes teller.old.seat) }
-    ensures told { IsToldBy feed.now (teller_of B.volumes teller.new.seat) }
-    ensures copies { SeatCopies B.volumes feed.now teller.old.seat teller.new.seat }
-    ensures ends { EndsIn (AreLastCopies feed.now.side.control feed.now) (answers_at teller.old.seat) (answers_at teller.new.seat) }
+    requires told { IsToldBy feed.now (reporter_of B.volumes reporter.old.seat) }
+    ensures told { IsToldBy feed.now (reporter_of B.volumes reporter.new.seat) }
+    ensures copies { SeatCopies B.volumes feed.now reporter.old.seat reporter.new.seat }
+    ensures ends { EndsIn (AreLastCopies feed.now.side.control feed.now) (answers_at reporter.old.seat) (answers_at reporter.new.seat) }
 {
-    let rt = teller.rt;
+    let rt = reporter.rt;
     for _ in rt.forever() {
-        let Some(copied) = feed.copy_once(teller, slot) else {
+        let Some(copied) = feed.copy_once(reporter, slot) else {
             return;
         };
         if let CopyJoin::Held(_) = copied {
@@ -73,26 +77,26 @@ fn copy_all<W: Wait, B: Sitting>(teller: &mut SeatTeller<'_, W, B>, feed: &Feed,
 
 /// Reads on, and copies what is wanted at the limit.
 fn read_and_copy<W: Wait, S: Source, B: Sitting>(
-    teller: &mut SeatTeller<'_, W, B>,
+    reporter: &mut SeatReporter<'_, W, B>,
     alloc: Global,
     source: &mut S,
     feed: &mut Feed,
     slot: &mut Slot,
     limit: Stamp,
 ) -> Reading
-    requires told { IsToldBy feed.old (teller_of B.volumes teller.old.seat) }
+    requires told { IsToldBy feed.old (reporter_of B.volumes reporter.old.seat) }
     requires limit { feed.old.side.upto ≤ limit.0 }
-    ensures reads { SeatTells B.volumes (S.left source.old) (S.left source.new) feed.old feed.new teller.old.seat teller.new.seat }
-    ensures takes { SeatTakesLimit B.volumes limit.0 (S.left source.old) (S.left source.new) feed.old feed.new teller.old.seat teller.new.seat }
-    ensures told { IsToldBy feed.new (teller_of B.volumes teller.new.seat) }
+    ensures reads { SeatReports B.volumes (S.left source.old) (S.left source.new) feed.old feed.new reporter.old.seat reporter.new.seat }
+    ensures takes { SeatTakesLimit B.volumes limit.0 (S.left source.old) (S.left source.new) feed.old feed.new reporter.old.seat reporter.new.seat }
+    ensures told { IsToldBy feed.new (reporter_of B.volumes reporter.new.seat) }
     ensures within { feed.new.side.upto ≤ limit.0 }
     ensures stands { StandsAs result limit.0 feed.new }
     ensures fault { feed.old.halted ≡ None → HasFaultBy (S.faults source.old) (S.faults source.new) feed.new.halted }
-    ensures ends { EndsIn (AreLastOf result feed.new.side.control feed.new) (answers_at teller.old.seat) (answers_at teller.new.seat) }
+    ensures ends { EndsIn (AreLastOf result feed.new.side.control feed.new) (answers_at reporter.old.seat) (answers_at reporter.new.seat) }
 {
-    let reading = read_on(teller, alloc, source, feed, limit);
+    let reading = read_on(reporter, alloc, source, feed, limit);
     if let Reading::AtLimit = reading {
-        copy_all(teller, feed, slot);
+        copy_all(reporter, feed, slot);
     }
     reading
 }
@@ -110,30 +114,30 @@ fn read_with_seat<W: Wait, S: Source, B: Sitting>(
 ) -> (Reading, ReaderSeat, bool)
     requires table { group.now ≡ B.table }
     requires sits { SitsAt B.table B.volumes seat }
-    requires told { IsToldBy feed.old (teller_of B.volumes seat) }
+    requires told { IsToldBy feed.old (reporter_of B.volumes seat) }
     requires limit { feed.old.side.upto ≤ limit.0 }
-    ensures reads { SeatTells B.volumes (S.left source.old) (S.left source.new) feed.old feed.new seat result.1 }
+    ensures reads { SeatReports B.volumes (S.left source.old) (S.left source.new) feed.old feed.new seat result.1 }
     ensures takes { SeatTakesLimit B.volumes limit.0 (S.left source.old) (S.left source.new) feed.old feed.new seat result.1 }
     ensures sits { SitsAt B.table B.volumes result.1 }
-    ensures told { IsToldBy feed.new (teller_of B.volumes result.1) }
+    ensures told { IsToldBy feed.new (reporter_of B.volumes result.1) }
     ensures within { feed.new.side.upto ≤ limit.0 }
     ensures stands { StandsAs result.0 limit.0 feed.new }
     ensures fault { feed.old.halted ≡ None → HasFaultBy (S.faults source.old) (S.faults source.new) feed.new.halted }
     ensures ends { EndsIn (AreLastOf result.0 feed.new.side.control feed.new) (answers_at seat) (answers_at result.1) }
 {
-    let mut teller: SeatTeller<'_, W, B> = SeatTeller {
+    let mut reporter: SeatReporter<'_, W, B> = SeatReporter {
         rt,
         group,
         seat,
         has_copied: false,
         sitting: PhantomData,
     };
-    let reading = read_and_copy(&mut teller, alloc, source, feed, slot, limit);
-    let SeatTeller {
+    let reading = read_and_copy(&mut reporter, alloc, source, feed, slot, limit);
+    let SeatReporter {
         seat,
         has_copied,
         ..
-    } = teller;
+    } = reporter;
     (reading, seat, has_copied)
 }
 

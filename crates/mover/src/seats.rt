@@ -7,7 +7,7 @@ ghost use Rattle.mover.specs.Lanes.{GivesSeat, HasFreePlace, HasReader, HasSeatO
 use crate::lane::Lane;
 use turn_group::SeatList;
 
-/// Hands a lane's reader the seat of its control.
+/// Hands a lane's reader the seat of its controller.
 fn take_seat<S>(lane: &mut Lane<S>, seats: &mut SeatList, control: u16)
     requires reader { HasReader lane.old }
     ensures takes { LaneTakesSeat seats.old control lane.old lane.new }
@@ -19,7 +19,7 @@ fn take_seat<S>(lane: &mut Lane<S>, seats: &mut SeatList, control: u16)
     }
 }
 
-/// Hands each lane's reader the seat of its control.
+/// Hands each lane's reader the seat of its controller.
 pub(crate) fn hand_out<S>(lanes: &mut [Lane<S>], seats: &mut SeatList)
     requires few { length lanes.old ≤ MOST_CONTROLS }
     requires readers { (k : ℕ) (d : _) → k < length lanes.old → HasReader (slice_index_or lanes.old k d) }
@@ -32,7 +32,7 @@ pub(crate) fn hand_out<S>(lanes: &mut [Lane<S>], seats: &mut SeatList)
     }
 }
 
-/// Puts the seat of a lane's reader back at its control's place.
+/// Puts the seat of a lane's reader back at its controller's place.
 fn give_seat<S>(lane: &mut Lane<S>, seats: &mut SeatList)
     requires seated { HasFreePlace seats.old lane.old }
     ensures gives { GivesSeat seats.old seats.new lane.old lane.new }

@@ -103,7 +103,7 @@ fn keep<R: Threads + Sync, P: Plant>(
     site.mark(rt, plant, false)
 }
 
-/// Brings the site to rest behind its last group. Volumes whose pairs are suspended by it are dropped.
+/// Brings the site to rest after its last group. Volumes whose pairs are suspended by it are dropped.
 pub(crate) fn settle<R: Threads + Wait + Sync, P: Plant>(
     rt: &R,
     group: &TurnGroup,

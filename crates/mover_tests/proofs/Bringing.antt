@@ -20,7 +20,7 @@ use Rattle.xrc_session.proofs.JoinsLogs.{epochs_rest}
 use Rattle.mover_tests.specs.Courses.{MayCommandCourse, MayGoTo}
 use Rattle.mover_tests.proofs.Homes.{labels_still}
 
--- What holds of a row in whatever state holds of the rows behind an epoch.
+-- What holds of a row in whatever state holds of the rows after an epoch.
 pass_places : (test : PairRow → Bool) → ((state : PairState) (r : PairRow) → test (in_state state r) ≡ test r) → (rows next : List PairRow) → InPlaces IsSamePair rows next → list_all test next ≡ list_all test rows
 pass_places test stays [] [] are = refl
 pass_places test stays [] (s ∷ next) are = absurd are
@@ -35,7 +35,7 @@ module _ (names : Naming) (limit : ℕ) (site after : SiteState) (at : IsAtTime 
   may_do_then : MayDo names site → MayDo names after
   may_do_then may = record {
     command = record { named = passes (has_named_primary names) (λ state r. refl) ∙ may.command.named; below = passes (λ r. nat_lt r.device most_rows) (λ state r. refl) ∙ may.command.below };
-    started = ap (λ (t : Table). t.is_started) at.behind.table ∙ may.started;
+    started = ap (λ (t : Table). t.is_started) at.is_left.table ∙ may.started;
     labels = ap (λ (n : ℕ). list_all (λ label. nat_lt label.device n) names.labels) count ∙ may.labels;
     rows = ap (λ (n : ℕ). are_below n after.table.rows) count ∙ passes (λ r. nat_lt r.device (length site.failed)) (λ state r. refl) ∙ may.rows;
   }

@@ -19,15 +19,15 @@ use Rattle.pair_table.specs.Commands.{has_named_primary, is_volume_of}
 use Rattle.pair_table.specs.Naming.{Naming}
 use Rattle.pair_table.specs.Tables.{AreRowsSound, Table}
 use Rattle.group_state.specs.declared.phase.Phase.{Phase}
-use Rattle.group_state.specs.declared.phase.Phase.TheVariants.{Telling, Broken, Reported}
-use Rattle.group_state.specs.Controls.{counts, is_telling}
+use Rattle.group_state.specs.declared.phase.Phase.TheVariants.{Unbroken, Broken, Reported}
+use Rattle.group_state.specs.Controls.{counts, is_reporting}
 use Rattle.group_state.specs.Groups.{Group, control_at}
 use Rattle.record_rows.specs.Hits.{hit_now, rows_hit}
 use Rattle.record_rows.specs.Records.{rows_with_hits}
 use Rattle.xrc_journal.specs.Items.{Item}
 use Rattle.site_store.specs.IdleSites.{IsSiteIdle}
 use Rattle.site_store.specs.Changing.{LogsChange, MayChange, changed_items}
-use Rattle.site_store.specs.Commands.{IsToLog, MayDo, behind_command}
+use Rattle.site_store.specs.Commands.{IsToLog, MayDo, after_command}
 use Rattle.site_store.specs.Sites.{SiteState}
 use Rattle.site_store.specs.Standing.{Leaves}
 use Rattle.mover.specs.declared.lane.Lane.{Lane}
@@ -38,9 +38,9 @@ use Rattle.xrc_session.specs.CarriedLaws.{BegunControlsCount}
 use Rattle.xrc_session.specs.Joins.{AreNamedOfLanes, IsTakenOver, RestsAt}
 use Rattle.xrc_session.specs.Taking.{IsSoundForRows, MayTake, after_calls, calls_of_change}
 use Rattle.xrc_session.proofs.Commanded.{commands_may_be_taken}
-use Rattle.xrc_session.proofs.JoinsCommands.{rests_behind}
+use Rattle.xrc_session.proofs.JoinsCommands.{rests_after}
 use Rattle.xrc_session.proofs.JoinsRows.{some_of}
-use Rattle.xrc_session.proofs.RestingSites.{commands_come_behind_changes, commands_may_be_logged, idle_behind_changes, told_behind_changes, told_behind_commands}
+use Rattle.xrc_session.proofs.RestingSites.{commands_come_after_changes, commands_may_be_logged, idle_after_changes, told_after_changes, told_after_commands}
 use Rattle.mover_tests.specs.Commands.{IsCommandAnswered}
 use Rattle.mover_tests.specs.Courses.{AreAtLimit, AreUnbroken, MayCommandCourse, MayGoTo}
 use Rattle.mover_tests.proofs.Homes.{labels_still}
@@ -54,12 +54,12 @@ taken_next [] place r at = absurd cc
 taken_next (t ∷ rows) zero r at = ap (λ (x : PairRow). x ∷ []) (sym (same_Some t r at))
 taken_next (t ∷ rows) (suc place) r at = ap (λ (xs : List PairRow). t ∷ xs) (taken_next rows place r at)
 
--- ---- controls that tell
+-- ---- controllers that report
 
-counts_telling : (phase : Phase) → is_telling phase ≡ true → counts phase ≡ true
-counts_telling Telling is = refl
-counts_telling (Broken cause) is = absurd cc
-counts_telling Reported is = absurd cc
+counts_reporting : (phase : Phase) → is_reporting phase ≡ true → counts phase ≡ true
+counts_reporting Unbroken is = refl
+counts_reporting (Broken cause) is = absurd cc
+counts_reporting Reported is = absurd cc
 
 -- A reader that hasn't broken reads on.
 pub reads_on : (s : Group) (k limit : ℕ) (r : LaneReaderState) → IsReaderOf s k limit r → broken_in r.feed.halted ≡ None → r.feed.halted ≡ None
@@ -70,17 +70,17 @@ reads_on s k limit r reader none = by_halt r.feed.halted refl
     by_halt (Some (halts.Broken cause upto)) is = absurd (let e : Some (upto, cause) ≡ None = sym (ap broken_in is) ∙ none in cc e)
     by_halt (Some halts.NoMemory) is = absurd (reader.goes is)
 
--- So the control of a lane whose reader hasn't broken still tells.
-lane_tells : {S : Type 0} (s : Group) (limit : ℕ) (lanes : List (Lane S)) (k : ℕ) (d : Lane S) → AreLanesOf s limit lanes → AreUnbroken lanes → k < length lanes → is_telling (control_at s k).phase ≡ true
+-- So the controller of a lane whose reader hasn't broken still reports.
+lane_tells : {S : Type 0} (s : Group) (limit : ℕ) (lanes : List (Lane S)) (k : ℕ) (d : Lane S) → AreLanesOf s limit lanes → AreUnbroken lanes → k < length lanes → is_reporting (control_at s k).phase ≡ true
 lane_tells s limit lanes k d are whole low = of (slice_index_or lanes k d).reader (are.each k d low) (whole k d low)
   where
-    of : (o : Option LaneReaderState) → IsSomeAnd o (IsReaderOf s k limit) → broken_by o ≡ None → is_telling (control_at s k).phase ≡ true
+    of : (o : Option LaneReaderState) → IsSomeAnd o (IsReaderOf s k limit) → broken_by o ≡ None → is_reporting (control_at s k).phase ≡ true
     of None is none = absurd is
-    of (Some r) is none = is.telling (reads_on s k limit r is none)
+    of (Some r) is none = is.reporting (reads_on s k limit r is none)
 
 -- ---- rows that a change makes pending
 
--- A row whose primary is named is of a control that there is.
+-- A row whose primary is named is of a controller that there is.
 row_within : {S : Type 0} (lanes : List (Lane S)) (names : Naming) (r : PairRow) → 0 < length lanes → AreNamedOfLanes lanes names → has_named_primary names r ≡ true → r.control < length lanes
 row_within lanes names r some are named =
     let n = some_of (is_volume_of r) names.primaries named in
@@ -94,9 +94,9 @@ module _ {S : Type 0} (lanes : List (Lane S)) (names : Naming) (s : Group) (limi
   all_count : (change : Change) (rows : List PairRow) → list_all (has_named_primary names) rows ≡ true → BegunControlsCount s change rows
   all_count change rows all r among begun =
       let low = row_within lanes names r some named (ap (has_named_primary names) (sym among.2) ∙ AllPass-from_list_all (has_named_primary names) rows all among.0 r among.1) in
-      (omega (arith, low, are.many), counts_telling (control_at s r.control).phase (lane_tells s limit lanes r.control d are whole low))
+      (omega (arith, low, are.many), counts_reporting (control_at s r.control).phase (lane_tells s limit lanes r.control d are whole low))
 
--- ---- the rows behind the change
+-- ---- the rows after the change
 
 none_hit : (rows : List PairRow) → hit_now [] rows ≡ []
 none_hit [] = refl
@@ -109,7 +109,7 @@ logged_rows at change site next old was is logs = by_items (changed_items change
     by_items [] none = ([], ap (λ (t : SiteState). t.table.rows) (logs.nothing none).1 ∙ sym (ap (λ (hit : List ℕ). rows_hit site.level at hit site.table.rows) (none_hit site.table.rows)))
     by_items (i ∷ items) some =
         let rows = logs.rows (λ none. let clash : i ∷ items ≡ [] = sym some ∙ none in cc clash) in
-        (next.failed, ap (λ (t : SiteState). t.table.rows) rows.behind.next_is)
+        (next.failed, ap (λ (t : SiteState). t.table.rows) rows.after.next_is)
 
 -- ---- a command
 
@@ -137,7 +137,7 @@ module _ {S : Type 0} (tells : Type 0) (names : Naming) (command : Command) (cha
     pub may_take : AreUnbroken lanes → MayTake group change site.table.rows next.table.rows
     may_take whole =
         let after_it = logged_rows at change changed next old was is logs in
-        let table : changed.table ≡ (behind_command names answered.session command at change site).table = ap (λ (t : SiteState). t.table) answered.next_is in
+        let table : changed.table ≡ (after_command names answered.session command at change site).table = ap (λ (t : SiteState). t.table) answered.next_is in
         let all : list_all (has_named_primary names) changed.table.rows ≡ true = answered.again.command.named in
         subst (λ (rows : List PairRow). MayTake group change site.table.rows rows) (sym after_it.1)
         (subst (λ (t : Table). MayTake group change site.table.rows (rows_with_hits changed.level at after_it.0 t.rows)) (sym table)
@@ -157,29 +157,29 @@ module _ {S : Type 0} (tells : Type 0) (names : Naming) (command : Command) (cha
       may = may_log changed answered
 
       told : hit_now next.failed next.told ≡ []
-      told = told_behind_changes was is old at change changed next (Ok tt)
-          (subst (λ (t : SiteState). hit_now t.failed t.told ≡ []) (sym answered.next_is) (told_behind_commands names answered.session command at change site go.may.knows.told)) logs
+      told = told_after_changes was is old at change changed next (Ok tt)
+          (subst (λ (t : SiteState). hit_now t.failed t.told ≡ []) (sym answered.next_is) (told_after_commands names answered.session command at change site go.may.knows.told)) logs
 
       taken : IsTakenOver tells at change site.table.rows group end changed next old new was is
       taken = record { may = may; logs = logs; leaves = leaves; calls = calls; kept = kept; told = told }
 
       again : RestsAt tells at lanes end next new
       again =
-          rests_behind tells was is lanes old new names answered.session command change at group end site next go.commands.are_named (subst (MayDo names) answered.next_is answered.again) rest
+          rests_after tells was is lanes old new names answered.session command change at group end site next go.commands.are_named (subst (MayDo names) answered.next_is answered.again) rest
           (subst (λ (t : SiteState). IsTakenOver tells at change site.table.rows group end t next old new was is) answered.next_is taken)
 
-      pub there_behind : AreAtLimit at lanes end next
-      there_behind = record { cut = again.cut; time = again.time; each = there.each }
+      pub there_after : AreAtLimit at lanes end next
+      there_after = record { cut = again.cut; time = again.time; each = there.each }
 
-      pub goes_behind : MayGoTo tells at names lanes end next new
-      goes_behind = record {
+      pub goes_after : MayGoTo tells at names lanes end next new
+      goes_after = record {
         are = again.lanes_of;
         may = again.begins;
         kept = again.kept;
         commands = record {
           are_named = go.commands.are_named;
-          may = commands_come_behind_changes was is old names at change changed next (Ok tt) answered.again count logs;
+          may = commands_come_after_changes was is old names at change changed next (Ok tt) answered.again count logs;
           labels = labels_still names old new same go.commands.labels;
-          same = (idle_behind_changes tells was is old new at change changed next (Ok tt) may leaves logs).same;
+          same = (idle_after_changes tells was is old new at change changed next (Ok tt) may leaves logs).same;
         };
       }

@@ -14,7 +14,7 @@ use Rattle.pair_table.specs.declared.row.PairRow.{PairRow}
 use Rattle.pair_table.specs.Naming.{Naming}
 use Rattle.xrc_edge.specs.declared.limits.TheConstants.{MOST_CONTROLS}
 use Rattle.tod_stamp.specs.declared.stamp.Stamp.{Stamp}
-use Rattle.group_state.specs.Controls.{ControlState, is_telling, new_control}
+use Rattle.group_state.specs.Controls.{ControlState, is_reporting, new_control}
 use Rattle.group_state.specs.Groups.{Group, control_at, new_controls, new_group}
 use Rattle.group_state.specs.Volumes.{passes, volume_of}
 use Rattle.group_state.proofs.GroupLaws.{length_new}
@@ -50,7 +50,7 @@ reader_is n records blocks k limit r low new =
       control = new.control;
       sized = subst (IsOfHeader (heads_of r.feed)) (sym there) refl;
       floor = λ goes. ap (λ (c : ControlState). c.floor.0) there ∙ sym new.time;
-      telling = λ goes. subst (λ (c : ControlState). IsTrue (is_telling c.phase)) (sym there) refl;
+      reporting = λ goes. subst (λ (c : ControlState). IsTrue (is_reporting c.phase)) (sym there) refl;
       broken = λ cause upto halted. absurd (let e : None ≡ Some (halts.Broken cause upto) = sym new.reads_on ∙ halted in cc e);
       within = omega (arith, new.upto);
       goes = λ lacks. absurd (let e : None ≡ Some halts.NoMemory = sym new.reads_on ∙ lacks in cc e);
@@ -68,7 +68,7 @@ new_lanes {S} n records blocks limit lanes many new = record {
 
 -- ---- lanes lent and given back
 
--- The items behind a loan of all are those that came back.
+-- The items after a loan of all are those that came back.
 pub taken_back : {A : Type 0} (len : ℕ) (items new : List A) → length new ≡ len → take len (new ++ drop (length new) items) ≡ new
 taken_back len items new is = ap (λ (n : ℕ). take n (new ++ drop (length new) items)) (sym is) ∙ take-append_seam new (drop (length new) items)
 

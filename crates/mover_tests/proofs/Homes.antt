@@ -1,4 +1,4 @@
--- What calls leave of a plant for the next ones: no volume is lent, and a site stands behind what is said.
+-- What calls leave of a plant for the next ones: no volume is lent, and a site stands after what is said.
 use Rattle.std.proofs.Common.{◌≡◌, ◌∙◌, ◌+◌, ◌*◌, ℕ, Bool, true, false, nat_lt, nat_le, ◌&&◌, List, [], ◌∷◌, length, Result, Ok, Err, refl, sym, ap, arith}
 use Rattle.std.specs.Prelude.{OnOk}
 use Rattle.std.specs.List.{list_all}

@@ -19,7 +19,7 @@ use Rattle.xrc_session.specs.Joins.{AreNamedOfLanes, IsNamedOfLane}
 
 -- ---- new lanes
 
--- A reader of a control that has handed over nothing.
+-- A reader of a controller that has handed over nothing.
 pub record IsNewReader (k : ℕ) (r : LaneReaderState) : Type 0 where
   pub control : r.feed.side.control ≡ k
   pub upto : r.feed.side.upto ≡ 0
@@ -29,11 +29,11 @@ pub record IsNewReader (k : ℕ) (r : LaneReaderState) : Type 0 where
 abbrev pub IsNewLane : {S : Type 0} → (control : ℕ) → Lane S → Type 0
 IsNewLane k lane = IsSomeAnd lane.reader (IsNewReader k)
 
--- Lane k is control k's.
+-- Lane k is controller k's.
 abbrev pub AreNewLanes : {S : Type 0} → List (Lane S) → Type 0
 AreNewLanes {S} lanes = (k : ℕ) (d : Lane S) → k < length lanes → IsNewLane k (slice_index_or lanes k d)
 
--- A volume that is named is one of a control's header.
+-- A volume that is named is one of a controller's header.
 pub record IsInHeader (control : ℕ) (heads : List VolumeHead) (v : NamedVolume) : Type 0 where
   pub control_is : v.control ≡ control
   pub within : v.volume < length heads

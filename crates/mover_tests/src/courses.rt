@@ -23,7 +23,7 @@ use test_fixtures::{failing, zeros};
 use tod_stamp::{Session, Stamp};
 use xrc_edge::Source;
 
-/// The bytes that a journal needs, and those of each control.
+/// The bytes that a journal needs, and those of each controller.
 const JOURNAL_FRONT: u64 = 8_192;
 
 const JOURNAL_OF_CONTROL: u64 = 1_818_624;
@@ -35,7 +35,7 @@ pub(crate) fn session(rt: &impl Abort) -> Session {
     Session::read(b"ABC").expect(rt, "a name")
 }
 
-/// A plant of zeros with the devices of so many controls, and with so many volumes of one cylinder.
+/// A plant of zeros with the devices of so many controllers, and with so many volumes of one cylinder.
 pub(crate) fn plant(rt: &impl Abort, alloc: Global, controls: u16, volumes: u16) -> PlainPlant
     ensures home { NoneLent (plain_state result) }
 {
@@ -57,7 +57,7 @@ pub(crate) fn failing_plant(
     failing(alloc, plain, fails).expect(rt, "memory")
 }
 
-/// The devices have the lengths and numbers that a site of so many controls needs.
+/// The devices have the lengths and numbers that a site of so many controllers needs.
 fn assert_lengths<P: Plant>(rt: &impl Abort, plant: &P, controls: u16)
     requires { NoneLent (P.state plant.now) }
     ensures { HasLengths controls (P.state plant.now) }

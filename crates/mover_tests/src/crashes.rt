@@ -1,4 +1,4 @@
-//! Crashes of a session whose readers and mover go on by steps: while a group is logged behind another, and while a pair is copied.
+//! Crashes of a session whose readers and mover go on by steps: while a group is logged after another, and while a pair is copied.
 
 ghost use Rattle.crash_plant.specs.Calls.{NoneLent};
 ghost use Rattle.mover_tests.specs.Courses.{AreAtLimit, MayGoTo};
@@ -23,7 +23,7 @@ use test_fixtures::bytes_of;
 use tod_stamp::Stamp;
 use xrc_edge::MemorySource;
 
-/// A session of one control and one volume that started at [50], at [60]: a pair was just added. From now on failures are counted.
+/// A session of one controller and one volume that started at [50], at [60]: a pair was just added. From now on failures are counted.
 fn at_sixty<R: Threads + Wait + Sync + Abort, P: Plant>(
     rt: &R,
     alloc: Global,
@@ -67,7 +67,7 @@ fn update(rt: &impl Abort, alloc: Global, content: &[u8]) -> Kind {
     }
 }
 
-/// Behind the copy and a group with the cut [6D], the batch of [64] with its time, a group with the cut [80] is logged.
+/// After the copy and a group with the cut [6D], the batch of [64] with its time, a group with the cut [80] is logged.
 fn log_two<R: Threads + Wait + Sync + Abort, P: Plant>(
     rt: &R,
     alloc: Global,
@@ -96,7 +96,7 @@ fn assert_one_of(rt: &impl Abort, left: &Left, times: &[u64]) {
     assert!(rt; left.held.slots[2] == EMPTY && left.held.slots[3] == slot(content));
 }
 
-/// Stopped at this call of the journal, or behind all of them, the time is one of these.
+/// Stopped at this call of the journal, or after all of them, the time is one of these.
 fn assert_stopped<R: Threads + Wait + Sync + Abort>(
     rt: &R,
     alloc: Global,
@@ -122,7 +122,7 @@ fn assert_stopped<R: Threads + Wait + Sync + Abort>(
 // sync, the write of its gate, and a sync.
 
 #[test]
-fn a_crash_at_a_gate_leaves_the_cut_before_or_behind_it(rt: HostRuntime) {
+fn a_crash_at_a_gate_leaves_the_cut_before_or_after_it(rt: HostRuntime) {
     let alloc = rt.alloc();
     for call in 10..13 {
         assert_stopped(&rt, alloc, call, false, &[0x6D]);

@@ -1,4 +1,4 @@
-//! The cut of two controls, of which one has told less than the other, by steps.
+//! The cut of two controllers, of which one has reported less than the other, by steps.
 
 ghost use Rattle.std.specs.Prelude.{◌≡◌, length};
 ghost use Rattle.crash_plant.specs.Calls.{NoneLent};
@@ -23,7 +23,7 @@ use std::thread::Threads;
 use tod_stamp::Stamp;
 use xrc_edge::MemorySource;
 
-/// What the first control's trace has, whose volume is paired.
+/// What the first controller's trace has, whose volume is paired.
 const FIRST: [Event; 2] = [Whole(0x10, 0, 0, *b"AB"), Whole(0x20, 0, 1, *b"CD")];
 
 /// What the second one's has.
@@ -71,7 +71,7 @@ fn assert_up_to(rt: &impl Abort, left: &Left, times: &[u64]) {
     assert!(rt; left.held.slots[2] == EMPTY);
 }
 
-/// A write of the first control's trace.
+/// A write of the first controller's trace.
 fn write(rt: &impl Abort, alloc: Global, stamp: u64, track: u32, content: [u8; 2]) -> Write {
     Write {
         volume: 0,
@@ -100,7 +100,7 @@ fn log_least<R: Threads + Wait + Sync + Abort, P: Plant>(
     log(rt, alloc, &mut shared, &mut site, plant, 0x40, (0x15, 1))
 }
 
-/// Stopped at this call of the journal, or behind all of them, the time is one of these.
+/// Stopped at this call of the journal, or after all of them, the time is one of these.
 fn assert_stopped<R: Threads + Wait + Sync + Abort>(
     rt: &R,
     alloc: Global,

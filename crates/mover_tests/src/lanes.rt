@@ -49,7 +49,7 @@ pub(crate) fn no_lanes<S>(alloc: Global) -> OpenLanes<S>
     }
 }
 
-/// Notes the volumes that a control's header names.
+/// Notes the volumes that a controller's header names.
 fn note_volumes(rt: &impl Abort, control: u16, header: &Header, named: &mut Vec<NamedVolume>)
     ensures { (v : VolumeIs) → Contains named.new.items v → Contains named.old.items v ⊎ IsInHeader control header.now.volumes v }
 {
@@ -67,7 +67,7 @@ fn note_volumes(rt: &impl Abort, control: u16, header: &Header, named: &mut Vec<
     }
 }
 
-/// The open lane of a control over its source. Notes the volumes of its header.
+/// The open lane of a controller over its source. Notes the volumes of its header.
 fn opened<S: Source + Drop>(
     rt: &impl Abort,
     alloc: Global,
@@ -89,7 +89,7 @@ fn opened<S: Source + Drop>(
     lane
 }
 
-/// Adds the open lane of the next control.
+/// Adds the open lane of the next controller.
 pub(crate) fn add_lane<S: Source + Drop>(
     rt: &impl Abort,
     alloc: Global,
@@ -106,7 +106,7 @@ pub(crate) fn add_lane<S: Source + Drop>(
     lanes.all.push(lane).expect(rt, "memory");
 }
 
-/// Whether two volumes have one serial, or one control and volume.
+/// Whether two volumes have one serial, or one controller and volume.
 fn are_alike(one: &NamedVolume, other: &NamedVolume) -> bool
     ensures { result ≡ are_alike one.now other.now }
 {

@@ -1,4 +1,4 @@
-//! Tests of epochs whose readers wait for each other, and of groups that are formed step by step: the cut of two controls, and crashes.
+//! Tests of epochs whose readers wait for each other, and of groups that are formed step by step: the cut of two controllers, and crashes.
 #![tactic(auto)]
 
 #[cfg(test)]

@@ -7,7 +7,7 @@ ghost use Rattle.image_former.specs.Entries.{is_row_of};
 ghost use Rattle.site_store.specs.IdleSites.{IsSiteIdle, IsSiteLogged};
 ghost use Rattle.site_store.specs.Logging.{IsOfSomeRow};
 ghost use Rattle.mover_tests.specs.Courses.{AreAtLimit, MayGoTo};
-ghost use Rattle.mover_tests.specs.Steps.{HaveControlsTold, AreToJoin};
+ghost use Rattle.mover_tests.specs.Steps.{HaveControlsReported, AreToJoin};
 
 use crate::commands::assert_whole;
 use crate::courses::Course;
@@ -22,7 +22,7 @@ use std::process::Abort;
 use std::thread::Threads;
 use tod_stamp::Stamp;
 
-/// What readers and mover share, with the time up to which each control has told, and the last cut.
+/// What readers and mover share, with the time up to which each controller has reported, and the last cut.
 #[derive(Drop)]
 pub(crate) struct Shared {
     told: Vec<u64>,
@@ -30,7 +30,7 @@ pub(crate) struct Shared {
     group: GroupState,
 }
 
-/// No write, or the one that is given. It keeps the rules, is on a track of a cylinder, and comes behind the one time and up to the other.
+/// No write, or the one that is given. It keeps the rules, is on a track of a cylinder, and comes after the one time and up to the other.
 fn writes_of(rt: &impl Abort, alloc: Global, write: Option<Write>, times: (u64, u64)) -> WriteList
     ensures { AreToJoin times.0 times.1 result }
 {
@@ -44,7 +44,7 @@ fn writes_of(rt: &impl Abort, alloc: Global, write: Option<Write>, times: (u64, 
 }
 
 impl Shared {
-    /// The reader of a control joins a batch with one write, or with none, up to a time.
+    /// The reader of a controller joins a batch with one write, or with none, up to a time.
     pub(crate) fn join(
         &mut self,
         rt: &impl Abort,
@@ -53,8 +53,8 @@ impl Shared {
         write: Option<Write>,
         upto: u64,
     )
-        requires { HaveControlsTold self.old.told.items self.old.last self.old.group }
-        ensures told { HaveControlsTold self.new.told.items self.new.last self.new.group }
+        requires { HaveControlsReported self.old.told.items self.old.last self.old.group }
+        ensures told { HaveControlsReported self.new.told.items self.new.last self.new.group }
         ensures same { length self.new.group.controls ≡ length self.old.group.controls }
     {
         let place = usize::from(control);
@@ -72,10 +72,10 @@ impl Shared {
         self.told[place] = upto;
     }
 
-    /// The reader of a control has no further write up to a time.
+    /// The reader of a controller has no further write up to a time.
     pub(crate) fn raise(&mut self, rt: &impl Abort, control: u16, upto: u64)
-        requires { HaveControlsTold self.old.told.items self.old.last self.old.group }
-        ensures told { HaveControlsTold self.new.told.items self.new.last self.new.group }
+        requires { HaveControlsReported self.old.told.items self.old.last self.old.group }
+        ensures told { HaveControlsReported self.new.told.items self.new.last self.new.group }
         ensures same { length self.new.group.controls ≡ length self.old.group.controls }
     {
         let place = usize::from(control);
@@ -84,10 +84,10 @@ impl Shared {
         self.told[place] = upto;
     }
 
-    /// The reader of a control joins the track that it wants next, with what is in the slot. Says whether one was wanted.
+    /// The reader of a controller joins the track that it wants next, with what is in the slot. Says whether one was wanted.
     fn copy_next(&mut self, rt: &impl Abort, control: u16, slot: &Slot) -> bool
-        requires { HaveControlsTold self.old.told.items self.old.last self.old.group }
-        ensures told { HaveControlsTold self.new.told.items self.new.last self.new.group }
+        requires { HaveControlsReported self.old.told.items self.old.last self.old.group }
+        ensures told { HaveControlsReported self.new.told.items self.new.last self.new.group }
         ensures same { length self.new.group.controls ≡ length self.old.group.controls }
     {
         let place = usize::from(control);
@@ -104,10 +104,10 @@ impl Shared {
         true
     }
 
-    /// The reader of a control joins the tracks that it wants next, all of them empty, up to so many. Tells how many there were.
+    /// The reader of a controller joins the tracks that it wants next, all of them empty, up to so many. Tells how many there were.
     pub(crate) fn copy(&mut self, rt: &impl Abort, alloc: Global, control: u16, most: u32) -> u32
-        requires { HaveControlsTold self.old.told.items self.old.last self.old.group }
-        ensures told { HaveControlsTold self.new.told.items self.new.last self.new.group }
+        requires { HaveControlsReported self.old.told.items self.old.last self.old.group }
+        ensures told { HaveControlsReported self.new.told.items self.new.last self.new.group }
         ensures same { length self.new.group.controls ≡ length self.old.group.controls }
     {
         let slot = Slot::make(alloc).expect(rt, "memory");
@@ -121,8 +121,8 @@ impl Shared {
 
     /// The mover forms a group up to a limit.
     fn form(&mut self, rt: &impl Abort, alloc: Global, limit: u64) -> Formed
-        requires { HaveControlsTold self.old.told.items self.old.last self.old.group }
-        ensures told { HaveControlsTold self.new.told.items self.new.last self.new.group }
+        requires { HaveControlsReported self.old.told.items self.old.last self.old.group }
+        ensures told { HaveControlsReported self.new.told.items self.new.last self.new.group }
         ensures same { length self.new.group.controls ≡ length self.old.group.controls }
         ensures controls { result.controls ≡ length self.old.group.controls }
     {
@@ -145,7 +145,7 @@ pub(crate) fn stepping<S: Drop, P: Plant>(
 ) -> (Shared, Site<P::Volume>)
     requires there { AreAtLimit at.0 course.lanes.items course.group course.site }
     requires may { MayGoTo P.tells at.0 course.names course.lanes.items course.group course.site (P.state plant.now) }
-    ensures told { HaveControlsTold result.0.told.items result.0.last result.0.group }
+    ensures told { HaveControlsReported result.0.told.items result.0.last result.0.group }
     ensures few { length result.0.group.controls ≤ result.1.controls }
     ensures idle { IsSiteIdle P.tells result.1 (P.state plant.now) }
 {
@@ -210,11 +210,11 @@ pub(crate) fn log<P: Plant>(
     limit: u64,
     expected: (u64, u32),
 ) -> Result<(), StoreError>
-    requires told { HaveControlsTold shared.old.told.items shared.old.last shared.old.group }
+    requires told { HaveControlsReported shared.old.told.items shared.old.last shared.old.group }
     requires few { length shared.old.group.controls ≤ site.old.controls }
     requires idle { IsSiteIdle P.tells site.old (P.state plant.old) }
     ensures home { NoneLent (P.state plant.new) }
-    ensures told { HaveControlsTold shared.new.told.items shared.new.last shared.new.group }
+    ensures told { HaveControlsReported shared.new.told.items shared.new.last shared.new.group }
     ensures few { OnOk result (length shared.new.group.controls ≤ site.new.controls) }
     ensures logged { OnOk result (IsSiteLogged P.tells site.new (P.state plant.new)) }
 {
@@ -244,10 +244,10 @@ pub(crate) fn log_applied<R: Threads + Sync + Abort, P: Plant>(
     limit: u64,
     expected: (u64, u32),
 )
-    requires told { HaveControlsTold shared.old.told.items shared.old.last shared.old.group }
+    requires told { HaveControlsReported shared.old.told.items shared.old.last shared.old.group }
     requires few { length shared.old.group.controls ≤ site.old.controls }
     requires idle { IsSiteIdle P.tells site.old (P.state plant.old) }
-    ensures told { HaveControlsTold shared.new.told.items shared.new.last shared.new.group }
+    ensures told { HaveControlsReported shared.new.told.items shared.new.last shared.new.group }
     ensures few { length shared.new.group.controls ≤ site.new.controls }
     ensures idle { IsSiteIdle P.tells site.new (P.state plant.new) }
 {

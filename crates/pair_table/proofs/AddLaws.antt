@@ -91,7 +91,7 @@ volume_is r v is =
     let c = both_true (bytes_eq v.serial r.primary) (nat_eq v.control r.control) b.0 in
     record { serial = c.0; control = eqb-true v.control r.control c.1; volume = eqb-true v.volume r.volume b.1 }
 
--- A named volume with the control and volume of a named row is that row's.
+-- A named volume with the controller and volume of a named row is that row's.
 one_place : (primary : List ℕ) (volumes : List NamedVolume) (v : NamedVolume) (r : PairRow) → none_alike volumes ≡ true → find (λ w. bytes_eq w.serial primary) volumes ≡ Some v → list_any (is_volume_of r) volumes ≡ true
     → v.control ≡ r.control → v.volume ≡ r.volume → bytes_eq v.serial r.primary ≡ true
 one_place primary [] v r apart found named control volume = absurd cc

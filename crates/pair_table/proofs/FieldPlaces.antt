@@ -1,4 +1,4 @@
--- Fields at their offsets: what stands behind a front of known length, and how 30 bytes fall into their fields.
+-- Fields at their offsets: what stands after a front of known length, and how 30 bytes fall into their fields.
 use Rattle.std.proofs.Common.{◌≡◌, ℕ, ◌+◌, ◌-◌, ◌≤◌, List, ◌++◌, length, drop, sym, ap, ◌∙◌, arith, length-take, length-drop}
 use Rattle.std.specs.Prelude.{slice_range, slice_index}
 use Rattle.std.specs.Int.{w16, w64, to_be_bytes, from_be_bytes}
@@ -7,7 +7,7 @@ use Rattle.std.proofs.lemmas.List.{take-append-drop, drop-drop, get_or-append-ad
 use Rattle.tod_stamp.specs.Fields.{IsBytes}
 use Rattle.tod_stamp.proofs.FieldLaws.{IsBytes-drop, IsBytes-take, wide16, wide64}
 
--- behind the front
+-- after the front
 pub drop_past : (front rest : List ℕ) (long n from : ℕ) → length front ≡ long → from ≡ long + n → drop from (front ++ rest) ≡ drop n rest
 drop_past front rest long n from len at =
     let whole : from ≡ length front + n = omega (arith, len, at) in

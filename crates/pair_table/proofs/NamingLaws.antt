@@ -40,7 +40,7 @@ ranges_more v (w ∷ volumes) is all =
     let parts = both_true (are_in_ranges w.control w.volume w.cylinders) (list_all (λ u. are_in_ranges u.control u.volume u.cylinders) volumes) all in
     and_true (are_in_ranges w.control w.volume w.cylinders) (list_all (λ u. are_in_ranges u.control u.volume u.cylinders) (volumes ++ v ∷ [])) parts.0 (ranges_more v volumes is parts.1)
 
--- whether the volume was put behind the others or not, the names are left sound
+-- whether the volume was put after the others or not, the names are left sound
 pub keeps_primary : {E : Type 0} → (r : Result (Unit {0}) E) (v : NamedVolume) (old new : List NamedVolume) (labels : List NamedDevice) (broken : List ℕ) → OnOk r (new ≡ old ++ v ∷ []) → OnErr r (new ≡ old)
     → AreNamesSound (record { primaries = old; labels = labels; broken = broken }) → MayName v (record { primaries = old; labels = labels; broken = broken }) → AreNamesSound (record { primaries = new; labels = labels; broken = broken })
 keeps_primary (Ok done) v old new labels broken ok err keeps may =
@@ -52,9 +52,9 @@ keeps_primary (Ok done) v old new labels broken ok err keeps may =
 keeps_primary (Err why) v old new labels broken ok err keeps may =
     subst (λ (t : List NamedVolume). AreNamesSound (record { primaries = t; labels = labels; broken = broken })) (sym err) keeps
 
--- ---- a broken control
+-- ---- a broken controller
 
--- a control that has a named volume is below the number of controls
+-- a controller that has a named volume is below the number of controllers
 pub control_below : (control : ℕ) (volumes : List NamedVolume) → list_all (λ w. are_in_ranges w.control w.volume w.cylinders) volumes ≡ true → list_any (λ v. nat_eq v.control control) volumes ≡ true → control < 16
 control_below control [] all has = absurd cc
 control_below control (v ∷ volumes) all has =

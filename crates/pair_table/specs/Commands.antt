@@ -106,7 +106,7 @@ wants_memory End = false
 
 -- ---- what a command asks of the rows
 
--- the volume has the row's primary, control, volume and cylinders
+-- the volume has the row's primary, controller, volume and cylinders
 abbrev pub is_volume_of : PairRow → NamedVolume → Bool
 is_volume_of r v = bytes_eq v.serial r.primary && v.control == r.control && v.volume == r.volume && v.cylinders == r.cylinders
 
@@ -114,7 +114,7 @@ is_volume_of r v = bytes_eq v.serial r.primary && v.control == r.control && v.vo
 abbrev pub has_named_primary : Naming → PairRow → Bool
 has_named_primary names r = list_any (is_volume_of r) names.primaries
 
--- Each row's primary is named with the row's control, volume and cylinders.
+-- Each row's primary is named with the row's controller, volume and cylinders.
 abbrev pub PrimariesAreNamed : Naming → List PairRow → Type 0
 PrimariesAreNamed names rows = IsTrue (list_all (has_named_primary names) rows)
 

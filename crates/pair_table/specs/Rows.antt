@@ -14,7 +14,7 @@ use Rattle.tod_stamp.specs.Options.{◌>>=◌}
 
 -- ---- ranges
 
--- Control and volume are below their numbers, and there are 1 to the most cylinders.
+-- Controller and volume are below their numbers, and there are 1 to the most cylinders.
 abbrev pub are_in_ranges : (control volume cylinders : ℕ) → Bool
 are_in_ranges control volume cylinders = nat_le control (MOST_CONTROLS - 1) && nat_le volume (MOST_CONTROL_VOLUMES - 1) && within 1 MOST_CYLINDERS cylinders
 
@@ -63,7 +63,7 @@ state_spelling state = (state_numbers state).0 ∷ (state_numbers state).1 ∷ t
 abbrev pub names_spelling : PairRow → List ℕ
 names_spelling r = serial_field r.primary ++ serial_field r.secondary
 
--- control, volume, device and cylinders, of 2 bytes each
+-- controller, volume, device and cylinders, of 2 bytes each
 abbrev pub numbers_spelling : PairRow → List ℕ
 numbers_spelling r = to_be_bytes w16 r.control ++ to_be_bytes w16 r.volume ++ to_be_bytes w16 r.device ++ to_be_bytes w16 r.cylinders
 

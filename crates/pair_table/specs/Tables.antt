@@ -67,7 +67,7 @@ with_states devices state rows = map (λ r. if is_among r.device devices then in
 
 -- ---- the rules over several rows
 
--- Two rows clash where they have one primary, one device, or one pair of control and volume.
+-- Two rows clash where they have one primary, one device, or one pair of controller and volume.
 abbrev pub clashes : PairRow → PairRow → Bool
 clashes r s = bytes_eq r.primary s.primary || r.device == s.device || (r.control == s.control && r.volume == s.volume)
 

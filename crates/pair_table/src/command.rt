@@ -81,7 +81,7 @@ pub enum Refusal {
     NotPaired,
     /// The session was ended.
     Ended,
-    /// The trace of the control with this number broke.
+    /// The trace of the controller with this number broke.
     ControlBroken(u16),
 }
 

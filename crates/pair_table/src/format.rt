@@ -1,5 +1,5 @@
-//! The bytes of a row, big-endian: the serial of the primary (6 bytes, filled with spaces) and of the secondary (6), control,
-//! volume of the control, device and cylinders (2 each), state (1), cause (1), and the time since it is suspended (8).
+//! The bytes of a row, big-endian: the serial of the primary (6 bytes, filled with spaces) and of the secondary (6), controller,
+//! volume of the controller, device and cylinders (2 each), state (1), cause (1), and the time since it is suspended (8).
 
 ghost use Rattle.std.specs.Prelude.{◌≡◌, ◌<◌, ◌^◌, IsTrue};
 ghost use Rattle.tod_stamp.specs.Names.{is_serial};

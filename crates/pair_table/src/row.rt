@@ -12,7 +12,7 @@ pub enum SuspendCause {
     Device,
     /// Another pair's volume failed, where such a fault suspends the whole session.
     Session,
-    /// The trace of the pair's control broke.
+    /// The trace of the pair's controller broke.
     Control,
 }
 
@@ -29,14 +29,14 @@ pub enum PairState {
     Suspended { cause: SuspendCause, since: Stamp },
 }
 
-/// A pair of a primary, which is a volume of a control, and a secondary on a device.
+/// A pair of a primary, which is a volume of a controller, and a secondary on a device.
 #[derive(Clone, Copy, Debug, PartialEq, Eq)]
 pub struct PairRow {
     pub primary: Serial,
     pub secondary: Serial,
     /// Below `MOST_CONTROLS`.
     pub control: u16,
-    /// The number that the primary has with its control, below `MOST_CONTROL_VOLUMES`.
+    /// The number that the primary has with its controller, below `MOST_CONTROL_VOLUMES`.
     pub volume: u16,
     /// The number of the secondary's device.
     pub device: u16,
@@ -177,10 +177,10 @@ impl PairState {
     }
 }
 
-/// The greatest number of a control.
+/// The greatest number of a controller.
 const LAST_CONTROL: u16 = MOST_CONTROLS as u16 - 1;
 
-/// The greatest number of a volume of a control.
+/// The greatest number of a volume of a controller.
 const LAST_VOLUME: u16 = MOST_CONTROL_VOLUMES - 1;
 
 impl PairRow {
@@ -188,7 +188,7 @@ impl PairRow {
     ghost use Rattle.pair_table.specs.Rows.{keeps_row_rules};
     ghost use Rattle.pair_table.specs.Tables.{clashes};
 
-    /// Whether control, volume and cylinders are in their ranges.
+    /// Whether controller, volume and cylinders are in their ranges.
     pub(crate) fn keeps_rules(&self) -> bool
         ensures { result ≡ keeps_row_rules self.now }
     {
@@ -197,7 +197,7 @@ impl PairRow {
             && (1..=u32::from(MOST_CYLINDERS)).contains(&self.cylinders)
     }
 
-    /// Whether the two have one primary, one device, or one pair of control and volume.
+    /// Whether the two have one primary, one device, or one pair of controller and volume.
     pub(crate) fn clashes(&self, other: &PairRow) -> bool
         ensures { result ≡ clashes self.now other.now }
     {

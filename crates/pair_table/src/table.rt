@@ -198,7 +198,7 @@ impl PairTable {
         }
     }
 
-    /// Whether a row may be put: it is in its ranges, no row of another device has its primary or its control and volume, and with
+    /// Whether a row may be put: it is in its ranges, no row of another device has its primary or its controller and volume, and with
     /// it there are at most `MOST_ROWS` rows.
     pub fn may_put(&self, row: &PairRow) -> bool
         ensures { IsTrue result ↔ MayPut row.now self.now.rows }
@@ -223,7 +223,7 @@ impl PairTable {
             .any(|other| other.device != row.device && row.clashes(other))
     }
 
-    /// Puts a row in the place of its device's row, or behind all rows where the device has none. After an error the table is as
+    /// Puts a row in the place of its device's row, or after all rows where the device has none. After an error the table is as
     /// before.
     pub fn put_row(&mut self, _alloc: Global, row: PairRow) -> Result<(), NoMemory>
         requires { MayPut row self.old.rows }

@@ -7,7 +7,7 @@ use Rattle.std.proofs.lemmas.List.Elements.{All-head, All-tail}
 use Rattle.passages.specs.Points.{AreLinked, GoesThrough, Passed, Throughout, last_point}
 
 module _ (P W C : Type 0) (left : ℕ → C → Type 0) (shows : P → C → Type 0) where
-  -- What is so up to a middle moment and behind it.
+  -- What is so up to a middle moment and after it.
   both : (from mid to : ℕ) (is : C → Type 0) → Throughout left from mid is → Throughout left mid to is → Throughout left from to is
   both from mid to is first then t since within c has = by_side (cases_lt t mid)
     where

@@ -41,7 +41,7 @@ module _ (P W C : Type 0) (left : ℕ → C → Type 0) (shows : P → C → Typ
 
   -- ---- from points to moments
 
-  -- What the test tells of the points behind one, where it tells it of that one.
+  -- What the test tells of the points after one, where it tells it of that one.
   pub points_tell : (first from to : ℕ) (p : P) (xs : List (Passed P W)) (was : Bool) → GoesThrough left shows from p xs to None → (was ≡ true → ((so p || now p) ≡ true) × WasSince first from) → first ≤ from
       → fold (λ before n. so n.point || (now n.point && before)) was xs ≡ true → WasSince first to
   points_tell first from to p [] was goes known early is =
@@ -111,15 +111,15 @@ module _ (P W C : Type 0) (left : ℕ → C → Type 0) (shows : P → C → Typ
       up : n.moment ≤ to
       up = moments_rise P W C left shows n.moment to n.point xs None goes.3
 
-      behind : SomeLeft n.moment to
-      behind t from-on within = some t (omega (arith, from-on, goes.0)) within
+      after : SomeLeft n.moment to
+      after t from-on within = some t (omega (arith, from-on, goes.0)) within
 
       -- Where it was so before the point, it was so at the one before or at this one, and has been since.
       before : since.moment < n.moment → fold (λ before m. so m.point || (now m.point && before)) was (n ∷ xs) ≡ true
       before lt =
           let one = some since.moment since.since since.within in
           rw (by_shown one.0 (since.so_there since.moment (omega arith) (omega arith) one.0 one.1) (goes.1 since.moment since.since (omega (arith, lt)) one.0 one.1))
-          (kept_on n.moment n.moment to n.point xs goes.3 behind (omega arith) (λ t from-on within c has. since.later t (omega (arith, from-on, lt)) within c has))
+          (kept_on n.moment n.moment to n.point xs goes.3 after (omega arith) (λ t from-on within c has. since.later t (omega (arith, from-on, lt)) within c has))
         where
           here : (so n.point || now n.point) ≡ true
           here =

@@ -13,7 +13,7 @@ abbrev pub Throughout : {C : Type 0} → (left : ℕ → C → Type 0) → (from
 Throughout left from to is = (t : ℕ) → from ≤ t → t ≤ to → (c : _) → left t c → is c
 
 -- From a point on these are passed, in order. Between two of them whatever a crash leaves shows the one or the other, and at its own
--- moment each is shown by all. Behind the last one it is shown alone, or it and the next one, which is on its way.
+-- moment each is shown by all. After the last one it is shown alone, or it and the next one, which is on its way.
 abbrev pub GoesThrough : {P W C : Type 0} → (left : ℕ → C → Type 0) → (shows : P → C → Type 0) → (from : ℕ) → P → List (Passed P W) → (to : ℕ) → (on_its_way : Option P) → Type 0
 GoesThrough left shows from p [] to None = (from ≤ to) × Throughout left from to (shows p)
 GoesThrough left shows from p [] to (Some q) = (from ≤ to) × Throughout left from to (λ c. shows p c ⊎ shows q c)
@@ -25,7 +25,7 @@ abbrev pub last_point : {P W : Type 0} → P → List (Passed P W) → P
 last_point p [] = p
 last_point p (n ∷ more) = last_point n.point more
 
--- Each of these comes behind those before it. `after` is what one leaves to those behind it.
+-- Each of these comes after those before it. `after` is what one leaves to those after it.
 abbrev pub AreLinked : {B N : Type 0} → (link : B → N → Type 0) → (after : B → N → B) → B → List N → Type 0
 AreLinked link after base [] = Unit {0}
 AreLinked link after base (n ∷ more) = link base n × AreLinked link after (after base n) more

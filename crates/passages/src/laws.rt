@@ -14,7 +14,7 @@ pub trait Passage<Point, Left> {
     ghost is_good: { Point → Type 0 };
 }
 
-/// When something may come behind what came before it, and what it leaves to those behind it.
+/// When something may come after what came before it, and what it leaves to those after it.
 pub trait Links<Base, Next> {
     ghost link: { Base → Next → Type 0 };
 
@@ -53,7 +53,7 @@ pub fn points_stay_passed<Point, Way, Left, T: Passage<Point, Left>>()
     ensures { PassedStay Point Way Left T.left T.later T.shows }
 {}
 
-/// What comes behind others goes on in a row.
+/// What comes after others goes on in a row.
 pub fn links_go_on<Base, Next, T: Links<Base, Next>>()
     ensures { LinksGoOn Base Next T.link T.after }
 {}

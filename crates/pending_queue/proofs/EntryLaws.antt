@@ -77,7 +77,7 @@ never_fall_filter test last (x ∷ entries) e =
 pub left_never_falls : (cut : Stamp) (entries : List WaitingEntry) → entries_never_fall 0 entries ≡ true → entries_never_fall 0 (left cut entries) ≡ true
 left_never_falls cut entries e = never_fall_filter (is_later cut) 0 entries e
 
--- the entries of writes behind those that wait
+-- the entries of writes after those that wait
 pub pushed_never_fall : (control last : ℕ) (waiting : List WaitingEntry) (writes : List Write) → entries_never_fall last waiting ≡ true → writes_never_fall (last_stamp_from last waiting) writes ≡ true
     → entries_never_fall last (waiting ++ entries_of control writes) ≡ true
 pushed_never_fall k last [] [] e f = refl
@@ -90,7 +90,7 @@ pushed_never_fall k last (x ∷ waiting) writes e f =
 
 -- ---- cuts
 
--- Behind an entry that a cut leaves, it leaves all.
+-- After an entry that a cut leaves, it leaves all.
 pub all_later : (cut : Stamp) (last : ℕ) (entries : List WaitingEntry) → cut.0 < last → entries_never_fall last entries ≡ true → (due cut entries ≡ []) × (left cut entries ≡ entries)
 all_later cut last [] lt e = (refl, refl)
 all_later cut last (x ∷ entries) lt e =

@@ -76,18 +76,18 @@ order_all P below (a ∷ items) all = put_all P below a (in_order below items) (
 
 -- ---- forms
 
-kept_part : (used begin len : ℕ) (bytes behind : List ℕ) → begin + len ≤ used → used ≤ length bytes → take len (drop begin (take used bytes ++ behind)) ≡ take len (drop begin bytes)
-kept_part used begin len bytes behind within inside =
+kept_part : (used begin len : ℕ) (bytes after : List ℕ) → begin + len ≤ used → used ≤ length bytes → take len (drop begin (take used bytes ++ after)) ≡ take len (drop begin bytes)
+kept_part used begin len bytes after within inside =
     let front = take used bytes in
     let size = length-take-le used bytes inside in
-    sym (drop-take begin len (front ++ behind))
-    ∙ ap (drop begin) (take-append-le (begin + len) front behind (omega (arith, size)) ∙ sym (take-append-le (begin + len) front (drop used bytes) (omega (arith, size))) ∙ ap (take (begin + len)) (take-append-drop used bytes))
+    sym (drop-take begin len (front ++ after))
+    ∙ ap (drop begin) (take-append-le (begin + len) front after (omega (arith, size)) ∙ sym (take-append-le (begin + len) front (drop used bytes) (omega (arith, size))) ∙ ap (take (begin + len)) (take-append-drop used bytes))
     ∙ drop-take begin len bytes
 
-new_part : (used : ℕ) (bytes form behind : List ℕ) → used ≤ length bytes → take (length form) (drop used (take used bytes ++ (form ++ behind))) ≡ form
-new_part used bytes form behind inside =
-    ap (λ n. take (length form) (drop n (take used bytes ++ (form ++ behind)))) (sym (length-take-le used bytes inside))
-    ∙ ap (take (length form)) (drop-append_seam (take used bytes) (form ++ behind)) ∙ take-append_seam form behind
+new_part : (used : ℕ) (bytes form after : List ℕ) → used ≤ length bytes → take (length form) (drop used (take used bytes ++ (form ++ after))) ≡ form
+new_part used bytes form after inside =
+    ap (λ n. take (length form) (drop n (take used bytes ++ (form ++ after)))) (sym (length-take-le used bytes inside))
+    ∙ ap (take (length form)) (drop-append_seam (take used bytes) (form ++ after)) ∙ take-append_seam form after
 
 abbrev IsInside : (used : ℕ) → Placed → Type 0
 IsInside used p = p.begin + p.len ≤ used
@@ -101,12 +101,12 @@ same_forms used bytes form (p ∷ items) within inside =
 
 pub same_size : (used : ℕ) (bytes form : List ℕ) → used + length form ≤ length bytes → length (with_bytes used form bytes) ≡ length bytes
 same_size used bytes form within =
-    let behind = drop (used + length form) bytes in
-    omega (arith, length-append (take used bytes) (form ++ behind), length-append form behind, length-take-le used bytes (omega arith), length-drop (used + length form) bytes)
+    let after = drop (used + length form) bytes in
+    omega (arith, length-append (take used bytes) (form ++ after), length-append form after, length-take-le used bytes (omega arith), length-drop (used + length form) bytes)
 
 -- ---- one more entry
 
--- A new entry, whose form goes behind the bytes that are used.
+-- A new entry, whose form goes after the bytes that are used.
 pub record IsNew (controls used : ℕ) (items : List Placed) (p : Placed) (form : List ℕ) : Type 0 where
   pub fits : length items < WRITES_OF_RUN * controls
   pub short : length form ≤ longest_entry
@@ -145,8 +145,8 @@ put controls old capacity used before after items now p form keeps new bytes is 
     }
 
 -- A buffer that is written back whole.
-pub whole_again : (n : ℕ) (now behind : List ℕ) → length now ≡ n → take n (now ++ behind) ≡ now
-whole_again n now behind size = ap (λ k. take k (now ++ behind)) (sym size) ∙ take-append_seam now behind
+pub whole_again : (n : ℕ) (now after : List ℕ) → length now ≡ n → take n (now ++ after) ≡ now
+whole_again n now after size = ap (λ k. take k (now ++ after)) (sym size) ∙ take-append_seam now after
 
 pub first_one : (entries : List WaitingEntry) (d : WaitingEntry) → 0 < length entries → take 1 entries ≡ get_or entries 0 d ∷ []
 first_one [] d some = absurd (omega arith)
@@ -154,10 +154,10 @@ first_one (e ∷ entries) d some = refl
 
 -- ---- a form in a buffer
 
-pub form_in : (len : ℕ) (form out behind : List ℕ) → out ≡ form ++ behind → len ≡ length form → take len out ≡ form
-form_in len form out behind is size = (λ i. take (size i) (is i)) ∙ take-append_seam form behind
+pub form_in : (len : ℕ) (form out after : List ℕ) → out ≡ form ++ after → len ≡ length form → take len out ≡ form
+form_in len form out after is size = (λ i. take (size i) (is i)) ∙ take-append_seam form after
 
--- the front of a form and an image behind it
+-- the front of a form and an image after it
 pub two_parts : (front image out mid now : List ℕ) → length front ≡ 15 → mid ≡ with_bytes 0 front out → now ≡ with_bytes 15 image mid → now ≡ (front ++ image) ++ drop (length (front ++ image)) out
 two_parts front image out mid now size mid_is now_is =
     let n = 15 + length image in

@@ -83,12 +83,12 @@ pub goes_round : (v : ℕ) (entries : List WaitingEntry) (k : ℕ) (d : WaitingE
 goes_round v entries k d lt =
     let x = get_or entries k d in
     let next_is : suc k ≡ k + 1 = omega arith in
-    let behind = drop (suc k) entries in
+    let after = drop (suc k) entries in
     let kept = without_volume v (take k entries) in
-    let here : round v entries k ≡ x ∷ (behind ++ kept) = ap (λ (t : List WaitingEntry). t ++ kept) (drop-cons entries k d lt) in
+    let here : round v entries k ≡ x ∷ (after ++ kept) = ap (λ (t : List WaitingEntry). t ++ kept) (drop-cons entries k d lt) in
     let more : without_volume v (take (suc k) entries) ≡ kept ++ without_volume v (x ∷ []) =
     ap (without_volume v) (take-suc entries k d lt) ∙ filter-append (λ e. not (is_of_volume v e)) (take k entries) (x ∷ []) in
-    let next : round v entries (suc k) ≡ behind ++ (kept ++ without_volume v (x ∷ [])) = ap (λ (t : List WaitingEntry). behind ++ t) more in
+    let next : round v entries (suc k) ≡ after ++ (kept ++ without_volume v (x ∷ [])) = ap (λ (t : List WaitingEntry). after ++ t) more in
     let same : round v entries (suc k) ≡ round v entries (k + 1) = ap (round v entries) next_is in
     record {
       some = omega (arith, ap length here);
@@ -98,7 +98,7 @@ goes_round v entries k d lt =
           ap (drop 1) here ∙ sym (same_end kept (without_volume v (x ∷ [])) off) ∙ sym next ∙ same;
       turned = λ other.
           let on : without_volume v (x ∷ []) ≡ x ∷ [] = ap (λ t. cond (not t) (x ∷ []) []) (ne_eqb x.head.volume v other) in
-          ap (λ (t : List WaitingEntry). drop 1 t ++ take 1 t) here ∙ append_assoc behind kept (x ∷ []) ∙ ap (λ (t : List WaitingEntry). behind ++ (kept ++ t)) (sym on) ∙ sym next ∙ same;
+          ap (λ (t : List WaitingEntry). drop 1 t ++ take 1 t) here ∙ append_assoc after kept (x ∷ []) ∙ ap (λ (t : List WaitingEntry). after ++ (kept ++ t)) (sym on) ∙ sym next ∙ same;
     }
   where
     same_end : (kept none : List WaitingEntry) → none ≡ [] → drop (suc k) entries ++ (kept ++ none) ≡ drop (suc k) entries ++ kept

@@ -111,10 +111,10 @@ given most old capacity before after waiting rest w kept is given_back same_capa
       entries = same ∙ sym (ap (λ (ws : List Waiting). drop 1 (entries_in before ws)) is);
     }
 
--- ---- the first behind the others
+-- ---- the first after the others
 
-behind : (most capacity : ℕ) (region : RegionState) (w : Waiting) (rest : List Waiting) → AreChainsSound most capacity region (w ∷ rest) → AreChainsSound most capacity region (rest ++ w ∷ [])
-behind most capacity region w rest keeps =
+after : (most capacity : ℕ) (region : RegionState) (w : Waiting) (rest : List Waiting) → AreChainsSound most capacity region (w ∷ rest) → AreChainsSound most capacity region (rest ++ w ∷ [])
+after most capacity region w rest keeps =
     let chains = chains_of rest in
     let there = sym (map-append (λ (x : Waiting). x.chain) rest (w ∷ [])) in
     let entries = sym (map-append (entry_in region) rest (w ∷ [])) in
@@ -140,7 +140,7 @@ pub record IsTurned (most capacity : ℕ) (region : RegionState) (waiting now : 
 
 turned_front : (most capacity : ℕ) (region : RegionState) (waiting : List Waiting) → AreChainsSound most capacity region waiting → 0 < length waiting → IsTurned most capacity region waiting (drop 1 waiting ++ take 1 waiting)
 turned_front most capacity region [] keeps some = absurd (omega arith)
-turned_front most capacity region (w ∷ rest) keeps some = record { keeps = behind most capacity region w rest keeps; entries = map-append (entry_in region) rest (w ∷ []) }
+turned_front most capacity region (w ∷ rest) keeps some = record { keeps = after most capacity region w rest keeps; entries = map-append (entry_in region) rest (w ∷ []) }
 
 pub turned : (most old capacity : ℕ) (region : RegionState) (waiting now : List Waiting) → AreChainsSound most old region waiting → 0 < length waiting → now ≡ drop 1 waiting ++ take 1 waiting → capacity ≡ old
     → IsTurned most capacity region waiting now

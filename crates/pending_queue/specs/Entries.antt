@@ -61,7 +61,7 @@ IsOfWrite entry = IsSpelled entry.head entry.kind entry.form
 abbrev pub entries_of : (control : ℕ) → List Write → List WaitingEntry
 entries_of k writes = map (entry_of k) writes
 
--- A copied track waits as a write of the whole track, with its control's floor as stamp.
+-- A copied track waits as a write of the whole track, with its controller's floor as stamp.
 abbrev pub copy_head : (control volume track : ℕ) → (stamp : Stamp) → EntryHead
 copy_head k volume track stamp = record { control = k; volume = volume; track = track; stamp = stamp; whole = true }
 
@@ -134,10 +134,10 @@ left cut entries = filter (is_later cut) entries
 
 -- ---- the order of a group
 
--- A head stands before another by stamp, then by control.
+-- A head stands before another by stamp, then by controller.
 abbrev pub head_before : EntryHead → EntryHead → Bool
 head_before a b = nat_lt a.stamp.0 b.stamp.0 || (a.stamp.0 == b.stamp.0 && nat_lt a.control b.control)
 
--- An entry stands before another by their heads. Those of one stamp and control stand by position.
+-- An entry stands before another by their heads. Those of one stamp and controller stand by position.
 abbrev pub stands_before : WaitingEntry → WaitingEntry → Bool
 stands_before a b = head_before a.head b.head

@@ -8,21 +8,21 @@ use Rattle.pending_queue.specs.Entries.{WaitingEntry, stands_before}
 use Rattle.xrc_edge.specs.Order.{in_order, is_in_order}
 
 pub record FormedGroup : Type 0 where
-  -- the number of controls that it has room for
+  -- the number of controllers that it has room for
   pub controls : ℕ
   pub cut : Stamp
-  -- the entries by stamp, control and position
+  -- the entries by stamp, controller and position
   pub entries : List WaitingEntry
-  -- the breaks that are reported with it: control, time and cause of each
+  -- the breaks that are reported with it: controller, time and cause of each
   pub breaks : List (ℕ × Stamp × Cause)
-  -- control and volume of each carried volume whose plan is done after it
+  -- controller and volume of each carried volume whose plan is done after it
   pub done : List (ℕ × ℕ)
 
 -- a group at a cut, with nothing in it yet
 abbrev pub empty_group : (controls : ℕ) → (cut : Stamp) → FormedGroup
 empty_group controls cut = record { controls = controls; cut = cut; entries = []; breaks = []; done = [] }
 
--- The group with more entries, each put at its place behind those that were in it and stand by the same stamp and control.
+-- The group with more entries, each put at its place after those that were in it and stand by the same stamp and controller.
 abbrev pub with_entries : FormedGroup → List WaitingEntry → FormedGroup
 with_entries group entries = record group { entries = in_order stands_before (group.entries ++ entries) }
 
@@ -32,15 +32,15 @@ with_break group k upto cause = record group { breaks = group.breaks ++ (k, upto
 abbrev pub with_done : FormedGroup → (control volume : ℕ) → FormedGroup
 with_done group k volume = record group { done = group.done ++ (k, volume) ∷ [] }
 
--- whether the group has room for so many more entries, which are at most so many of each control
+-- whether the group has room for so many more entries, which are at most so many of each controller
 abbrev pub HasRoomFor : FormedGroup → (count : ℕ) → Type 0
 HasRoomFor group count = length group.entries + count ≤ WRITES_OF_RUN * group.controls
 
--- whether it has room for so many more breaks, which are at most one of each control
+-- whether it has room for so many more breaks, which are at most one of each controller
 abbrev pub HasRoomForBreaks : FormedGroup → (count : ℕ) → Type 0
 HasRoomForBreaks group count = length group.breaks + count ≤ group.controls
 
--- the most done plans of a control in a group: one of each number that a volume may have
+-- the most done plans of a controller in a group: one of each number that a volume may have
 abbrev pub most_done_of_control : ℕ
 most_done_of_control = 2 ^ 16
 

@@ -7,7 +7,7 @@ use Rattle.pending_queue.specs.declared.placed.Placed.{Placed}
 use Rattle.pending_queue.specs.Entries.{WaitingEntry, IsOfWrite, head_before, entry_by}
 
 pub record PlacedState : Type 0 where
-  -- the number of controls that there is room for
+  -- the number of controllers that there is room for
   pub controls : ℕ
   pub entries : List WaitingEntry
 
@@ -22,7 +22,7 @@ placed_entries bytes placed = map (placed_entry bytes) placed
 abbrev pub placed_before : Placed → Placed → Bool
 placed_before a b = head_before a.head b.head
 
--- The forms of placed entries are sound: there is room for the most entries of each control and for their forms, and each has the form of its
+-- The forms of placed entries are sound: there is room for the most entries of each controller and for their forms, and each has the form of its
 -- write in the part of the buffer that is used.
 pub record AreFormsSound (controls capacity : ℕ) (bytes : List ℕ) (used : ℕ) (placed : List Placed) : Type 0 where
   pub few : controls < 2 ^ 16

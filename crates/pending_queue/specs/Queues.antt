@@ -7,7 +7,7 @@ use Rattle.pending_queue.specs.Rooms.{blocks_taken}
 use Rattle.pending_queue.specs.Waitings.{WaitingState}
 
 pub record QueueState : Type 0 where
-  -- the control whose writes wait in it
+  -- the controller whose writes wait in it
   pub control : ℕ
   -- the most entries that may wait, and the most blocks that they may take
   pub records : ℕ
@@ -22,7 +22,7 @@ empty_queue k records blocks = record { control = k; records = records; blocks =
 abbrev pub with_waiting : QueueState → List WaitingEntry → QueueState
 with_waiting queue entries = record queue { waiting = entries }
 
--- the queue with more entries behind those that wait
+-- the queue with more entries after those that wait
 abbrev pub with_more : QueueState → List WaitingEntry → QueueState
 with_more queue entries = with_waiting queue (queue.waiting ++ entries)
 
@@ -36,6 +36,6 @@ pub record QueueInRegion : Type 0 where
   pub region : RegionState
   pub chains : List ChainState
 
--- the state of a control's queue in which these entries wait
+-- the state of a controller's queue in which these entries wait
 abbrev pub queue_state : (control : ℕ) → WaitingState → QueueState
 queue_state k waiting = record { control = k; records = waiting.most; blocks = block_count waiting.region; waiting = waiting.entries }

@@ -31,7 +31,7 @@ impl Effect {
     }
 }
 
-/// The head of a write of a control.
+/// The head of a write of a controller.
 pub fn head_of(control: u16, write: &Write) -> EntryHead
     ensures { result ≡ entry_head control write.now }
 {

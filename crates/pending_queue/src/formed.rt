@@ -16,10 +16,10 @@ use std::marker::Model;
 use tod_stamp::Stamp;
 use xrc_edge::NoMemory;
 
-/// The numbers that a volume of a control may have.
+/// The numbers that a volume of a controller may have.
 const VOLUME_NUMBERS: usize = 1 << 16;
 
-/// A group that is formed at a cut: entries by stamp, control and position, the breaks that are reported with it, and the
+/// A group that is formed at a cut: entries by stamp, controller and position, the breaks that are reported with it, and the
 /// volumes whose plans are done after it. All its memory is taken when it is made.
 #[derive(Debug, Drop)]
 pub struct Formed {
@@ -41,7 +41,7 @@ impl Model for Formed {
 }
 
 impl Formed {
-    /// A buffer for the largest group of so many controls: `WRITES_OF_RUN` entries and a break of each, and a done plan of each
+    /// A buffer for the largest group of so many controllers: `WRITES_OF_RUN` entries and a break of each, and a done plan of each
     /// number that a volume may have. It is empty, at cut 0. No other call of a group takes memory.
     pub fn make(alloc: Global, controls: u16) -> Result<Formed, NoMemory>
         ensures { IfOk result (λ group. group ≡ empty_group controls (record { 0 = 0 })) }
@@ -64,7 +64,7 @@ impl Formed {
         self.done.clear();
     }
 
-    /// Reports the break of a control, whose writes are known up to a time.
+    /// Reports the break of a controller, whose writes are known up to a time.
     pub fn add_break(&mut self, control: u16, upto: Stamp, cause: Cause)
         requires room { HasRoomForBreaks self.old 1 }
         ensures { self.new ≡ with_break self.old control upto cause }
@@ -72,7 +72,7 @@ impl Formed {
         self.breaks.push_reserved((control, upto, cause));
     }
 
-    /// Says that the plan of a control's volume is done.
+    /// Says that the plan of a controller's volume is done.
     pub fn add_done(&mut self, control: u16, volume: u16)
         requires room { HasRoomForDone self.old 1 }
         ensures { self.new ≡ with_done self.old control volume }
@@ -91,7 +91,7 @@ impl Formed {
         move_due(waiting, cut, &mut self.entries);
     }
 
-    /// The number of controls that it was made for. It has at most `WRITES_OF_RUN` entries of each.
+    /// The number of controllers that it was made for. It has at most `WRITES_OF_RUN` entries of each.
     pub fn controls(&self) -> u16
         ensures controls { result ≡ self.now.controls }
         ensures few { length self.now.entries ≤ WRITES_OF_RUN * self.now.controls }
@@ -130,28 +130,28 @@ impl Formed {
         self.entries.form(place)
     }
 
-    /// Control, time and cause of each break, in order of adding.
+    /// Controller, time and cause of each break, in order of adding.
     pub fn breaks(&self) -> &[(u16, Stamp, Cause)]
         ensures { result.now ≡ self.now.breaks }
     {
         self.breaks.as_slice()
     }
 
-    /// Control and volume of each done plan, in order of adding.
+    /// Controller and volume of each done plan, in order of adding.
     pub fn done(&self) -> &[(u16, u16)]
         ensures { result.now ≡ self.now.done }
     {
         self.done.as_slice()
     }
 
-    /// Control, time and cause of the break at a place, counted from 0; None exactly where none stands there.
+    /// Controller, time and cause of the break at a place, counted from 0; None exactly where none stands there.
     pub fn break_at(&self, place: u16) -> Option<(u16, Stamp, Cause)>
         ensures { result ≡ slice_get self.now.breaks place }
     {
         self.breaks.get(place as usize).copied()
     }
 
-    /// Control and volume of the done plan at a place, counted from 0; None exactly where none stands there.
+    /// Controller and volume of the done plan at a place, counted from 0; None exactly where none stands there.
     pub fn done_at(&self, place: u16) -> Option<(u16, u16)>
         ensures { result ≡ slice_get self.now.done place }
     {

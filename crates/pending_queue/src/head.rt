@@ -2,7 +2,7 @@
 
 use tod_stamp::Stamp;
 
-/// The head of an entry: its control, the volume of that control, the number of its track there, the host's stamp, and
+/// The head of an entry: its controller, the volume of that controller, the number of its track there, the host's stamp, and
 /// whether the track is replaced as a whole.
 #[derive(Clone, Copy, Debug, PartialEq, Eq)]
 pub struct EntryHead {

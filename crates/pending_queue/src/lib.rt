@@ -1,4 +1,4 @@
-//! Writes of a control that wait in a queue until a group is formed, and the groups that are formed of them.
+//! Writes of a controller that wait in a queue until a group is formed, and the groups that are formed of them.
 #![tactic(auto)]
 
 mod carrier;

@@ -59,7 +59,7 @@ impl Model for PlacedList {
 }
 
 impl PlacedList {
-    /// No entries, with room for `WRITES_OF_RUN` of each of so many controls.
+    /// No entries, with room for `WRITES_OF_RUN` of each of so many controllers.
     pub fn make(alloc: Global, controls: u16) -> Result<PlacedList, NoMemory>
         ensures { IfOk result (λ list. list ≡ record { controls = controls; entries = [] }) }
     {
@@ -80,7 +80,7 @@ impl PlacedList {
         self.used = 0;
     }
 
-    /// The number of controls that there is room for.
+    /// The number of controllers that there is room for.
     pub fn controls(&self) -> u16
         ensures controls { result ≡ self.now.controls }
         ensures few { length self.now.entries ≤ WRITES_OF_RUN * self.now.controls }
@@ -113,7 +113,7 @@ impl PlacedList {
         &self.bytes.as_slice()[placed.begin..placed.begin + placed.len]
     }
 
-    /// Moves the first entry that waits to its place. Its form goes behind the others, before its chain is given back.
+    /// Moves the first entry that waits to its place. Its form goes after the others, before its chain is given back.
     pub fn place_front(&mut self, waiting: &mut WaitingList)
         requires some { 0 < length waiting.old.entries }
         requires ordered { IsTrue (is_in_order stands_before self.old.entries) }
@@ -137,19 +137,19 @@ impl PlacedList {
     }
 }
 
-/// Whether an entry with the one head stands before one with the other, by stamp and control.
+/// Whether an entry with the one head stands before one with the other, by stamp and controller.
 fn head_before(one: EntryHead, other: EntryHead) -> bool
     ensures { result ≡ head_before one other }
 {
     one.stamp < other.stamp || (one.stamp == other.stamp && one.control < other.control)
 }
 
-/// The place behind the last entry that doesn't stand after one with this head. Mostly that is the end.
+/// The place after the last entry that doesn't stand after one with this head. Mostly that is the end.
 fn place_of(entries: &[Placed], head: EntryHead) -> usize
     requires { IsTrue (is_in_order placed_before entries.now) }
     ensures within { result ≤ length entries.now }
     ensures before { (k : ℕ) (other : PlacedIs) → k < result → head_before head (slice_index_or entries.now k other).head ≡ false }
-    ensures behind { (other : PlacedIs) → result < length entries.now → head_before head (slice_index_or entries.now result other).head ≡ true }
+    ensures after { (other : PlacedIs) → result < length entries.now → head_before head (slice_index_or entries.now result other).head ≡ true }
 {
     match entries.last() {
         Some(last) if head_before(head, last.head) => {
@@ -159,7 +159,7 @@ fn place_of(entries: &[Placed], head: EntryHead) -> usize
     }
 }
 
-/// Puts an entry behind the last that doesn't stand after it.
+/// Puts an entry after the last that doesn't stand after it.
 fn put_placed(entries: &mut Vec<Placed>, placed: Placed)
     requires ordered { IsTrue (is_in_order placed_before entries.old.items) }
     requires room { vec_len entries.old < vec_capacity entries.old }

@@ -55,7 +55,7 @@ fn blocks_needed<C: Carrier>(writes: &[Write], carrier: &C) -> u64
     blocks
 }
 
-/// Puts the entries of the carried writes behind those that wait. `form` is a buffer of the longest entry.
+/// Puts the entries of the carried writes after those that wait. `form` is a buffer of the longest entry.
 pub fn push_entries<C: Carrier>(
     control: u16,
     writes: &[Write],
@@ -77,7 +77,7 @@ pub fn push_entries<C: Carrier>(
     }
 }
 
-/// Puts the entry of a write behind those that wait.
+/// Puts the entry of a write after those that wait.
 fn push_write(control: u16, write: &Write, form: &mut [u8], waiting: &mut WaitingList)
     requires rules { IsTrue (keeps_rules write.now.kind) }
     requires buffer { longest_entry ≤ length form.old }
@@ -101,7 +101,7 @@ pub fn track_fits(free: Room, slot: &Slot) -> bool
     free.records >= 1 && blocks_of(copy_len(slot) as u64) <= free.blocks
 }
 
-/// Puts the entry of a copied track behind those that wait. `form` is a buffer of the longest entry.
+/// Puts the entry of a copied track after those that wait. `form` is a buffer of the longest entry.
 pub fn push_copy(head: EntryHead, slot: &Slot, form: &mut [u8], waiting: &mut WaitingList)
     requires whole { IsTrue head.whole }
     requires buffer { longest_entry ≤ length form.old }

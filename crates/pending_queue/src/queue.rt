@@ -1,4 +1,4 @@
-//! Queues of a control's writes.
+//! Queues of a controller's writes.
 
 ghost use Rattle.std.specs.Prelude.{◌≡◌, ◌≢◌, ◌≤◌, ◌<◌, ◌+◌, ◌↔◌, ◌++◌, ◌∷◌, [], length, filter, nat_lt, slice_index_or, false, IfOk, IfErr, IfSome, OnOk, OnErr, IsErr, IsSome, IsTrue};
 ghost use Rattle.std.specs.List.{list_any, list_all};
@@ -26,7 +26,7 @@ use std::marker::Model;
 use tod_stamp::Stamp;
 use xrc_edge::NoMemory;
 
-/// The writes of a control that wait, in order, each with a chain of a region that has its queue form. Contracts see the entries
+/// The writes of a controller that wait, in order, each with a chain of a region that has its queue form. Contracts see the entries
 /// that wait and the room that there is for them as its state, and the region with the chains.
 #[derive(Debug, Drop)]
 pub struct Queue {
@@ -51,7 +51,7 @@ impl Model for Queue {
 }
 
 impl Queue {
-    /// An empty queue of a control, with room for so many entries and for so many blocks. All its memory is taken here: no
+    /// An empty queue of a controller, with room for so many entries and for so many blocks. All its memory is taken here: no
     /// other call of a queue takes any.
     pub fn make(alloc: Global, control: u16, records: u32, blocks: u32) -> Result<Queue, NoMemory>
         ensures { IfOk result (λ queue. queue.state ≡ empty_queue control records blocks) }
@@ -72,7 +72,7 @@ impl Queue {
         self.waiting.free()
     }
 
-    /// The control whose writes wait.
+    /// The controller whose writes wait.
     pub fn control(&self) -> u16
         ensures { result ≡ self.now.state.control }
     {
@@ -144,7 +144,7 @@ impl Queue {
         false
     }
 
-    /// Puts the entries of all writes of a batch behind those that wait, as `push_carried` does.
+    /// Puts the entries of all writes of a batch after those that wait, as `push_carried` does.
     pub fn push_all(&mut self, batch: &Batch) -> Result<(), Room>
         requires rules { IsTrue (all_keep_rules batch.now.writes) }
         requires stamps { IsTrue (writes_never_fall (last_stamp self.old.state.waiting) batch.now.writes) }
@@ -156,7 +156,7 @@ impl Queue {
         self.push_carried(batch, &Everything)
     }
 
-    /// Puts the entries of a batch's carried writes behind those that wait. Refused, with the free room, exactly where the free
+    /// Puts the entries of a batch's carried writes after those that wait. Refused, with the free room, exactly where the free
     /// records or blocks are fewer than they need. After a refusal the queue is as before.
     pub fn push_carried<C: Carrier>(&mut self, batch: &Batch, carrier: &C) -> Result<(), Room>
         requires rules { IsTrue (all_keep_rules batch.now.writes) }
@@ -176,7 +176,7 @@ impl Queue {
         Ok(())
     }
 
-    /// Puts a copied track behind the entries that wait. Refused, with the free room, exactly where there is no free record, or
+    /// Puts a copied track after the entries that wait. Refused, with the free room, exactly where there is no free record, or
     /// where the free blocks are fewer than its entry needs. After a refusal the queue is as before.
     pub fn push_track(
         &mut self,
@@ -216,7 +216,7 @@ impl Queue {
         take_out(&mut self.waiting, volume);
     }
 
-    /// Moves exactly the entries with a stamp at most the cut into a group, where they stand by stamp, control and position. The
+    /// Moves exactly the entries with a stamp at most the cut into a group, where they stand by stamp, controller and position. The
     /// blocks of their chains are free then.
     pub fn pop_upto(&mut self, cut: Stamp, out: &mut Formed)
         requires room { HasRoomFor out.old (length (due cut self.old.state.waiting)) }

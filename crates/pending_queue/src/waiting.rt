@@ -123,7 +123,7 @@ impl WaitingList {
         Some(&waiting.chain)
     }
 
-    /// Puts an entry behind the others, and its form into a new chain.
+    /// Puts an entry after the others, and its form into a new chain.
     pub fn push(&mut self, head: EntryHead, effect: Effect, form: &[u8])
         requires write { IsOfWrite (entry_by head effect form.now) }
         requires short { length form.now ≤ longest_entry }
@@ -171,7 +171,7 @@ impl WaitingList {
         (head, effect)
     }
 
-    /// Puts the first entry behind the others.
+    /// Puts the first entry after the others.
     pub fn turn_front(&mut self)
         requires { 0 < length self.old.entries }
         ensures turned { self.new.entries ≡ drop 1 self.old.entries ++ take 1 self.old.entries }

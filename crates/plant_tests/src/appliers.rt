@@ -237,7 +237,7 @@ const ROWS: [Row; 6] = [
         [FILLED, NOTHING, IMAGE],
     ),
     (Some((1, 0)), ALL, [false, true, false], DONE, DONE),
-    // The first call that fails is one behind those that are made here and the one that reads the slot.
+    // The first call that fails is one after those that are made here and the one that reads the slot.
     (Some((1, 1)), [true, false, true], NONE, DONE, DONE),
     (Some((2, 3)), ALL, NONE, DONE, DONE),
 ];

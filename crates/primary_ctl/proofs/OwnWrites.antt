@@ -1,4 +1,4 @@
--- For a track only the control's own writes count, in their order.
+-- For a track only the controller's own writes count, in their order.
 use Rattle.std.proofs.Common.{◌≡◌, ℕ, zero, suc, ◌+◌, ◌<◌, ◌≤◌, Bool, true, false, not, cond, ◌&&◌, List, [], ◌∷◌, ◌++◌, map, Some, refl, ap, ◌∙◌, nat_lt, nat_le, nat_eq, eq-eqb, arith, inl, inr, append-nil}
 use Rattle.std.specs.Prelude.{filter, slice_get, IsTrue}
 use Rattle.std.proofs.lemmas.Bool.{ltb-true, ltb-false, le-ltb, leb-true, eqb-true, ne_eqb, cases_Bool}
@@ -25,11 +25,11 @@ earlier_order = record {
 abbrev counts : (control volume track time : ℕ) → ControlWrite → Bool
 counts control volume track time w = is_on_track control volume track w && nat_le w.write.stamp.0 time
 
--- the same of a control's own write
+-- the same of a controller's own write
 abbrev own : (volume track time : ℕ) → Write → Bool
 own volume track time w = is_on volume track w && nat_le w.stamp.0 time
 
--- a write of another control doesn't count
+-- a write of another controller doesn't count
 other_control : (control volume track time j : ℕ) (w : Write) → nat_eq j control ≡ false → counts control volume track time (write_of_control j w) ≡ false
 other_control control volume track time j w other = rw other refl
 
@@ -49,7 +49,7 @@ none_later control volume track time j (t ∷ traces) above =
     eqb-false-of : (a b : ℕ) → b < a → nat_eq a b ≡ false
     eqb-false-of a b lt = ne_eqb a b (λ e. omega arith)
 
--- ---- the control's own writes are those that count
+-- ---- the controller's own writes are those that count
 
 same_control : (control volume track time : ℕ) (w : Write) → counts control volume track time (write_of_control control w) ≡ own volume track time w
 same_control control volume track time w = rw (eq-eqb control control refl) refl
@@ -98,7 +98,7 @@ base_is place volume track [] t at = absurd cc
 base_is zero volume track (s ∷ traces) t at = ap (λ (u : Trace). base_in u.header.base volume track) (first_is s t traces at)
 base_is (suc place) volume track (s ∷ traces) t at = base_is place volume track traces t at
 
--- ---- one control's writes are in order
+-- ---- one controller's writes are in order
 
 all_from : (low : ℕ) (j : ℕ) (w : Write) (writes : List Write) → w.stamp.0 ≤ low → writes_never_fall low writes ≡ true → none_below is_written_earlier (write_of_control j w) (map (write_of_control j) writes) ≡ true
 all_from low j w [] le e = refl
@@ -135,7 +135,7 @@ counted_in_order control volume track time j (t ∷ traces) e =
       | inr other ↦ rw (split, none_of control volume track time j (writes_of t.entries) other) (counted_in_order control volume track time (j + 1) traces parts.1)
     ]
 
--- Where no trace's stamps fall, only the control's own writes count for its track, in their order.
+-- Where no trace's stamps fall, only the controller's own writes count for its track, in their order.
 pub own_writes : (traces : List Trace) (time control volume track : ℕ) (t : Trace) → IsTrue (none_falls traces) → slice_get traces control ≡ Some t →
     primary traces time control volume track ≡ after_writes (base_in t.header.base volume track) (filter (λ w. is_on volume track w && nat_le w.stamp.0 time) (writes_of t.entries))
 own_writes traces time control volume track t fall at =

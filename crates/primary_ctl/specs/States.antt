@@ -1,4 +1,4 @@
--- What the primary volumes of a control hold: their tracks by place, and what writes make of one.
+-- What the primary volumes of a controller hold: their tracks by place, and what writes make of one.
 use Rattle.std.specs.Prelude.{ℕ, ◌==◌, ◌&&◌, List, [], ◌∷◌, fold, Bool, Option, unwrap_or, if◌then◌else◌}
 use Rattle.std.specs.Map.{lookup}
 use Rattle.ckd_track.specs.declared.rec.Rec.{Rec}

@@ -1,4 +1,4 @@
-//! The primary volumes of a control: what their tracks hold at a time, by the control's own trace.
+//! The primary volumes of a controller: what their tracks hold at a time, by the controller's own trace.
 #![tactic(auto)]
 
 mod held;

@@ -12,7 +12,7 @@ use tod_stamp::Stamp;
 use write_trace::{Header, VolumeList};
 use xrc_edge::NoMemory;
 
-/// The primary volumes of a control at a time. Contracts see the volumes, the time, and what each track holds.
+/// The primary volumes of a controller at a time. Contracts see the volumes, the time, and what each track holds.
 #[derive(Drop)]
 pub struct Primary {
     volumes: VolumeList,

@@ -1,4 +1,4 @@
--- The rows that a record names make the rows behind it.
+-- The rows that a record names make the rows after it.
 use Rattle.std.proofs.Common.{◌≡◌, ℕ, Bool, true, false, cond, nat_eq, not, ◌&&◌, ◌||◌, List, [], ◌∷◌, ◌++◌, map, Option, Some, None, refl, ap, ◌∙◌}
 use Rattle.std.specs.List.{list_any}
 use Rattle.std.proofs.lemmas.Bool.{eq-eqb}
@@ -16,9 +16,9 @@ use Rattle.row_changes.specs.Changes.{FaultReach, reach_of, reached_row, since}
 use Rattle.record_rows.specs.ChangedRows.{changed_rows, changed_to, later_state, rows_in_states, state_told, state_with_record, with_rows_put}
 use Rattle.record_rows.specs.GroupRows.{row_in, row_with_group, state_with_group}
 use Rattle.record_rows.specs.Hits.{hit_now, is_reached}
-use Rattle.record_rows.specs.Records.{rows_behind_mark, rows_with_hits, rows_with_record}
+use Rattle.record_rows.specs.Records.{rows_after_mark, rows_with_hits, rows_with_record}
 use Rattle.record_rows.proofs.Devices.{apart_first, devices_apart}
-use Rattle.record_rows.proofs.HitRows.{held, hits_row, reach_row, told_behind_group, told_row, told_rows}
+use Rattle.record_rows.proofs.HitRows.{held, hits_row, reach_row, told_after_group, told_row, told_rows}
 
 -- ---- rows put in order
 
@@ -33,12 +33,12 @@ none_changes state d (r ∷ rows) none =
     choose None other rest = rest
     choose (Some s) other rest = rw other rest
 
--- Rows of other devices are put behind a row as if it weren't there.
-put_behind : (r : PairRow) (put rows : List PairRow) → list_any (is_of r.device) put ≡ false → with_rows_put put (r ∷ rows) ≡ r ∷ with_rows_put put rows
-put_behind r [] rows none = refl
-put_behind r (p ∷ put) rows none =
+-- Rows of other devices are put after a row as if it weren't there.
+put_after : (r : PairRow) (put rows : List PairRow) → list_any (is_of r.device) put ≡ false → with_rows_put put (r ∷ rows) ≡ r ∷ with_rows_put put rows
+put_after r [] rows none = refl
+put_after r (p ∷ put) rows none =
     let parts = either_false (nat_eq r.device p.device) (list_any (is_of r.device) put) none in
-    ap (λ (b : Bool). with_rows_put put (cond b (p ∷ rows) (r ∷ with_row p rows))) (number_sym p.device r.device ∙ parts.0) ∙ put_behind r put (with_row p rows) parts.1
+    ap (λ (b : Bool). with_rows_put put (cond b (p ∷ rows) (r ∷ with_row p rows))) (number_sym p.device r.device ∙ parts.0) ∙ put_after r put (with_row p rows) parts.1
 
 put_here : (r : PairRow) (s : PairState) (rows : List PairRow) → with_row (in_state s r) (r ∷ rows) ≡ in_state s r ∷ rows
 put_here r s rows = ap (λ (b : Bool). cond b (in_state s r ∷ rows) (r ∷ with_row (in_state s r) rows)) (eq-eqb r.device r.device refl)
@@ -51,9 +51,9 @@ changed_make state (r ∷ rows) apart =
   where
     choose : (o : Option PairState) → list_any (is_of r.device) (changed_rows state rows) ≡ false → with_rows_put (changed_rows state rows) rows ≡ rows_in_states state rows
         → with_rows_put (changed_to r o ++ changed_rows state rows) (r ∷ rows) ≡ row_in r o ∷ rows_in_states state rows
-    choose None none rest = put_behind r (changed_rows state rows) rows none ∙ ap (λ (l : List PairRow). r ∷ l) rest
+    choose None none rest = put_after r (changed_rows state rows) rows none ∙ ap (λ (l : List PairRow). r ∷ l) rest
     choose (Some s) none rest =
-        ap (λ (l : List PairRow). with_rows_put (changed_rows state rows) l) (put_here r s rows) ∙ put_behind (in_state s r) (changed_rows state rows) rows none ∙ ap (λ (l : List PairRow). in_state s r ∷ l) rest
+        ap (λ (l : List PairRow). with_rows_put (changed_rows state rows) l) (put_here r s rows) ∙ put_after (in_state s r) (changed_rows state rows) rows none ∙ ap (λ (l : List PairRow). in_state s r ∷ l) rest
 
 -- ---- the states
 
@@ -118,17 +118,17 @@ same_of_all : (f g : PairRow → PairRow) (rows : List PairRow) → ((r : PairRo
 same_of_all f g [] same = refl
 same_of_all f g (r ∷ rows) same = λ i. same r i ∷ same_of_all f g rows same i
 
-pub behind_marks_change : (level : Level) (marked : List ℕ) (group : FormedGroup) (failed : List Bool) (rows : List PairRow)
-    → rows_behind_mark level marked group failed rows ≡ rows_in_states (state_with_record (reach_of level rows) marked (hit_now failed rows) group) rows
-behind_marks_change level marked group failed rows =
+pub after_marks_change : (level : Level) (marked : List ℕ) (group : FormedGroup) (failed : List Bool) (rows : List PairRow)
+    → rows_after_mark level marked group failed rows ≡ rows_in_states (state_with_record (reach_of level rows) marked (hit_now failed rows) group) rows
+after_marks_change level marked group failed rows =
     let reach = reach_of level rows in
     let hit = hit_now failed rows in
-    told_behind_group level group marked hit rows
+    told_after_group level group marked hit rows
     ∙ same_of_all (λ r. told_row reach group.cut.0 marked hit (row_with_group group r)) (λ r. row_in r (state_with_record reach marked hit group r)) rows
     (λ r. told_is reach group.cut.0 marked hit (row_with_group group r) ∙ in_turn r (state_with_group group r) (state_told reach group.cut.0 marked hit (row_with_group group r)))
 
 pub records_change : (level : Level) (group : FormedGroup) (failed : List Bool) (rows : List PairRow) → rows_with_record level group failed rows ≡ rows_in_states (state_with_record (reach_of level rows) [] (hit_now failed rows) group) rows
-records_change level group failed rows = behind_marks_change level [] group failed rows
+records_change level group failed rows = after_marks_change level [] group failed rows
 
 pub hits_change : (level : Level) (time : ℕ) (failed : List Bool) (rows : List PairRow) → rows_with_hits level time failed rows ≡ rows_in_states (state_told (reach_of level rows) time [] (hit_now failed rows)) rows
 hits_change level time failed rows =

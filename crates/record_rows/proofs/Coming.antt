@@ -24,8 +24,8 @@ use Rattle.row_changes.specs.Spans.{is_hit_at}
 use Rattle.row_changes.proofs.Functions.{after_rows, row_after}
 use Rattle.row_changes.proofs.Reaching.{reached_state}
 use Rattle.record_rows.specs.GroupRows.{are_breaks_at_cut, breaking, group_changes, is_break_at, is_shown_done, matured_by, matured_with_group, maturing, maturing_of, row_in, row_with_group, shown_break, state_with_group}
-use Rattle.record_rows.specs.Hits.{due_behind_mark, hit_changes, hit_now, marked_changes, rows_marked, told_changes}
-use Rattle.record_rows.specs.Records.{changes_behind_mark, record_changes, rows_behind_mark, rows_with_record}
+use Rattle.record_rows.specs.Hits.{due_once_marked, hit_changes, hit_now, marked_changes, rows_marked, told_changes}
+use Rattle.record_rows.specs.Records.{changes_after_mark, record_changes, rows_after_mark, rows_with_record}
 use Rattle.record_rows.specs.ToldRows.{due_after_changes}
 use Rattle.record_rows.proofs.Composing.{changes_in_a_row, comes_first, comes_in_a_row}
 use Rattle.record_rows.proofs.Devices.{apart_first, apart_in_map, devices_apart, found_in_map, none_at, row_at_place, still_have}
@@ -34,7 +34,7 @@ use Rattle.record_rows.proofs.HitRows.{hit_have_rows, hits_are_changes, marks_ar
 
 -- ---- what is due while a record's changes come
 
--- Nothing is due behind a mark without hits, or where failures reach no others. Else the others are, and these devices were hit.
+-- Nothing is due after a mark without hits, or where failures reach no others. Else the others are, and these devices were hit.
 abbrev pub WaitsIf : (others : Bool) → (marked : List ℕ) → (cut : ℕ) → Due → Type 0
 WaitsIf others [] cut due = due ≡ NoneDue
 WaitsIf false (d ∷ marked) cut due = due ≡ NoneDue
@@ -61,7 +61,7 @@ on_if true (d ∷ marked) cut (DueIn at devices) waits = waits
 waits_on : (level : Level) (marked : List ℕ) (cut : ℕ) (due : Due) → Waits level marked cut due → Waits level marked cut (due_in_record due cut)
 waits_on level = on_if (reaches_others level)
 
-waits_first : (level : Level) (marked : List ℕ) (time cut : ℕ) → Waits level marked cut (due_behind_mark level time marked)
+waits_first : (level : Level) (marked : List ℕ) (time cut : ℕ) → Waits level marked cut (due_once_marked level time marked)
 waits_first level [] time cut = refl
 waits_first level (d ∷ marked) time cut = choose (reaches_others level)
   where
@@ -83,13 +83,13 @@ reached_if others time (d ∷ marked) = cond others (record { time = time; chang
 module _ (level : Level) (breaks : List (Option ℕ)) (marked : List ℕ) (cut : ℕ) where
   -- A record's hits may come where nothing is due, and leave nothing due.
   hits_come : (hit : List ℕ) (due : Due) (from : ℕ) (rows : List PairRow) → due ≡ NoneDue → from ≤ cut → list_all (λ d. list_any (is_of d) rows) hit ≡ true → may_all_come level breaks false due from cut rows (hit_changes cut hit) ≡ true
-  hits_come hit due from rows none le have = subst (λ (d : Due). may_all_come level breaks false d from cut rows (hit_changes cut hit) ≡ true) (sym none) (behind_nothing hit have)
+  hits_come hit due from rows none le have = subst (λ (d : Due). may_all_come level breaks false d from cut rows (hit_changes cut hit) ≡ true) (sym none) (after_nothing hit have)
     where
-      behind_nothing : (l : List ℕ) → list_all (λ d. list_any (is_of d) rows) l ≡ true → may_all_come level breaks false NoneDue from cut rows (hit_changes cut l) ≡ true
-      behind_nothing [] h = refl
-      behind_nothing (d ∷ l) h = comes_first level breaks false NoneDue from cut rows (record { time = cut; change = Hit (d ∷ l) }) [] le (up_to cut) (some_hit d l rows h) refl
+      after_nothing : (l : List ℕ) → list_all (λ d. list_any (is_of d) rows) l ≡ true → may_all_come level breaks false NoneDue from cut rows (hit_changes cut l) ≡ true
+      after_nothing [] h = refl
+      after_nothing (d ∷ l) h = comes_first level breaks false NoneDue from cut rows (record { time = cut; change = Hit (d ∷ l) }) [] le (up_to cut) (some_hit d l rows h) refl
 
-  -- What a record tells behind its group's changes may come, and leaves nothing due.
+  -- What a record tells after its group's changes may come, and leaves nothing due.
   told_come : (hit : List ℕ) (due : Due) (from : ℕ) (rows : List PairRow) → Waits level marked cut due → from ≤ cut → list_all (λ d. list_any (is_of d) rows) hit ≡ true → may_all_come level breaks false due from cut rows (told_changes level cut marked hit) ≡ true
   told_come hit due from rows waits le have = choose (reaches_others level) marked waits
     where
@@ -102,7 +102,7 @@ module _ (level : Level) (breaks : List (Option ℕ)) (marked : List ℕ) (cut :
           comes_first level breaks false due from cut rows t (hit_changes cut hit) le (up_to cut) (and_from (are_due (d ∷ m) due) (is_of_record due cut) w.0 w.1)
           (hits_come hit NoneDue cut (map reached rows) refl (up_to cut) (still_have reached (λ r. ap (λ (x : PairRow). x.device) (reached_state (reach_of level rows) (d ∷ m) cut r)) rows hit have))
 
-  -- Others may come behind a record's breaks if they may come whatever these leave due.
+  -- Others may come after a record's breaks if they may come whatever these leave due.
   breaks_come : (found : List (ℕ × Stamp × Cause)) (due : Due) (from : ℕ) (rows : List PairRow) (rest : List Timed) → Waits level marked cut due → from ≤ cut → list_all (is_break_at breaks cut) found ≡ true
       → ((next : Due) (then : ℕ) → Waits level marked cut next → then ≤ cut → may_all_come level breaks false next then cut (after_changes level (map (breaking cut) found) rows) rest ≡ true)
       → may_all_come level breaks false due from cut rows (map (breaking cut) found ++ rest) ≡ true
@@ -128,7 +128,7 @@ may_of None false Copy new is = absurd cc
 may_of None done Duplex new is = absurd cc
 may_of None done (Suspended cause at) new is = absurd cc
 
--- A row that matures is in no control that breaks.
+-- A row that matures is in no controller that breaks.
 unbroken : (broken : Option Stamp) (done : Bool) (old new : PairState) → matured_by broken done old ≡ Some new → broken ≡ None
 unbroken (Some time) done old new is = absurd cc
 unbroken None done old new is = refl
@@ -148,11 +148,11 @@ other_stays : (d : ℕ) (state : PairState) (r : PairRow) → nat_eq d r.device 
 other_stays d state r other = rw other refl
 
 module _ (level : Level) (breaks : List (Option ℕ)) (marked : List ℕ) (group : FormedGroup) where
-  -- These may come behind others at the record's cut, whatever they leave due.
+  -- These may come after others at the record's cut, whatever they leave due.
   abbrev More : (first : List Timed) → List PairRow → (rest : List Timed) → Type 0
   More first rows rest = (next : Due) (then : ℕ) → Waits level marked group.cut.0 next → then ≤ group.cut.0 → may_all_come level breaks false next then group.cut.0 (after_changes level first rows) rest ≡ true
 
-  -- Others may come behind the rows that mature if they may come whatever these leave due.
+  -- Others may come after the rows that mature if they may come whatever these leave due.
   matures_come : (xs : List PairRow) (due : Due) (from : ℕ) (rows : List PairRow) (rest : List Timed) → Waits level marked group.cut.0 due → from ≤ group.cut.0 → devices_apart xs ≡ true → Stand group xs rows → More (flat_map (maturing_of group) xs) rows rest
       → may_all_come level breaks false due from group.cut.0 rows (flat_map (maturing_of group) xs ++ rest) ≡ true
   matures_come [] due from rows rest waits le apart stand more = more due from waits le
@@ -176,10 +176,10 @@ module _ (level : Level) (breaks : List (Option ℕ)) (marked : List ℕ) (group
           ∙ ap (λ (r : PairRow). let o : Option PairRow = Some r in o) (other_stays x.device state z (none_at x.device xs i z (apart_first x xs apart).0 at)))
           k)
 
-  -- ---- a group's changes, and what its record tells behind them
+  -- ---- a group's changes, and what its record tells after them
 
-  behind_break : (reach : FaultReach) (found : List (ℕ × Stamp × Cause)) (r : PairRow) → list_all (is_break_at breaks group.cut.0) found ≡ true → shown_break r.control found ≡ None → row_after reach (map (breaking group.cut.0) found) r ≡ r
-  behind_break reach found r are none = breaks_make reach breaks group.cut.0 found r are ∙ none_broken (shown_break r.control found) none
+  after_break : (reach : FaultReach) (found : List (ℕ × Stamp × Cause)) (r : PairRow) → list_all (is_break_at breaks group.cut.0) found ≡ true → shown_break r.control found ≡ None → row_after reach (map (breaking group.cut.0) found) r ≡ r
+  after_break reach found r are none = breaks_make reach breaks group.cut.0 found r are ∙ none_broken (shown_break r.control found) none
     where
       none_broken : (o : Option Stamp) → o ≡ None → row_in r (broken_to o (is_suspended r.state)) ≡ r
       none_broken None e = refl
@@ -188,20 +188,20 @@ module _ (level : Level) (breaks : List (Option ℕ)) (marked : List ℕ) (group
   keeps_broken : (reach : FaultReach) (r : PairRow) → are_breaks_at_cut breaks group ≡ true → (row_after reach (map (breaking group.cut.0) group.breaks) r).device ≡ r.device
   keeps_broken reach r are = ap (λ (x : PairRow). x.device) (breaks_make reach breaks group.cut.0 group.breaks r are) ∙ device_in r (broken_to (shown_break r.control group.breaks) (is_suspended r.state))
 
-  stand_behind : (rows : List PairRow) → devices_apart rows ≡ true → are_breaks_at_cut breaks group ≡ true → Stand group rows (after_changes level (map (breaking group.cut.0) group.breaks) rows)
-  stand_behind rows apart are i x at state is =
+  stand_after : (rows : List PairRow) → devices_apart rows ≡ true → are_breaks_at_cut breaks group ≡ true → Stand group rows (after_changes level (map (breaking group.cut.0) group.breaks) rows)
+  stand_after rows apart are i x at state is =
       let reach = reach_of level rows in
       subst (λ (l : List PairRow). row_of x.device l ≡ Some x) (sym (after_rows level (map (breaking group.cut.0) group.breaks) rows))
       (found_in_map (row_after reach (map (breaking group.cut.0) group.breaks)) (λ r. keeps_broken reach r are) x.device rows x (row_at_place rows i x apart at)
       ∙ ap (λ (r : PairRow). let o : Option PairRow = Some r in o)
-      (behind_break reach group.breaks x are (unbroken (shown_break x.control group.breaks) (is_shown_done group x) x.state state is)))
+      (after_break reach group.breaks x are (unbroken (shown_break x.control group.breaks) (is_shown_done group x) x.state state is)))
 
-  pub behind_marks_come : (hit : List ℕ) (due : Due) (from : ℕ) (rows : List PairRow) → Waits level marked group.cut.0 due → from ≤ group.cut.0 → devices_apart rows ≡ true → are_breaks_at_cut breaks group ≡ true
+  pub after_marks_come : (hit : List ℕ) (due : Due) (from : ℕ) (rows : List PairRow) → Waits level marked group.cut.0 due → from ≤ group.cut.0 → devices_apart rows ≡ true → are_breaks_at_cut breaks group ≡ true
       → list_all (λ d. list_any (is_of d) rows) hit ≡ true → may_all_come level breaks false due from group.cut.0 rows (group_changes group rows ++ told_changes level group.cut.0 marked hit) ≡ true
-  behind_marks_come hit due from rows waits le apart are have =
+  after_marks_come hit due from rows waits le apart are have =
       subst (λ (l : List Timed). may_all_come level breaks false due from group.cut.0 rows l ≡ true) (sym (append_assoc broken matured told))
       (breaks_come level breaks marked group.cut.0 group.breaks due from rows (matured ++ told) waits le are
-      (λ next then w up. matures_come rows next then (after_changes level broken rows) told w up apart (stand_behind rows apart are)
+      (λ next then w up. matures_come rows next then (after_changes level broken rows) told w up apart (stand_after rows apart are)
       (λ last later v by. told_come level breaks marked group.cut.0 hit last later (after_changes level matured (after_changes level broken rows)) v by had)))
     where
       broken : List Timed
@@ -220,19 +220,19 @@ module _ (level : Level) (breaks : List (Option ℕ)) (marked : List ℕ) (group
 
 -- ---- records
 
-pub behind_marks_may_come : (level : Level) (breaks : List (Option ℕ)) (marked : List ℕ) (group : FormedGroup) (failed : List Bool) (time from : ℕ) (rows : List PairRow) → devices_apart rows ≡ true → are_breaks_at_cut breaks group ≡ true
-    → from ≤ group.cut.0 → may_all_come level breaks false (due_behind_mark level time marked) from group.cut.0 rows (changes_behind_mark level marked group failed rows) ≡ true
-behind_marks_may_come level breaks marked group failed time from rows apart are le =
-    behind_marks_come level breaks marked group (hit_now failed rows) (due_behind_mark level time marked) from rows (waits_first level marked time group.cut.0) le apart are (hit_have_rows failed rows)
+pub after_marks_may_come : (level : Level) (breaks : List (Option ℕ)) (marked : List ℕ) (group : FormedGroup) (failed : List Bool) (time from : ℕ) (rows : List PairRow) → devices_apart rows ≡ true → are_breaks_at_cut breaks group ≡ true
+    → from ≤ group.cut.0 → may_all_come level breaks false (due_once_marked level time marked) from group.cut.0 rows (changes_after_mark level marked group failed rows) ≡ true
+after_marks_may_come level breaks marked group failed time from rows apart are le =
+    after_marks_come level breaks marked group (hit_now failed rows) (due_once_marked level time marked) from rows (waits_first level marked time group.cut.0) le apart are (hit_have_rows failed rows)
 
 pub records_may_come : (level : Level) (breaks : List (Option ℕ)) (group : FormedGroup) (failed : List Bool) (from : ℕ) (rows : List PairRow) → devices_apart rows ≡ true → are_breaks_at_cut breaks group ≡ true
     → from ≤ group.cut.0 → may_all_come level breaks false NoneDue from group.cut.0 rows (record_changes group failed rows) ≡ true
 records_may_come level breaks group failed from rows apart are le =
-    behind_marks_may_come level breaks [] group failed from from rows apart are le
+    after_marks_may_come level breaks [] group failed from from rows apart are le
 
-pub behind_marks_are_changes : (level : Level) (breaks : List (Option ℕ)) (marked : List ℕ) (group : FormedGroup) (failed : List Bool) (rows : List PairRow) → devices_apart rows ≡ true → are_breaks_at_cut breaks group ≡ true
-    → rows_behind_mark level marked group failed rows ≡ after_changes level (changes_behind_mark level marked group failed rows) rows
-behind_marks_are_changes level breaks marked group failed rows apart are =
+pub after_marks_are_changes : (level : Level) (breaks : List (Option ℕ)) (marked : List ℕ) (group : FormedGroup) (failed : List Bool) (rows : List PairRow) → devices_apart rows ≡ true → are_breaks_at_cut breaks group ≡ true
+    → rows_after_mark level marked group failed rows ≡ after_changes level (changes_after_mark level marked group failed rows) rows
+after_marks_are_changes level breaks marked group failed rows apart are =
     let told = told_changes level group.cut.0 marked (hit_now failed rows) in
     told_are_changes level group.cut.0 marked (hit_now failed rows) (map (row_with_group group) rows) ∙ ap (λ (l : List PairRow). after_changes level told l) (sym (groups_are_changes level breaks group rows apart are))
     ∙ sym (changes_in_a_row level (group_changes group rows) told rows)
@@ -266,12 +266,12 @@ mark_comes level breaks (d ∷ hit) from time rows le have =
     ends false = refl
     ends true = eq-eqb time time refl
 
-mark_leaves : (level : Level) (time : ℕ) (hit : List ℕ) → due_after_changes level NoneDue (marked_changes time hit) ≡ due_behind_mark level time hit
+mark_leaves : (level : Level) (time : ℕ) (hit : List ℕ) → due_after_changes level NoneDue (marked_changes time hit) ≡ due_once_marked level time hit
 mark_leaves level time [] = refl
 mark_leaves level time (d ∷ hit) = refl
 
 pub marks_may_come : (level : Level) (breaks : List (Option ℕ)) (failed : List Bool) (from time : ℕ) (rows : List PairRow) → from ≤ time
-    → (may_all_come level breaks true NoneDue from time rows (marked_changes time (hit_now failed rows)) ≡ true) × (due_after_changes level NoneDue (marked_changes time (hit_now failed rows)) ≡ due_behind_mark level time (hit_now failed rows))
+    → (may_all_come level breaks true NoneDue from time rows (marked_changes time (hit_now failed rows)) ≡ true) × (due_after_changes level NoneDue (marked_changes time (hit_now failed rows)) ≡ due_once_marked level time (hit_now failed rows))
 marks_may_come level breaks failed from time rows le = (mark_comes level breaks (hit_now failed rows) from time rows le (hit_have_rows failed rows), mark_leaves level time (hit_now failed rows))
 
 -- ---- a mark and its record
@@ -290,20 +290,20 @@ module _ (level : Level) (breaks : List (Option ℕ)) (group : FormedGroup) (ear
   abbrev pub next : List PairRow
   next = rows_marked time hit rows
 
-  abbrev pub behind : List Timed
-  behind = changes_behind_mark level hit group late next
+  abbrev pub after : List Timed
+  after = changes_after_mark level hit group late next
 
   next_apart : devices_apart next ≡ true
   next_apart = apart_in_map (hit_row hit time) (keeps_hit hit time) rows apart
 
-  pub marked_records_are_changes : rows_behind_mark level hit group late next ≡ after_changes level (marked_changes time hit ++ behind) rows
+  pub marked_records_are_changes : rows_after_mark level hit group late next ≡ after_changes level (marked_changes time hit ++ after) rows
   marked_records_are_changes =
-      behind_marks_are_changes level breaks hit group late next next_apart are ∙ ap (λ (l : List PairRow). after_changes level behind l) (marks_are_changes level time hit rows) ∙ sym (changes_in_a_row level (marked_changes time hit) behind rows)
+      after_marks_are_changes level breaks hit group late next next_apart are ∙ ap (λ (l : List PairRow). after_changes level after l) (marks_are_changes level time hit rows) ∙ sym (changes_in_a_row level (marked_changes time hit) after rows)
 
-  pub marked_records_may_come : (from : ℕ) → from ≤ time → time ≤ group.cut.0 → may_all_come level breaks false NoneDue from group.cut.0 rows (marked_changes time hit ++ behind) ≡ true
+  pub marked_records_may_come : (from : ℕ) → from ≤ time → time ≤ group.cut.0 → may_all_come level breaks false NoneDue from group.cut.0 rows (marked_changes time hit ++ after) ≡ true
   marked_records_may_come from le up =
       let mark = marks_may_come level breaks early from time rows le in
-      comes_in_a_row level breaks true false NoneDue from time group.cut.0 rows (marked_changes time hit) behind up le mark.0
-      (subst (λ (d : Due). may_all_come level breaks false d time group.cut.0 (after_changes level (marked_changes time hit) rows) behind ≡ true) (sym mark.1)
-      (subst (λ (l : List PairRow). may_all_come level breaks false (due_behind_mark level time hit) time group.cut.0 l behind ≡ true) (marks_are_changes level time hit rows)
-      (behind_marks_may_come level breaks hit group late time time next next_apart are up)))
+      comes_in_a_row level breaks true false NoneDue from time group.cut.0 rows (marked_changes time hit) after up le mark.0
+      (subst (λ (d : Due). may_all_come level breaks false d time group.cut.0 (after_changes level (marked_changes time hit) rows) after ≡ true) (sym mark.1)
+      (subst (λ (l : List PairRow). may_all_come level breaks false (due_once_marked level time hit) time group.cut.0 l after ≡ true) (marks_are_changes level time hit rows)
+      (after_marks_may_come level breaks hit group late time time next next_apart are up)))

@@ -16,7 +16,7 @@ module _ (level : Level) (breaks : List (Option ℕ)) where
   pub comes_here : (due : Due) (from to : ℕ) (rows : List PairRow) (t : Timed) → from ≤ t.time → t.time ≤ to → may_come breaks due rows t ≡ true → (nat_le from t.time && nat_le t.time to && may_come breaks due rows t) ≡ true
   comes_here due from to rows t after before may = and_from (nat_le from t.time && nat_le t.time to) (may_come breaks due rows t) (and_from (nat_le from t.time) (nat_le t.time to) (le-leb from t.time after) (le-leb t.time to before)) may
 
-  -- a change, and others behind it
+  -- a change, and others after it
   pub comes_first : (may_be_due : Bool) (due : Due) (from to : ℕ) (rows : List PairRow) (t : Timed) (changes : List Timed) → from ≤ t.time → t.time ≤ to → may_come breaks due rows t ≡ true
       → may_all_come level breaks may_be_due (due_after level due t) t.time to (after_change level t rows) changes ≡ true → may_all_come level breaks may_be_due due from to rows (t ∷ changes) ≡ true
   comes_first m due from to rows t changes after before may rest =
@@ -31,7 +31,7 @@ module _ (level : Level) (breaks : List (Option ℕ)) where
       let r = and_parts (nat_le from t.time) (nat_le t.time to) q.0 in
       comes_first m due early to rows t changes (let l : from ≤ t.time = leb-true from t.time r.0 in omega (arith, le, l)) (leb-true t.time to r.1) q.1 p.1
 
-  -- What comes up to a time and what comes behind it comes in a row.
+  -- What comes up to a time and what comes after it comes in a row.
   pub comes_in_a_row : (first may_be_due : Bool) (due : Due) (from mid to : ℕ) (rows : List PairRow) (xs ys : List Timed) → mid ≤ to → from ≤ mid → may_all_come level breaks first due from mid rows xs ≡ true
       → may_all_come level breaks may_be_due (due_after_changes level due xs) mid to (after_changes level xs rows) ys ≡ true → may_all_come level breaks may_be_due due from to rows (xs ++ ys) ≡ true
   comes_in_a_row f m due from mid to rows [] ys le up may then = comes_earlier m due from mid to rows ys up then

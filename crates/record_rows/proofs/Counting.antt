@@ -17,7 +17,7 @@ use Rattle.row_changes.specs.Changes.RowChange.{Reached}
 use Rattle.row_changes.specs.Spans.{hit_count, hits}
 use Rattle.record_rows.specs.GroupRows.{breaking, group_changes, matured_with_group, maturing, maturing_of}
 use Rattle.record_rows.specs.Hits.{hit_changes, hit_now, is_down, is_hit_now, marked_changes, reached_changes, rows_marked, told_changes}
-use Rattle.record_rows.specs.Records.{changes_behind_mark, record_changes}
+use Rattle.record_rows.specs.Records.{changes_after_mark, record_changes}
 
 -- 1 for a device that is hit, and else 0
 abbrev pub once : Bool → ℕ
@@ -76,8 +76,8 @@ told_count d level time marked hit =
     counts_append d (reached_changes level time marked) (hit_changes time hit) ∙ ap (λ (n : ℕ). n + hit_count d (hit_changes time hit)) (reached_hit_none d level time marked)
     ∙ none_more (hit_count d (hit_changes time hit)) ∙ hits_count d time hit
 
-pub behind_marks_count : (d : ℕ) (level : Level) (marked : List ℕ) (group : FormedGroup) (failed : List Bool) (rows : List PairRow) → hit_count d (changes_behind_mark level marked group failed rows) ≡ once (is_among d (hit_now failed rows))
-behind_marks_count d level marked group failed rows =
+pub after_marks_count : (d : ℕ) (level : Level) (marked : List ℕ) (group : FormedGroup) (failed : List Bool) (rows : List PairRow) → hit_count d (changes_after_mark level marked group failed rows) ≡ once (is_among d (hit_now failed rows))
+after_marks_count d level marked group failed rows =
     let told = told_changes level group.cut.0 marked (hit_now failed rows) in
     counts_append d (group_changes group rows) told ∙ ap (λ (n : ℕ). n + hit_count d told) (group_hits_none d group rows) ∙ none_more (hit_count d told) ∙ told_count d level group.cut.0 marked (hit_now failed rows)
 
@@ -119,11 +119,11 @@ at_most_once false true no_more = omega arith
 at_most_once false false no_more = omega arith
 
 pub marked_records_count : (d : ℕ) (level : Level) (group : FormedGroup) (early late : List Bool) (time : ℕ) (rows : List PairRow)
-    → hit_count d (marked_changes time (hit_now early rows) ++ changes_behind_mark level (hit_now early rows) group late (rows_marked time (hit_now early rows) rows)) ≤ 1
+    → hit_count d (marked_changes time (hit_now early rows) ++ changes_after_mark level (hit_now early rows) group late (rows_marked time (hit_now early rows) rows)) ≤ 1
 marked_records_count d level group early late time rows =
     let hit = hit_now early rows in
     let next = rows_marked time hit rows in
-    let behind = changes_behind_mark level hit group late next in
+    let after = changes_after_mark level hit group late next in
     subst (λ (n : ℕ). n ≤ 1)
-    (sym (counts_append d (marked_changes time hit) behind ∙ ap (λ (n : ℕ). n + hit_count d behind) (marks_count d time hit) ∙ ap (λ (n : ℕ). once (is_among d hit) + n) (behind_marks_count d level hit group late next)))
+    (sym (counts_append d (marked_changes time hit) after ∙ ap (λ (n : ℕ). n + hit_count d after) (marks_count d time hit) ∙ ap (λ (n : ℕ). once (is_among d hit) + n) (after_marks_count d level hit group late next)))
     (at_most_once (is_among d hit) (is_among d (hit_now late next)) (λ among. marked_no_more late d time hit rows among))

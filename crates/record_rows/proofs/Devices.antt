@@ -40,10 +40,10 @@ row_at_place (r ∷ rows) zero x apart at = subst (λ (y : PairRow). row_of y.de
     here = rw (eq-eqb r.device r.device refl) refl
 row_at_place (r ∷ rows) (suc i) x apart at =
     let first = apart_first r rows apart in
-    behind (number_sym x.device r.device ∙ none_at r.device rows i x first.0 at) (row_at_place rows i x first.1 at)
+    after (number_sym x.device r.device ∙ none_at r.device rows i x first.0 at) (row_at_place rows i x first.1 at)
   where
-    behind : nat_eq x.device r.device ≡ false → row_of x.device rows ≡ Some x → row_of x.device (r ∷ rows) ≡ Some x
-    behind other found = rw other found
+    after : nat_eq x.device r.device ≡ false → row_of x.device rows ≡ Some x → row_of x.device (r ∷ rows) ≡ Some x
+    after other found = rw other found
 
 -- ---- changes that keep each row's device
 

@@ -13,11 +13,11 @@ use Rattle.pending_queue.specs.Groups.{FormedGroup}
 use Rattle.row_changes.specs.Changes.{FaultReach, reach_of, reached_row, since}
 use Rattle.record_rows.specs.GroupRows.{is_shown_done, row_in, row_with_group, shown_break, state_by_group}
 use Rattle.record_rows.specs.Hits.{hit_now}
-use Rattle.record_rows.specs.Records.{rows_behind_mark, rows_with_record}
+use Rattle.record_rows.specs.Records.{rows_after_mark, rows_with_record}
 use Rattle.record_rows.specs.ToldRows.{AreGrouped, IsGrouped}
-use Rattle.record_rows.proofs.HitRows.{held, hits_row, reach_row, told_behind_group, told_row}
+use Rattle.record_rows.proofs.HitRows.{held, hits_row, reach_row, told_after_group, told_row}
 
--- ---- a row that isn't suspended behind what is told is as it was
+-- ---- a row that isn't suspended after what is told is as it was
 
 module _ (reach : FaultReach) (time : ℕ) where
   only_reached : (devices : List ℕ) (r : PairRow) → is_suspended (reached_row reach devices time r).state ≡ false → reached_row reach devices time r ≡ r
@@ -57,7 +57,7 @@ duplex_waits_no_more e = cc
 copy_is_not_duplex : Copy ≡ Duplex → ⊥
 copy_is_not_duplex e = cc
 
--- What a group makes of a state, by the break of its control and by whether its plan is done.
+-- What a group makes of a state, by the break of its controller and by whether its plan is done.
 record Follows (broken : Option Stamp) (done : Bool) (old new : PairState) : Type 0 where
   unbroken : is_suspended new ≡ false → broken ≡ None
   begun : new ≡ Pending → ⊥
@@ -107,12 +107,12 @@ grouped_each : (group : FormedGroup) (f : PairRow → PairRow) (rows : List Pair
 grouped_each group f [] each = tt
 grouped_each group f (r ∷ rows) each = (each r, grouped_each group f rows each)
 
-pub behind_marks_group : (level : Level) (marked : List ℕ) (group : FormedGroup) (failed : List Bool) (rows : List PairRow) → AreGrouped group rows (rows_behind_mark level marked group failed rows)
-behind_marks_group level marked group failed rows =
+pub after_marks_group : (level : Level) (marked : List ℕ) (group : FormedGroup) (failed : List Bool) (rows : List PairRow) → AreGrouped group rows (rows_after_mark level marked group failed rows)
+after_marks_group level marked group failed rows =
     let hit = hit_now failed rows in
     let reach = reach_of level rows in
-    subst (λ (next : List PairRow). AreGrouped group rows next) (sym (told_behind_group level group marked hit rows))
+    subst (λ (next : List PairRow). AreGrouped group rows next) (sym (told_after_group level group marked hit rows))
     (grouped_each group (λ r. told_row reach group.cut.0 marked hit (row_with_group group r)) rows (λ r. row_grouped group reach group.cut.0 marked hit r))
 
 pub records_group : (level : Level) (group : FormedGroup) (failed : List Bool) (rows : List PairRow) → AreGrouped group rows (rows_with_record level group failed rows)
-records_group level group failed rows = behind_marks_group level [] group failed rows
+records_group level group failed rows = after_marks_group level [] group failed rows

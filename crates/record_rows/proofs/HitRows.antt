@@ -44,12 +44,12 @@ among_hit failed (r ∷ rows) zero x apart at = subst (λ (y : PairRow). is_amon
     here false none = none
 among_hit failed (r ∷ rows) (suc i) x apart at =
     let first = apart_first r rows apart in
-    behind (is_hit_now failed r) (none_at r.device rows i x first.0 at) (among_hit failed rows i x first.1 at)
+    after (is_hit_now failed r) (none_at r.device rows i x first.0 at) (among_hit failed rows i x first.1 at)
   where
-    behind : (b : Bool) → nat_eq r.device x.device ≡ false → is_among x.device (hit_now failed rows) ≡ is_hit_now failed x
+    after : (b : Bool) → nat_eq r.device x.device ≡ false → is_among x.device (hit_now failed rows) ≡ is_hit_now failed x
         → is_among x.device (map (λ s. s.device) (cond b (r ∷ filter (is_hit_now failed) rows) (filter (is_hit_now failed) rows))) ≡ is_hit_now failed x
-    behind true other rest = rw other rest
-    behind false other rest = rest
+    after true other rest = rw other rest
+    after false other rest = rest
 
 -- Each of them has a row.
 have_rows : (failed : List Bool) (all rows : List PairRow) → list_all (λ r. list_any (is_of r.device) all) rows ≡ true → list_all (λ d. list_any (is_of d) all) (hit_now failed rows) ≡ true
@@ -103,10 +103,10 @@ row_in_state : (r : PairRow) (o : Option PairState) → row_in r o ≡ in_state 
 row_in_state r None = refl
 row_in_state r (Some state) = refl
 
--- What is told behind a group reaches whom it would reach before.
-pub told_behind_group : (level : Level) (group : FormedGroup) (marked hit : List ℕ) (rows : List PairRow)
+-- What is told after a group reaches whom it would reach before.
+pub told_after_group : (level : Level) (group : FormedGroup) (marked hit : List ℕ) (rows : List PairRow)
     → rows_told level group.cut.0 marked hit (map (row_with_group group) rows) ≡ map (λ r. told_row (reach_of level rows) group.cut.0 marked hit (row_with_group group r)) rows
-told_behind_group level group marked hit rows =
+told_after_group level group marked hit rows =
     let grouped = row_with_group group in
     told_rows level group.cut.0 marked hit (map grouped rows)
     ∙ ap (λ (q : FaultReach). map (told_row q group.cut.0 marked hit) (map grouped rows)) (same_reach level grouped (λ r. row_in_state r (state_with_group group r)) rows)

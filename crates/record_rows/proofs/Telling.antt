@@ -16,10 +16,10 @@ use Rattle.row_changes.proofs.Reaching.{reach_is_other}
 use Rattle.record_rows.specs.GroupRows.{is_shown_done, row_in, row_with_group, shown_break, state_by_group}
 use Rattle.record_rows.specs.Hits.{hit_now, is_down, is_hit_now, rows_marked}
 use Rattle.pair_table.specs.States.{is_by_device, is_device_suspended}
-use Rattle.record_rows.specs.Records.{rows_behind_mark, rows_with_hits, rows_with_record}
+use Rattle.record_rows.specs.Records.{rows_after_mark, rows_with_hits, rows_with_record}
 use Rattle.record_rows.specs.ToldRows.{AreTold, IsTold}
 use Rattle.record_rows.proofs.Devices.{devices_apart}
-use Rattle.record_rows.proofs.HitRows.{among_hit, held, hits_row, reach_row, told_behind_group, told_row, told_rows}
+use Rattle.record_rows.proofs.HitRows.{among_hit, held, hits_row, reach_row, told_after_group, told_row, told_rows}
 
 -- ---- changes of a row that suspend it by no device
 
@@ -117,7 +117,7 @@ hit_told failed r s time hit mild = record {
     parts : (is_down failed r.device ≡ true) × (not (is_device_suspended r.state) ≡ true)
     parts = and_parts (is_down failed r.device) (not (is_device_suspended r.state)) hit
 
--- A row behind mild changes is told by what was due, and by hits with their reach.
+-- A row after mild changes is told by what was due, and by hits with their reach.
 module _ (failed : List Bool) (reach : FaultReach) (other : is_by_device reach.cause ≡ false) (time : ℕ) where
   hits_told : (hit : List ℕ) (r s : PairRow) → Mild r s → is_among r.device hit ≡ is_hit_now failed r → IsTold failed time r (hits_row reach time hit s)
   hits_told [] r s mild is = calm_told failed time r s (sym is) mild
@@ -137,16 +137,16 @@ tell_each : (failed : List Bool) (time : ℕ) (f : PairRow → PairRow) (rows : 
 tell_each failed time f [] each = tt
 tell_each failed time f (r ∷ rows) each = (each zero r refl, tell_each failed time f rows (λ i x at. each (suc i) x at))
 
-pub behind_marks_tell : (level : Level) (marked : List ℕ) (group : FormedGroup) (failed : List Bool) (rows : List PairRow) → devices_apart rows ≡ true → AreTold failed group.cut.0 rows (rows_behind_mark level marked group failed rows)
-behind_marks_tell level marked group failed rows apart =
+pub after_marks_tell : (level : Level) (marked : List ℕ) (group : FormedGroup) (failed : List Bool) (rows : List PairRow) → devices_apart rows ≡ true → AreTold failed group.cut.0 rows (rows_after_mark level marked group failed rows)
+after_marks_tell level marked group failed rows apart =
     let hit = hit_now failed rows in
     let reach = reach_of level rows in
-    subst (λ (next : List PairRow). AreTold failed group.cut.0 rows next) (sym (told_behind_group level group marked hit rows))
+    subst (λ (next : List PairRow). AreTold failed group.cut.0 rows next) (sym (told_after_group level group marked hit rows))
     (tell_each failed group.cut.0 (λ r. told_row reach group.cut.0 marked hit (row_with_group group r)) rows
     (λ i r at. row_told failed reach (reach_is_other level rows) group.cut.0 marked hit r (row_with_group group r) (mild_group group r) (among_hit failed rows i r apart at)))
 
 pub records_tell : (level : Level) (group : FormedGroup) (failed : List Bool) (rows : List PairRow) → devices_apart rows ≡ true → AreTold failed group.cut.0 rows (rows_with_record level group failed rows)
-records_tell level group failed rows apart = behind_marks_tell level [] group failed rows apart
+records_tell level group failed rows apart = after_marks_tell level [] group failed rows apart
 
 pub hits_tell : (level : Level) (time : ℕ) (failed : List Bool) (rows : List PairRow) → devices_apart rows ≡ true → AreTold failed time rows (rows_with_hits level time failed rows)
 hits_tell level time failed rows apart =

@@ -1,4 +1,4 @@
--- The rows that a record names: those that it changes, as they stand behind it.
+-- The rows that a record names: those that it changes, as they stand after it.
 use Rattle.std.specs.Prelude.{ℕ, ◌&&◌, ◌||◌, not, List, [], ◌∷◌, map, fold, Option, Some, None, if◌then◌else◌}
 use Rattle.std.specs.List.{flat_map}
 use Rattle.pair_table.specs.declared.row.PairRow.{PairRow}
@@ -42,6 +42,6 @@ abbrev pub later_state : (last first : Option PairState) → Option PairState
 later_state (Some state) first = Some state
 later_state None first = first
 
--- the state to which a record of a group changes a row: hits behind what the group makes of it
+-- the state to which a record of a group changes a row: hits after what the group makes of it
 abbrev pub state_with_record : FaultReach → (marked hit : List ℕ) → FormedGroup → PairRow → Option PairState
 state_with_record reach marked hit group r = later_state (state_told reach group.cut.0 marked hit (row_with_group group r)) (state_with_group group r)

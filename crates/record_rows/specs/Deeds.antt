@@ -1,10 +1,10 @@
--- Deeds: what is done to a site, one deed after another, and the rows and the time that are meant behind them.
+-- Deeds: what is done to a site, one deed after another, and the rows and the time that are meant after them.
 use Rattle.std.specs.Prelude.{ℕ, List, [], ◌∷◌, Bool}
 use Rattle.crash_plant.specs.declared.spot.Spot.{Spot}
 use Rattle.pair_table.specs.declared.row.PairRow.{PairRow}
 use Rattle.pending_queue.specs.Entries.{WaitingEntry}
 
--- A deed, with the rows that are meant behind it.
+-- A deed, with the rows that are meant after it.
 --   Logged: a group is logged.
 --   Changed: rows alone are, by a command or because devices failed.
 --   Marked: a mark is made. Its rows may have suspensions that no record has.
@@ -25,7 +25,7 @@ entries_by_deed (Logged cut entries rows) = entries
 entries_by_deed (Changed time rows) = []
 entries_by_deed (Marked spot ended rows) = []
 
--- the time that is meant behind a deed; a mark leaves it
+-- the time that is meant after a deed; a mark leaves it
 abbrev pub time_by_deed : (time : ℕ) → Deed → ℕ
 time_by_deed time (Logged cut entries rows) = cut
 time_by_deed time (Changed at rows) = at
@@ -33,10 +33,10 @@ time_by_deed time (Marked spot ended rows) = time
 
 -- ---- deeds one after another
 
-abbrev pub rows_behind : List Deed → List PairRow → List PairRow
-rows_behind [] rows = rows
-rows_behind (deed ∷ deeds) rows = rows_behind deeds (rows_by_deed deed)
+abbrev pub rows_after_deeds : List Deed → List PairRow → List PairRow
+rows_after_deeds [] rows = rows
+rows_after_deeds (deed ∷ deeds) rows = rows_after_deeds deeds (rows_by_deed deed)
 
-abbrev pub time_meant_behind : List Deed → (time : ℕ) → ℕ
-time_meant_behind [] time = time
-time_meant_behind (deed ∷ deeds) time = time_meant_behind deeds (time_by_deed time deed)
+abbrev pub time_meant_after : List Deed → (time : ℕ) → ℕ
+time_meant_after [] time = time
+time_meant_after (deed ∷ deeds) time = time_meant_after deeds (time_by_deed time deed)

@@ -1,4 +1,4 @@
--- The rows behind a formed group, and the changes of rows that it brings.
+-- The rows after a formed group, and the changes of rows that it brings.
 use Rattle.std.specs.Prelude.{ℕ, ◌==◌, ◌&&◌, List, [], ◌∷◌, ◌++◌, map, Bool, Option, Some, None, if◌then◌else◌}
 use Rattle.std.specs.List.{flat_map, list_all, list_any}
 use Rattle.tod_stamp.specs.declared.stamp.Stamp.{Stamp}
@@ -15,7 +15,7 @@ use Rattle.row_changes.specs.Changes.RowChange.{Break, Mature}
 
 -- ---- what a group shows
 
--- the time of a control's break, if it is among the breaks that a group reports
+-- the time of a controller's break, if it is among the breaks that a group reports
 abbrev pub shown_break : (control : ℕ) → List (ℕ × Stamp × Cause) → Option Stamp
 shown_break control [] = None
 shown_break control (found ∷ breaks) = if found.0 == control then Some found.1 else shown_break control breaks
@@ -24,11 +24,11 @@ shown_break control (found ∷ breaks) = if found.0 == control then Some found.1
 abbrev pub is_shown_done : FormedGroup → PairRow → Bool
 is_shown_done group row = list_any (λ plan. plan.0 == row.control && plan.1 == row.volume) group.done
 
--- whether a break that is reported at a time has this time, and so has its control's break
+-- whether a break that is reported at a time has this time, and so has its controller's break
 abbrev pub is_break_at : (breaks : List (Option ℕ)) → (time : ℕ) → (ℕ × Stamp × Cause) → Bool
 is_break_at breaks time found = found.1.0 == time && is_at time (break_time_of found.0 breaks)
 
--- Each break that a group reports has the cut as its time and as its control's break time.
+-- Each break that a group reports has the cut as its time and as its controller's break time.
 abbrev pub are_breaks_at_cut : (breaks : List (Option ℕ)) → FormedGroup → Bool
 are_breaks_at_cut breaks group = list_all (is_break_at breaks group.cut.0) group.breaks
 
@@ -75,7 +75,7 @@ abbrev pub maturing : (time device : ℕ) → Option PairState → List Timed
 maturing time device (Some state) = record { time = time; change = Mature device state } ∷ []
 maturing time device None = []
 
--- Nothing matures when its control breaks.
+-- Nothing matures when its controller breaks.
 abbrev pub matured_by : (broken : Option Stamp) → (is_done : Bool) → PairState → Option PairState
 matured_by (Some since) done state = None
 matured_by None done state = matured_state done state

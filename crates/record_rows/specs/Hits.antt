@@ -28,12 +28,12 @@ abbrev pub is_reached : FaultReach → (devices : List ℕ) → PairRow → Bool
 is_reached reach [] r = false
 is_reached reach (d ∷ devices) r = reach.reaches (d ∷ devices) r
 
--- The rows behind hits at a time, with those that the hits reach. If no device is hit, they are as they were.
+-- The rows after hits at a time, with those that the hits reach. If no device is hit, they are as they were.
 abbrev pub rows_hit : Level → (time : ℕ) → (hit : List ℕ) → List PairRow → List PairRow
 rows_hit level time [] rows = rows
 rows_hit level time (d ∷ hit) rows = map (λ r. reached_row (reach_of level rows) (d ∷ hit) time (hit_row (d ∷ hit) time r)) rows
 
--- The rows behind hits in a mark that is made before a record. The other rows wait for the record.
+-- The rows after hits in a mark that is made before a record. The other rows wait for the record.
 abbrev pub rows_marked : (time : ℕ) → (hit : List ℕ) → List PairRow → List PairRow
 rows_marked time hit rows = map (hit_row hit time) rows
 
@@ -42,7 +42,7 @@ abbrev pub rows_reached : Level → (time : ℕ) → (marked : List ℕ) → Lis
 rows_reached level time [] rows = rows
 rows_reached level time (d ∷ marked) rows = map (reached_row (reach_of level rows) (d ∷ marked) time) rows
 
--- The rows behind what a record tells: first the rows that were due, then its own hits.
+-- The rows after what a record tells: first the rows that were due, then its own hits.
 abbrev pub rows_told : Level → (time : ℕ) → (marked hit : List ℕ) → List PairRow → List PairRow
 rows_told level time marked hit rows = rows_hit level time hit (rows_reached level time marked rows)
 
@@ -64,7 +64,7 @@ reached_changes level time (d ∷ marked) = if reaches_others level then record 
 abbrev pub told_changes : Level → (time : ℕ) → (marked hit : List ℕ) → List Timed
 told_changes level time marked hit = reached_changes level time marked ++ hit_changes time hit
 
--- what is due behind a mark with these hits
-abbrev pub due_behind_mark : Level → (time : ℕ) → (hit : List ℕ) → Due
-due_behind_mark level time [] = NoneDue
-due_behind_mark level time (d ∷ hit) = due_after_mark level NoneDue time (d ∷ hit)
+-- what is due after a mark with these hits
+abbrev pub due_once_marked : Level → (time : ℕ) → (hit : List ℕ) → Due
+due_once_marked level time [] = NoneDue
+due_once_marked level time (d ∷ hit) = due_after_mark level NoneDue time (d ∷ hit)

@@ -1,4 +1,4 @@
--- What records and marks may make of rows, place by place, and what is due behind changes in a row.
+-- What records and marks may make of rows, place by place, and what is due after changes in a row.
 use Rattle.std.specs.Prelude.{◌≡◌, ◌≢◌, ◌⊎◌, ℕ, List, [], ◌∷◌, Bool, false, None, IsTrue}
 use Rattle.pair_table.specs.declared.level.Level.{Level}
 use Rattle.pair_table.specs.declared.row.PairRow.{PairRow}
@@ -31,7 +31,7 @@ pub record IsTold (failed : List Bool) (time : ℕ) (r s : PairRow) : Type 0 whe
 abbrev pub AreTold : (failed : List Bool) → (time : ℕ) → (rows next : List PairRow) → Type 0
 AreTold failed time = InPlaces (IsTold failed time)
 
--- What the record of a group makes of a row. The row isn't suspended only if its control doesn't break. It doesn't wait for its copy any
+-- What the record of a group makes of a row. The row isn't suspended only if its controller doesn't break. It doesn't wait for its copy any
 -- longer. It is duplex only if it was or if its plan is done, and then it is unless it is suspended.
 pub record IsGrouped (group : FormedGroup) (r s : PairRow) : Type 0 where
   pub unbroken : is_suspended s.state ≡ false → shown_break r.control group.breaks ≡ None
@@ -42,7 +42,7 @@ pub record IsGrouped (group : FormedGroup) (r s : PairRow) : Type 0 where
 abbrev pub AreGrouped : FormedGroup → (rows next : List PairRow) → Type 0
 AreGrouped group = InPlaces (IsGrouped group)
 
--- what is due behind changes in a row
+-- what is due after changes in a row
 abbrev pub due_after_changes : Level → Due → List Timed → Due
 due_after_changes level due [] = due
 due_after_changes level due (t ∷ changes) = due_after_changes level (due_after level due t) changes

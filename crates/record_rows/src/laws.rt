@@ -1,17 +1,17 @@
 //! The laws of records' and marks' rows.
 
-ghost use Rattle.record_rows.specs.Laws.{BehindMarksAreChanges, BehindMarksChangeStates, BehindMarksCount, BehindMarksGroup, BehindMarksMayCome, BehindMarksTell};
+ghost use Rattle.record_rows.specs.Laws.{AfterMarksAreChanges, AfterMarksChangeStates, AfterMarksCount, AfterMarksGroup, AfterMarksMayCome, AfterMarksTell};
 ghost use Rattle.record_rows.specs.Laws.{ChangedRowsMake, ChangesGoOn, ChangesMayGoOn, HitsAddUp, HitsAreChanges, HitsChangeStates, HitsCount, HitsMayCome, HitsTell};
 ghost use Rattle.record_rows.specs.Laws.{MarkedRecordsAreChanges, MarkedRecordsCount, MarkedRecordsMayCome, MarksAreChanges, MarksCount, MarksMayCome, MarksTell};
 ghost use Rattle.record_rows.specs.Laws.{OnlyFailedAreHit, RecordsAreChanges, RecordsChangeStates, RecordsCount, RecordsGroup, RecordsMayCome, RecordsTell, ToldHitNoMore};
 
-/// The rows behind a record come by breaks, maturing rows and hits, in this order, which may all come at its cut.
+/// The rows after a record come by breaks, maturing rows and hits, in this order, which may all come at its cut.
 pub fn records_are_changes()
     ensures rows { RecordsAreChanges }
     ensures may_come { RecordsMayCome }
 {}
 
-/// So do the rows behind hits alone: of a record of suspensions, of a mark that no record follows, and behind a command's rows.
+/// So do the rows after hits alone: of a record of suspensions, of a mark that no record follows, and after a command's rows.
 pub fn hits_are_changes()
     ensures rows { HitsAreChanges }
     ensures may_come { HitsMayCome }
@@ -21,40 +21,40 @@ pub fn hits_are_changes()
 pub fn marks_are_changes()
     ensures rows { MarksAreChanges }
     ensures may_come { MarksMayCome }
-    ensures record_rows { BehindMarksAreChanges }
-    ensures record_may_come { BehindMarksMayCome }
+    ensures record_rows { AfterMarksAreChanges }
+    ensures record_may_come { AfterMarksMayCome }
     ensures both { MarkedRecordsAreChanges }
     ensures both_may_come { MarkedRecordsMayCome }
 {}
 
 /// By records and marks devices suspend the rows of failed volumes, all of them and no others. No suspended row goes on.
 pub fn failed_jobs_are_told()
-    ensures behind { RecordsTell }
-    ensures behind_mark { BehindMarksTell }
+    ensures after { RecordsTell }
+    ensures after_mark { AfterMarksTell }
     ensures hits { HitsTell }
     ensures mark { MarksTell }
     ensures only_failed { OnlyFailedAreHit }
     ensures no_more { ToldHitNoMore }
 {}
 
-/// Behind a group's record no row waits for its copy, one becomes duplex only by a done plan, and none goes on whose control broke.
+/// After a group's record no row waits for its copy, one becomes duplex only by a done plan, and none goes on whose controller broke.
 pub fn groups_are_told()
-    ensures behind { RecordsGroup }
-    ensures behind_mark { BehindMarksGroup }
+    ensures after { RecordsGroup }
+    ensures after_mark { AfterMarksGroup }
 {}
 
-/// The rows that a record changes, put in order in the places of their devices' rows, make the rows behind it.
+/// The rows that a record changes, put in order in the places of their devices' rows, make the rows after it.
 pub fn changed_rows_make_them()
     ensures make { ChangedRowsMake }
-    ensures behind { RecordsChangeStates }
-    ensures behind_mark { BehindMarksChangeStates }
+    ensures after { RecordsChangeStates }
+    ensures after_mark { AfterMarksChangeStates }
     ensures hits { HitsChangeStates }
 {}
 
 /// A record or a mark hits each device that is hit now once, and a mark and the record that it is made for hit none twice.
 pub fn hits_are_counted()
-    ensures behind { RecordsCount }
-    ensures behind_mark { BehindMarksCount }
+    ensures after { RecordsCount }
+    ensures after_mark { AfterMarksCount }
     ensures hits { HitsCount }
     ensures mark { MarksCount }
     ensures both { MarkedRecordsCount }

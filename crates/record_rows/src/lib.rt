@@ -1,4 +1,4 @@
-//! The rows behind a record and behind a mark: what a formed group and the failures of volumes make of them, as changes of rows at
+//! The rows after a record and after a mark: what a formed group and the failures of volumes make of them, as changes of rows at
 //! times, when these may come, and how often each device is hit.
 #![tactic(auto)]
 

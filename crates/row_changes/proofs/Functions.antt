@@ -47,7 +47,7 @@ after_rows level (t ∷ changes) rows =
 abbrev is_plain : Timed → Bool
 is_plain t = is_break t || is_maturing t
 
--- what a change that is no hit makes of the state of a device's row, with its control
+-- what a change that is no hit makes of the state of a device's row, with its controller
 abbrev pub state_by : Timed → (device control : ℕ) → PairState → PairState
 state_by t device control state = elim t.change [
   | Mature d s ↦ cond (nat_eq d device) s state
@@ -123,7 +123,7 @@ matures_from Duplex to may = absurd cc
 matures_from (Suspended cause time) to may = absurd cc
 
 -- What is known of a state after changes that lead from one time to another: a suspended one stays; else it is suspended by the
--- control's break, which lies between, where that came, and isn't suspended where it didn't.
+-- controller's break, which lies between, where that came, and isn't suspended where it didn't.
 pub record Settles (breaks : List (Option ℕ)) (from to control : ℕ) (changes : List Timed) (old new : PairState) : Type 0 where
   pub stays : is_suspended old ≡ true → new ≡ old
   pub broken : is_suspended old ≡ false → list_any (breaks_control control) changes ≡ true → (b : ℕ) × (break_time_of control breaks ≡ Some b) × (from ≤ b) × (b < to) × (new ≡ since ByControl b)
@@ -139,12 +139,12 @@ below_end time to differs le = choose (nat_eq time to) refl differs
     choose true is n = absurd cc
     choose false is n = other_below time to is le
 
--- The device's row in a state, with its control.
+-- The device's row in a state, with its controller.
 abbrev Found : (device control : ℕ) → List PairRow → PairState → Type 0
 Found device control rows state = (r : PairRow) × (row_of device rows ≡ Some r) × (r.device ≡ device) × (r.control ≡ control) × (r.state ≡ state)
 
 module _ (level : Level) (breaks : List (Option ℕ)) (to device control : ℕ) where
-  -- A change is behind others that settle what it leaves.
+  -- A change is after others that settle what it leaves.
   one_settles : (from time : ℕ) (change : RowChange) (changes : List Timed) (rows : List PairRow) (state new : PairState) → let t : Timed = record { time = time; change = change } in
       from ≤ time → time ≤ to → not (is_break t && nat_eq time to) ≡ true → is_plain t ≡ true → Found device control rows state
       → may_come breaks NoneDue rows t ≡ true → Settles breaks time to control changes (state_by t device control state) new → Settles breaks from to control (t ∷ changes) state new
@@ -283,7 +283,7 @@ apart_found x r rest apart found =
 here_found : (r : PairRow) (rest : List PairRow) → row_of r.device (r ∷ rest) ≡ Some r
 here_found r rest = rw (eq-eqb r.device r.device refl) refl
 
--- Each of these is found by its device behind rows that don't clash with it.
+-- Each of these is found by its device after rows that don't clash with it.
 abbrev Founds : List PairRow → List PairRow → Type 0
 Founds all rows = (i : ℕ) (x : PairRow) → slice_get rows i ≡ Some x → row_of x.device all ≡ Some x
 

@@ -14,7 +14,7 @@ use Rattle.pair_table.specs.Devices.{is_among}
 
 -- A change of rows. Rows are named by their devices.
 --   Mature: a pending row becomes copying or duplex, or a copying row duplex.
---   Break: every row of the control that isn't suspended is suspended by the control.
+--   Break: every row of the controller that isn't suspended is suspended by the controller.
 --   Hit: volumes failed at one time. Their rows, suspended or not, are suspended by the device; and every other row that isn't suspended
 --     and that the hit reaches is suspended: by the session under level SESSION.
 --   MarkedHit: the same of a hit that stands in a mark which logging makes before its record, where the other rows still wait.
@@ -91,7 +91,7 @@ may_mature Copy (Suspended cause time) = false
 may_mature Duplex state = false
 may_mature (Suspended cause time) state = false
 
--- The break times of the controls, in order. A control without one never breaks.
+-- The break times of the controllers, in order. A controller without one never breaks.
 abbrev pub break_time_of : (control : ℕ) → List (Option ℕ) → Option ℕ
 break_time_of k [] = None
 break_time_of zero (b ∷ breaks) = b
@@ -169,7 +169,7 @@ due_after level due t = elim t.change [
   | Reached devices ↦ NoneDue
 ]
 
--- A control breaks at its break time. Others are reached on their own only where they are due.
+-- A controller breaks at its break time. Others are reached on their own only where they are due.
 abbrev pub may_come : (breaks : List (Option ℕ)) → Due → List PairRow → Timed → Bool
 may_come breaks due rows t = elim t.change [
   | Mature device state ↦ is_of_record due t.time && row_may_mature state (row_of device rows)

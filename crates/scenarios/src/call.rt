@@ -28,7 +28,7 @@ pub struct Planned {
 pub struct Call<'a> {
     alloc: Global,
     words: Words<'a>,
-    /// The words of a second call behind it, on the devices as it leaves them.
+    /// The words of a second call after it, on the devices as it leaves them.
     then: Option<Words<'a>>,
     script: Vec<u8>,
     fails: Vec<Planned>,
@@ -194,7 +194,7 @@ impl<'a> Call<'a> {
         site.into_past(self.alloc, fails)
     }
 
-    /// Makes the call over these devices, and the one behind it, if there is one. Gives the status of the last one.
+    /// Makes the call over these devices, and the one after it, if there is one. Gives the status of the last one.
     fn run<R: Threads + Wait + Sync>(
         &self,
         rt: &R,

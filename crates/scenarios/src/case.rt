@@ -99,7 +99,7 @@ impl<'a> Case<'a> {
         }
     }
 
-    /// Takes a line of the set-up. Behind a call that was tried it changes what the call has left.
+    /// Takes a line of the set-up. After a call that was tried it changes what the call has left.
     fn take_setup(
         &mut self,
         keyword: &str,
@@ -275,7 +275,7 @@ impl<'a> Case<'a> {
 }
 
 impl Done {
-    /// The devices as a crash leaves them behind the call.
+    /// The devices as a crash leaves them after the call.
     fn into_past(self, alloc: Global) -> Result<Past, Wrong> {
         let Done { outcome: _, made } = self;
         made.into_left().freeze(alloc)

@@ -13,7 +13,7 @@ pub struct Ending<'a> {
     pub words: Words<'a>,
     lines: u64,
     part: &'a str,
-    /// What stands behind the part: the end of its line, or nothing.
+    /// What stands after the part: the end of its line, or nothing.
     part_end: &'static str,
     status: u8,
     /// The names of what is left, one for each fill or one for all.
@@ -39,7 +39,7 @@ impl<'a> Ending<'a> {
         })
     }
 
-    /// Reads `part TEXT` or `line TEXT`, if one is next, and the word `status`. Gives the text, and what stands behind it.
+    /// Reads `part TEXT` or `line TEXT`, if one is next, and the word `status`. Gives the text, and what stands after it.
     fn read_part(words: &mut Words<'a>) -> Result<(&'a str, &'static str), Wrong> {
         let end = if words.skip("part") {
             ""

@@ -34,13 +34,13 @@ pub struct Made {
     named: usize,
     has_status: bool,
     slots: Vec<Slot>,
-    /// What a crash leaves behind it.
+    /// What a crash leaves after it.
     left: Site,
     part: Part,
 }
 
 impl Made {
-    /// Behind a call whose crash leaves ranges filled with these bytes.
+    /// After a call whose crash leaves ranges filled with these bytes.
     pub fn new(alloc: Global, outcome: &Outcome, fill: &[u8], part: Part) -> Result<Made, Wrong> {
         let left = outcome.past.crash(alloc, fill)?;
         let said = copied(alloc, outcome.past.said())?;
@@ -106,12 +106,12 @@ impl Made {
         wanted: &[u8],
         report: &mut Report<'_>,
     ) -> Result<(), Wrong> {
-        if behind(self.said.as_slice(), self.named).starts_with(wanted) {
+        if after(self.said.as_slice(), self.named).starts_with(wanted) {
             self.named = self.named.saturating_add(wanted.len());
             return Ok(());
         }
         let part = self.part.with("said");
-        let got = first_line(behind(self.said.as_slice(), self.named));
+        let got = first_line(after(self.said.as_slice(), self.named));
         report.compare(number, part, wanted, got)
     }
 
@@ -202,9 +202,9 @@ impl Made {
     fn is_somewhere(&mut self, device: Device, length: u64, wanted: &[u8]) -> Result<bool, Wrong> {
         let mut piece = Vec::new(self.alloc);
         for place in (0..length).step_by(PIECE) {
-            let behind = (length - place).min(PIECE.saturating_add(wanted.len()) as u64);
+            let after = (length - place).min(PIECE.saturating_add(wanted.len()) as u64);
             piece.clear();
-            for _ in 0..behind {
+            for _ in 0..after {
                 piece.push(0)?;
             }
             let is_read = self.left.get(device, place, piece.as_mut_slice());
@@ -275,18 +275,18 @@ impl Made {
 
     /// All that was said has been named.
     fn end_said(&self, number: u64, report: &mut Report<'_>) -> Result<(), Wrong> {
-        let left = behind(self.said.as_slice(), self.named);
+        let left = after(self.said.as_slice(), self.named);
         report.compare(number, self.part.with("said at last"), b"", left)
     }
 }
 
 /// Whether bytes stand somewhere within others.
 fn has_bytes(all: &[u8], wanted: &[u8]) -> bool {
-    (0..all.len()).any(|place| behind(all, place).starts_with(wanted))
+    (0..all.len()).any(|place| after(all, place).starts_with(wanted))
 }
 
-/// What stands behind so many bytes of a text.
-fn behind(text: &[u8], count: usize) -> &[u8] {
+/// What stands after so many bytes of a text.
+fn after(text: &[u8], count: usize) -> &[u8] {
     text.get(count..).unwrap_or(b"")
 }
 

@@ -281,7 +281,7 @@ impl<'s, 'a> Scene<'s, 'a> {
         self.check_left(&recovered, left, part, report)
     }
 
-    /// At a call behind the last one all is as without a failure.
+    /// At a call after the last one all is as without a failure.
     fn try_calm<R: Threads + Wait + Sync>(
         self,
         rt: &R,
@@ -345,7 +345,7 @@ impl<'s, 'a> Scene<'s, 'a> {
         scene.try_lines(rt, Twist::NONE, words, Part::of("said"), report)
     }
 
-    /// A call ends with the status that is next, and says just the lines behind it.
+    /// A call ends with the status that is next, and says just the lines after it.
     fn try_lines<R: Threads + Wait + Sync>(
         self,
         rt: &R,
@@ -416,7 +416,7 @@ fn range(words: &mut Words<'_>) -> Result<(u64, u64), Wrong> {
     Ok((from, to))
 }
 
-/// A call has ended with the status that is next, and has said just the lines behind it.
+/// A call has ended with the status that is next, and has said just the lines after it.
 fn check_lines(
     alloc: Global,
     outcome: &Outcome,

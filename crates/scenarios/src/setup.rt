@@ -1,4 +1,4 @@
-//! What a case sets up before its first call, and what it changes behind a call.
+//! What a case sets up before its first call, and what it changes after a call.
 
 use crate::site::{Past, Site};
 use crate::texts::serial_field;
@@ -45,8 +45,8 @@ pub struct Setup<'a> {
     volumes: u16,
     changes: Vec<Change<'a>>,
     traces: Vec<Trace>,
-    /// Whether it stands behind a call of its case.
-    is_behind_call: bool,
+    /// Whether it stands after a call of its case.
+    is_after_call: bool,
 }
 
 impl<'a> Setup<'a> {
@@ -58,7 +58,7 @@ impl<'a> Setup<'a> {
             volumes: 0,
             changes: Vec::new(alloc),
             traces: Vec::new(alloc),
-            is_behind_call: false,
+            is_after_call: false,
         }
     }
 
@@ -75,10 +75,10 @@ impl<'a> Setup<'a> {
         Ok(copy)
     }
 
-    /// Goes on behind a call: the changes so far are in what it has left.
+    /// Goes on after a call: the changes so far are in what it has left.
     pub fn go_on(&mut self) {
         self.changes.clear();
-        self.is_behind_call = true;
+        self.is_after_call = true;
     }
 
     pub fn traces(&self) -> &[Trace] {
@@ -113,7 +113,7 @@ impl<'a> Setup<'a> {
     }
 
     fn take_journals(&mut self, mut words: Words<'a>) -> Result<(), Wrong> {
-        if self.is_behind_call {
+        if self.is_after_call {
             return Err(words.wrong("journals stand before the first run"));
         }
         self.journals = words.short()?;
@@ -122,7 +122,7 @@ impl<'a> Setup<'a> {
     }
 
     fn take_volume(&mut self, mut words: Words<'a>) -> Result<(), Wrong> {
-        if self.is_behind_call {
+        if self.is_after_call {
             return Err(words.wrong("volumes stand before the first run"));
         }
         let number = words.short()?;
@@ -166,7 +166,7 @@ impl<'a> Setup<'a> {
         }
     }
 
-    /// The devices as the lines so far leave them, behind what a call has left if there is one.
+    /// The devices as the lines so far leave them, after what a call has left if there is one.
     pub fn stand(&self, left: Option<&Past>) -> Result<Past, Wrong> {
         let mut site = match left {
             Some(left) => left.crash(self.alloc, b"")?,

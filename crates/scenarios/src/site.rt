@@ -1,4 +1,4 @@
-//! Devices in memory, as they stand before a call, and with their past behind one.
+//! Devices in memory, as they stand before a call, and with their past after one.
 
 ghost use Rattle.crash_plant.specs.Calls.{NoneLent};
 ghost use Rattle.crash_plant.specs.MemoryPlant.{memory_state};
@@ -87,7 +87,7 @@ impl Site {
             let count = (length - place).min(CHUNK as u64) as usize;
             let is_read = self.get(device, place, &mut here[..count])
                 && other.get(device, place, &mut there[..count]);
-            // Behind a short last piece both hold what the piece before had, which is the same.
+            // After a short last piece both hold what the piece before had, which is the same.
             if !is_read || here != there {
                 return false;
             }

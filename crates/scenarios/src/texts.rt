@@ -18,7 +18,7 @@ pub fn spell(words: Words<'_>, text: &str, into: &mut String) -> Result<(), Wron
     Ok(())
 }
 
-/// Puts what stands behind a `[` at the end.
+/// Puts what stands after a `[` at the end.
 fn spell_piece(words: Words<'_>, piece: &str, into: &mut String) -> Result<(), Wrong> {
     let (digits, rest) = piece.split_once(']').unwrap_or(("", piece));
     let Ok(stamp) = u64::from_str_radix(digits, 16) else {

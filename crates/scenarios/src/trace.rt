@@ -297,7 +297,7 @@ fn put_image(alloc: Global, words: &mut Words<'_>, into: &mut Vec<u8>) -> Result
     Ok(())
 }
 
-/// Puts what stands behind the track of an update, a format or a whole track at the end.
+/// Puts what stands after the track of an update, a format or a whole track at the end.
 fn put_effect(
     alloc: Global,
     tag: u8,
@@ -338,8 +338,8 @@ fn put_format(alloc: Global, words: &mut Words<'_>, into: &mut Vec<u8>) -> Resul
 /// Puts the bytes of a patch over those of a trace.
 fn put_patch(bytes: &mut [u8], patch: &Patch) -> Result<(), Wrong> {
     let with = patch.bytes.as_slice();
-    let behind = bytes.len().saturating_sub(patch.place);
-    if with.len() > behind {
+    let after = bytes.len().saturating_sub(patch.place);
+    if with.len() > after {
         return Err(Wrong::Line {
             number: patch.line,
             why: "the trace is shorter",

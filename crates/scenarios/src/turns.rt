@@ -55,7 +55,7 @@ impl Lines {
         self.numbers.as_slice()
     }
 
-    /// Takes a line, and gives the block that is open behind it.
+    /// Takes a line, and gives the block that is open after it.
     fn take<'a>(
         &mut self,
         alloc: Global,

@@ -43,7 +43,7 @@ impl<'a> Words<'a> {
         }
     }
 
-    /// The next word, which is behind then.
+    /// The next word, which is passed then.
     pub fn next(&mut self) -> Option<&'a str> {
         let rest = self.rest.trim_start();
         if rest.is_empty() {
@@ -61,7 +61,7 @@ impl<'a> Words<'a> {
         }
     }
 
-    /// Whether this word is next, which is behind then.
+    /// Whether this word is next, which is passed then.
     pub fn skip(&mut self, expected: &str) -> bool {
         let mut after = *self;
         let is_next = after.next() == Some(expected);
@@ -217,7 +217,7 @@ impl<'a> Words<'a> {
         };
         match count.parse::<u32>() {
             Ok(count) => Ok((text, count)),
-            Err(_) => Err(self.wrong("a number is wanted behind *")),
+            Err(_) => Err(self.wrong("a number is wanted after *")),
         }
     }
 

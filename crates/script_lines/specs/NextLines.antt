@@ -1,4 +1,4 @@
--- The next line of a script, behind others.
+-- The next line of a script, after others.
 use Rattle.std.specs.Prelude.{◌≡◌, ◌⊎◌, ℕ, ◌+◌, ◌-◌, List, [], length, Option, Some, None}
 use Rattle.crash_plant.specs.Moments.{PlantState}
 use Rattle.xrc_command.specs.declared.line.Line.{Line}
@@ -10,7 +10,7 @@ use Rattle.script_lines.specs.declared.next.Next.{Next}
 use Rattle.script_lines.specs.declared.next.Next.TheVariants.{Bad, Line as NextLine, Nothing}
 use Rattle.script_lines.specs.Texts.{IsNothing, IsTooLong, IsWhole}
 
--- What is next is a line that was heard whole, exactly where its text spells one that counts at this number, counted from 1, and behind
+-- What is next is a line that was heard whole, exactly where its text spells one that counts at this number, counted from 1, and after
 -- a line of this time. Any other line is bad.
 abbrev pub IsNextLine : (tells : Type 0) → (number before : ℕ) → (text left : List ℕ) → Next → Type 0
 IsNextLine tells number before text left (NextLine line) = IsWhole tells text left × (later_line (number - 1) before (line_spelled (first_line text)) ≡ Some line)

@@ -42,14 +42,14 @@ pub record IsNothing (tells : Type 0) (text left : List ℕ) : Type 0 where
   pub text_is : text ≡ []
   pub at_end : tells → left ≡ []
 
--- ---- behind the front of a line
+-- ---- after the front of a line
 
 -- what was heard
 abbrev pub bytes_of : Heard → List ℕ
 bytes_of (Byte b) = b ∷ []
 bytes_of End = []
 
--- How the line ended with what was heard behind its front. None where it goes on.
+-- How the line ended with what was heard after its front. None where it goes on.
 abbrev pub end_after : (front : List ℕ) → Heard → Option LineEnd
 end_after front (Byte b) = if b == 10 then Some Whole else None
 end_after [] End = Some Nothing

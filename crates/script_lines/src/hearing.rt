@@ -10,7 +10,7 @@ use crate::line_text::LineText;
 use crash_plant::{Heard, Plant};
 use xrc_edge::{Failed, LONGEST_TEXT};
 
-// Puts what was heard next behind the front of a line, and says how the line ended with it. None where it goes on.
+// Puts what was heard next after the front of a line, and says how the line ended with it. None where it goes on.
 fn put_heard(text: &mut LineText, heard: Heard) -> Option<LineEnd>
     requires { IsFront text.old }
     ensures text { text.new ≡ text.old ++ bytes_of heard }
@@ -26,7 +26,7 @@ fn put_heard(text: &mut LineText, heard: Heard) -> Option<LineEnd>
     }
 }
 
-// Hears what is next behind the front of a line, and says how the line ended with it. None where it goes on.
+// Hears what is next after the front of a line, and says how the line ended with it. None where it goes on.
 fn hear_next<P: Plant>(plant: &mut P, text: &mut LineText) -> Result<Option<LineEnd>, Failed>
     requires { IsFront text.old }
     ensures heard { P.tells → (began : P) → HearsText text.old (P.state began) (P.state plant.old) → HearsText text.new (P.state began) (P.state plant.new) }
@@ -45,8 +45,8 @@ fn hear_next<P: Plant>(plant: &mut P, text: &mut LineText) -> Result<Option<Line
     Ok(put_heard(text, heard))
 }
 
-/// Hears the next line of the script into the text, from which all that stood there is gone: no byte behind its line feed, and of a
-/// line that is too long none behind the first byte too many.
+/// Hears the next line of the script into the text, from which all that stood there is gone: no byte after its line feed, and of a
+/// line that is too long none after the first byte too many.
 pub(crate) fn hear_line<P: Plant>(plant: &mut P, text: &mut LineText) -> Result<LineEnd, Failed>
     ensures heard { P.tells → HearsText text.new (P.state plant.old) (P.state plant.new) }
     ensures keeps { P.tells → (first : P) → KeepsHearing [] text.new (P.state first) (P.state plant.old) (P.state plant.new) }

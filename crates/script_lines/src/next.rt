@@ -40,7 +40,7 @@ fn later_line(text: &LineText, number: u32, before: Stamp) -> Option<Line>
     }
 }
 
-/// Hears the line of this number, counted from 1, behind a line of this time, as `hear_line` does, and tells what it asks. The time
+/// Hears the line of this number, counted from 1, after a line of this time, as `hear_line` does, and tells what it asks. The time
 /// before the first line is 0.
 pub fn next_line<P: Plant>(
     plant: &mut P,

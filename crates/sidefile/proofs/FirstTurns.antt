@@ -35,8 +35,8 @@ ahead_none r bytes goes = ap (λ (s : Option Stopped). entries_ahead s r bytes) 
 -- ---- an entry was read first
 
 module _ {before mid : Option (List ℕ)} {r s : ReaderState} (e : Entry) (goes : r.stopped ≡ None) (reads : ReadsEntry before mid r s e) where
-  same_ahead : (bytes rest : List ℕ) (p : EntriesAreRead r s (e ∷ []) bytes rest) (behind : List ℕ) → ahead None r (p.used ++ behind) ≡ ahead (Some e) s behind
-  same_ahead bytes rest p behind = ahead_none r (p.used ++ behind) goes ∙ ap (λ (x : List Entry × Left). x.0) (p.fronts behind) ∙ sym (ahead_open e s behind reads.goes_on)
+  same_ahead : (bytes rest : List ℕ) (p : EntriesAreRead r s (e ∷ []) bytes rest) (more : List ℕ) → ahead None r (p.used ++ more) ≡ ahead (Some e) s more
+  same_ahead bytes rest p more = ahead_none r (p.used ++ more) goes ∙ ap (λ (x : List Entry × Left). x.0) (p.fronts more) ∙ sym (ahead_open e s more reads.goes_on)
 
   same_all : (bytes rest : List ℕ) → EntriesAreRead r s (e ∷ []) bytes rest → ahead None r bytes ≡ ahead (Some e) s rest
   same_all bytes rest p = ap (ahead None r) p.split ∙ same_ahead bytes rest p rest
@@ -49,15 +49,15 @@ module _ {before mid : Option (List ℕ)} {r s : ReaderState} (e : Entry) (goes 
       let same = same_all bytes rest p in
       due rest (λ g. told) ∙ ap (λ (c : Option Cause). hand control c limit (runs_ahead (front (Some e) s) rest)) p.same_end ∙ ap (λ (es : List Entry). hand control (cause_ahead r bytes) limit (runs es)) (sym same)
 
-  same_behind : (control limit : ℕ) (after : SidefileFront) (given : Hand) (bytes rest : List ℕ) (p : EntriesAreRead r s (e ∷ []) bytes rest) (used behind : List ℕ)
-      → HandsSame control limit (front (Some e) s) after used behind given → HandsSame control limit (front None r) after (p.used ++ used) behind given
-  same_behind control limit after given bytes rest p used behind same =
-      let parts = append_assoc p.used used behind in
-      let all = ap (ahead None r) parts ∙ same_ahead bytes rest p (used ++ behind) in
+  same_after : (control limit : ℕ) (after : SidefileFront) (given : Hand) (bytes rest : List ℕ) (p : EntriesAreRead r s (e ∷ []) bytes rest) (used more : List ℕ)
+      → HandsSame control limit (front (Some e) s) after used more given → HandsSame control limit (front None r) after (p.used ++ used) more given
+  same_after control limit after given bytes rest p used more same =
+      let parts = append_assoc p.used used more in
+      let all = ap (ahead None r) parts ∙ same_ahead bytes rest p (used ++ more) in
       record {
         hand = λ cause. same.hand cause ∙ ap (λ (es : List Entry). hand control cause limit (runs es)) (sym all);
         runs = same.runs ∙ ap (λ (es : List Entry). left_after given (runs es)) (sym all);
-        fault = λ fault. subst (λ (b : List ℕ). IsFault r b) (sym parts) (fault_before r s (e ∷ []) bytes rest p (used ++ behind) (same.fault fault));
+        fault = λ fault. subst (λ (b : List ℕ). IsFault r b) (sym parts) (fault_before r s (e ∷ []) bytes rest p (used ++ more) (same.fault fault));
       }
 
   -- and the same is left
@@ -77,7 +77,7 @@ module _ {before mid : Option (List ℕ)} {r s : ReaderState} (e : Entry) (goes 
           runs = l.runs ∙ ap (λ (es : List Entry). left_after given (runs es)) (sym same);
           same_end = l.same_end ∙ p.same_end;
           went_on = λ g. goes;
-          fronts = λ g behind. same_behind control limit after given bytes rest p l.used behind (l.fronts g behind);
+          fronts = λ g more. same_after control limit after given bytes rest p l.used more (l.fronts g more);
         },
       )
 
@@ -130,7 +130,7 @@ turn_ended control limit upto before now f1 f2 r t le none volumes stopped count
           runs = ap runs (gone.0 ∙ sym empty);
           same_end = gone.1 ∙ sym clean;
           went_on = λ g. let both = sym g ∙ stopped in absurd cc;
-          fronts = λ g behind. let both = sym g ∙ stopped in absurd cc;
+          fronts = λ g more. let both = sym g ∙ stopped in absurd cc;
         },
       );
   holds = tt;

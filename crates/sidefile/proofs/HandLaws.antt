@@ -65,14 +65,14 @@ one_break a b e =
     ap (λ (c : Cause). record { cause = c; upto = a.upto }) causes ∙ ap (λ n. record { cause = b.cause; upto = n }) (same_stamp (stamp a.upto) (stamp b.upto) stamps)
 
 -- a break of the runs that a hand leaves is a break of them all
-break_behind : (cause : Option Cause) (run : List Entry) (more : List (List Entry)) (b : Break) → is_crowded run ≡ false → (more ≡ [] → cause ≡ None) → break_in cause more ≡ Some b → break_in cause (run ∷ more) ≡ Some b
-break_behind cause run [] b k clean e = let none : break_in cause [] ≡ None = ap (λ (c : Option Cause). break_in c []) (clean refl) in absurd cc
-break_behind cause run (next ∷ more) b k clean e = rw k e
+break_after : (cause : Option Cause) (run : List Entry) (more : List (List Entry)) (b : Break) → is_crowded run ≡ false → (more ≡ [] → cause ≡ None) → break_in cause more ≡ Some b → break_in cause (run ∷ more) ≡ Some b
+break_after cause run [] b k clean e = let none : break_in cause [] ≡ None = ap (λ (c : Option Cause). break_in c []) (clean refl) in absurd cc
+break_after cause run (next ∷ more) b k clean e = rw k e
 
 pub break_before : (control limit : ℕ) (cause : Option Cause) (all : List (List Entry)) (b : Break) → Step control cause limit all → break_in cause (left_after (hand control cause limit all) all) ≡ Some b → break_in cause all ≡ Some b
 break_before control limit cause all b (Takes run more upto is h there goes k clean) e =
     let left : left_after (hand control cause limit all) all ≡ more = ap (λ (x : Hand). left_after x all) h ∙ ap (left_after (hands.Batch (batch_of control run upto))) is in
-    ap (break_in cause) is ∙ break_behind cause run more b k clean (ap (break_in cause) (sym left) ∙ e)
+    ap (break_in cause) is ∙ break_after cause run more b k clean (ap (break_in cause) (sym left) ∙ e)
 break_before control limit cause all b (Waits h above clean) e = ap (λ (x : Hand). break_in cause (left_after x all)) (sym h) ∙ e
 break_before control limit cause all b (Breaks c h upto there some br) e = ap (λ (x : Hand). break_in cause (left_after x all)) (sym h) ∙ e
 

@@ -13,7 +13,7 @@ use Rattle.write_trace.specs.UnreadBytes.{seen}
 use Rattle.sidefile.proofs.Local.{IsLocal, local_number, local_bytes, local_done, local_then, local_choice}
 use Rattle.sidefile.proofs.LocalImages.{local_image}
 use Rattle.sidefile.proofs.LocalEntries.{local_place}
-use Rattle.sidefile.proofs.Steps.{seen_behind, front_of_all}
+use Rattle.sidefile.proofs.Steps.{seen_after, front_of_all}
 
 local_bad : {A : Type 0} (bad : Bad) → IsLocal {A = A} (λ left. Err bad)
 local_bad bad left x e = absurd cc
@@ -82,16 +82,16 @@ pub header_of_front : (bytes rest front left : List ℕ) (header : Header) (plac
     → (given : List ℕ) × (take (place + length front) bytes ≡ given) × (header_at 1 (whole_trace given) ≡ Ok (header, seen place front))
 header_of_front bytes rest front left header place read split le =
     let t = local_header 1 (whole_trace bytes) (header, seen place rest) read in
-    let behind = (seen (place + length front) left).bytes in
-    let parts : take most_bytes bytes ≡ (t.text ++ front) ++ behind =
+    let after = (seen (place + length front) left).bytes in
+    let parts : take most_bytes bytes ≡ (t.text ++ front) ++ after =
     t.parts
     ∙ ap (λ (b : List ℕ). t.text ++ (seen place b).bytes) split
-    ∙ ap (λ (l : Left). t.text ++ l.bytes) (seen_behind place front left (omega (arith, le)))
-    ∙ sym (append_assoc t.text front behind) in
+    ∙ ap (λ (l : Left). t.text ++ l.bytes) (seen_after place front left (omega (arith, le)))
+    ∙ sym (append_assoc t.text front after) in
     let long : place + length front ≡ length (t.text ++ front) = omega (arith, t.place, length-append t.text front) in (
       t.text ++ front,
-      ap (λ n. take n bytes) long ∙ front_of_all (t.text ++ front) behind bytes most_bytes parts,
-      ap (header_at 1) (seen_behind 0 t.text front (omega (arith, le, t.place)))
+      ap (λ n. take n bytes) long ∙ front_of_all (t.text ++ front) after bytes most_bytes parts,
+      ap (header_at 1) (seen_after 0 t.text front (omega (arith, le, t.place)))
           ∙ t.again (seen (0 + length t.text) front).bytes
           ∙ ap (λ n. Ok (header, seen n front)) (sym t.place),
     )

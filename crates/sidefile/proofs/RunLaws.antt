@@ -84,7 +84,7 @@ run_before first (e ∷ taken) next more stamps other =
     joins first e taken (runs (next ∷ more)) (runs (e ∷ taken ++ next ∷ more)) same
     (run_before e taken next more (subst (λ n. have_stamp n taken ≡ true) same parts.1) (λ is. other (same ∙ is)))
 
--- a run that goes on behind some of its entries
+-- a run that goes on after some of its entries
 pub record GoesOn (run : List Entry) (all : List (List Entry)) : Type 0 where
   pub others : List Entry
   pub more : List (List Entry)
@@ -113,7 +113,7 @@ hand_above control cause limit first entries above =
     choose run [] = rw (lt-ltb limit (stamp_of first) above) refl
     choose run (next ∷ more) = rw (lt-ltb limit (stamp_of first) above) refl
 
--- a whole run, and an entry behind it
+-- a whole run, and an entry after it
 pub hand_before : (control : ℕ) (cause : Option Cause) (limit : ℕ) (first : Entry) (taken : List Entry) (next : Entry) (more : List Entry)
     → have_stamp (stamp_of first) taken ≡ true → stamp_of first ≢ stamp_of next → stamp_of first ≤ limit → length (writes_of (first ∷ taken)) ≤ WRITES_OF_RUN
     → hand control cause limit (runs (first ∷ taken ++ next ∷ more)) ≡ hands.Batch (batch_of control (first ∷ taken) (min limit (stamp_of next - 1)))

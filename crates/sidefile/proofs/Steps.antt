@@ -28,8 +28,8 @@ use Rattle.sidefile.proofs.Turns.{turn_ok, turn_err, shorter, enough_turns, none
 -- ---- the bytes of an entry
 
 -- a text in front of what is seen is seen in front of it
-pub seen_behind : (place : ℕ) (text front : List ℕ) → length text ≤ most_bytes - place → seen place (text ++ front) ≡ at place (text ++ (seen (place + length text) front).bytes)
-seen_behind place text front le =
+pub seen_after : (place : ℕ) (text front : List ℕ) → length text ≤ most_bytes - place → seen place (text ++ front) ≡ at place (text ++ (seen (place + length text) front).bytes)
+seen_after place text front le =
     let room : most_bytes - place ≡ length text + (most_bytes - (place + length text)) = omega (arith, le) in
     ap (at place)
     (ap (λ n. take n (text ++ front)) room
@@ -67,7 +67,7 @@ took before now old new e reads bytes told =
         parts = spelled ∙ ap (λ (u : List ℕ). u ++ rest) (sym text_is);
         place = t.place;
         again = λ more.
-            ap (entry_at 1 old.volumes old.last) (seen_behind old.left.place t.text more le)
+            ap (entry_at 1 old.volumes old.last) (seen_after old.left.place t.text more le)
             ∙ t.again (seen (old.left.place + length t.text) more).bytes
             ∙ ap (λ n. Ok (e, seen n more)) (sym t.place);
       },
@@ -76,18 +76,18 @@ took before now old new e reads bytes told =
 -- ---- one entry
 
 -- what is read of bytes that begin with an entry's
-pub read_behind : (old new : ReaderState) (e : Entry) (bytes rest : List ℕ) (t : Took old new e bytes rest) → new.volumes ≡ old.volumes → new.last ≡ stamp_of e → (front : List ℕ)
+pub read_after : (old new : ReaderState) (e : Entry) (bytes rest : List ℕ) (t : Took old new e bytes rest) → new.volumes ≡ old.volumes → new.last ≡ stamp_of e → (front : List ℕ)
     → read_of old (t.text ++ front) ≡ (e ∷ (read_of new front).0, (read_of new front).1)
-read_behind old new e bytes rest t volumes last front =
+read_after old new e bytes rest t volumes last front =
     let all = seen old.left.place (t.text ++ front) in
-    let behind = seen new.left.place front in
+    let after = seen new.left.place front in
     let n = length all.bytes in
-    let less = shorter 1 old.volumes old.last all (e, behind) (t.again front) in
-    let same : entries_from n 1 old.volumes (stamp_of e) behind ≡ entries_from (length behind.bytes) 1 new.volumes new.last behind =
-    enough_turns n (length behind.bytes) 1 old.volumes (stamp_of e) behind (omega (arith, less)) (omega arith)
-    ∙ ap (λ (v : List VolumeHead). entries_from (length behind.bytes) 1 v (stamp_of e) behind) (sym volumes) ∙ ap (λ s. entries_from (length behind.bytes) 1 new.volumes s behind) (sym last) in
+    let less = shorter 1 old.volumes old.last all (e, after) (t.again front) in
+    let same : entries_from n 1 old.volumes (stamp_of e) after ≡ entries_from (length after.bytes) 1 new.volumes new.last after =
+    enough_turns n (length after.bytes) 1 old.volumes (stamp_of e) after (omega (arith, less)) (omega arith)
+    ∙ ap (λ (v : List VolumeHead). entries_from (length after.bytes) 1 v (stamp_of e) after) (sym volumes) ∙ ap (λ s. entries_from (length after.bytes) 1 new.volumes s after) (sym last) in
     enough_turns n (suc n) 1 old.volumes old.last all (omega arith) (omega arith)
-    ∙ turn_ok n 1 old.volumes old.last all e behind (t.again front)
+    ∙ turn_ok n 1 old.volumes old.last all e after (t.again front)
     ∙ ap (λ (p : List Entry × Left). (e ∷ p.0, p.1)) same
 
 -- why a reader that goes on will break
@@ -97,7 +97,7 @@ cause_open r bytes goes = ap (λ (s : Option Stopped). cause_to_come s r bytes) 
 pub reads_all : (before now : Option (List ℕ)) (old new : ReaderState) (e : Entry) → old.stopped ≡ None → ReadsEntry before now old new e → ReadsAllEntries before now old new (e ∷ [])
 reads_all before now old new e goes reads bytes told =
     let (rest, there, t) = took before now old new e reads bytes told in
-    let behind = λ (front : List ℕ). read_behind old new e bytes rest t reads.volumes reads.last front in
+    let after = λ (front : List ℕ). read_after old new e bytes rest t reads.volumes reads.last front in
     let end : new.left.place + length rest ≡ old.left.place + length bytes = omega (arith, t.place, ap length t.parts, length-append t.text rest) in (
       rest,
       there,
@@ -105,13 +105,13 @@ reads_all before now old new e goes reads bytes told =
         used = t.text;
         split = t.parts;
         place = t.place;
-        fronts = λ front. behind front;
+        fronts = λ front. after front;
         last = reads.last;
         volumes = reads.volumes;
         same_end =
             cause_open new rest reads.goes_on
             ∙ ap (λ n. cause_of (end_at n (read_of new rest).1)) end
-            ∙ ap (λ (l : Left). cause_of (end_at (old.left.place + length bytes) l)) (ap (λ (p : List Entry × Left). p.1) (sym (behind rest) ∙ ap (read_of old) (sym t.parts)))
+            ∙ ap (λ (l : Left). cause_of (end_at (old.left.place + length bytes) l)) (ap (λ (p : List Entry × Left). p.1) (sym (after rest) ∙ ap (read_of old) (sym t.parts)))
             ∙ sym (cause_open old bytes goes);
       },
     )
@@ -213,13 +213,13 @@ ends_then a b r s xs ys cause one two bytes told =
     let (read, end) = two mid there in
     (whole_read r s xs bytes mid p ∙ ap (λ (es : List Entry). xs ++ es) read, sym p.same_end ∙ end)
 
--- a fault behind bytes that follow entries is a fault behind them all
+-- a fault after bytes that follow entries is a fault after them all
 pub fault_before : (r s : ReaderState) (xs : List Entry) (bytes rest : List ℕ) (p : EntriesAreRead r s xs bytes rest) (front : List ℕ) → IsFault s front → IsFault r (p.used ++ front)
 fault_before r s xs bytes rest p front fault given len =
-    let behind = read_of s front in
+    let after = read_of s front in
     ap (λ (x : List Entry × Left). end_of true given 1 r.volumes (last_entry_stamp r.last x.0) x.1) (p.fronts front)
-    ∙ ap (λ n. end_of true given 1 r.volumes n behind.1) (last_append r.last xs behind.0 ∙ ap (λ n. last_entry_stamp n behind.0) (sym p.last))
-    ∙ ap (λ (v : List VolumeHead). end_of true given 1 v (last_entry_stamp s.last behind.0) behind.1) (sym p.volumes)
+    ∙ ap (λ n. end_of true given 1 r.volumes n after.1) (last_append r.last xs after.0 ∙ ap (λ n. last_entry_stamp n after.0) (sym p.last))
+    ∙ ap (λ (v : List VolumeHead). end_of true given 1 v (last_entry_stamp s.last after.0) after.1) (sym p.volumes)
     ∙ fault given (omega (arith, len, p.place, length-append p.used front))
 
 pub fails_then : (a b c : Option (List ℕ)) (r s : ReaderState) (xs ys : List Entry) → ReadsAllEntries a b r s xs → FailsAfter b c s ys → FailsAfter a c r (xs ++ ys)

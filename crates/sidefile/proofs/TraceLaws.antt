@@ -1,4 +1,4 @@
--- What is ahead of the reader behind a trace's header is the trace.
+-- What is ahead of the reader after a trace's header is the trace.
 use Rattle.std.proofs.Common.{◌≡◌, ℕ, ◌+◌, ◌-◌, ◌≤◌, Bool, true, false, cond, nat_eq, nat_le, List, length, take, None, Result, Ok, Err, refl, sym, ap, ◌∙◌, arith, length-append, length-take}
 use Rattle.std.proofs.lemmas.Bool.{leb-true}
 use Rattle.tod_stamp.specs.Fields.{Left, Bad}
@@ -45,8 +45,8 @@ end_without given version volumes last left bytes_end e =
 one_trace : (a b : Trace) → (let x : Result Trace HeaderError = Ok a in let y : Result Trace HeaderError = Ok b in x ≡ y) → a ≡ b
 one_trace a b e = cc
 
--- What is ahead of the reader that stands behind a trace's header are the trace's entries, with the trace's end: where the source
--- didn't fail, and where it failed behind these bytes.
+-- What is ahead of the reader that stands after a trace's header are the trace's entries, with the trace's end: where the source
+-- didn't fail, and where it failed after these bytes.
 pub ahead_trace : (failed : Bool) (given rest : List ℕ) (header : Header) (reader : ReaderState) (trace : Trace) →
     header_at 1 (whole_trace given) ≡ Ok (header, seen reader.left.place rest) → length given ≡ reader.left.place + length rest →
     header.version ≡ 1 → reader.volumes ≡ header.volumes → reader.last ≡ 0 → reader.stopped ≡ None →
@@ -89,7 +89,7 @@ fault_within given place (Err (Cut at)) h = within (nat_le (length given) most_b
     within true is h = leb-true (length given) most_bytes is
     within false is h = absurd cc
 
--- Where the header of all bytes was read, and the source failed behind a front of those that follow it: the trace of the bytes that
+-- Where the header of all bytes was read, and the source failed after a front of those that follow it: the trace of the bytes that
 -- it gave has this header, the entries that are read of the front, and ends by the fault.
 pub given_trace : (bytes rest front left : List ℕ) (header : Header) (reader : ReaderState) →
     header_at 1 (whole_trace bytes) ≡ Ok (header, seen reader.left.place rest) → length bytes ≡ reader.left.place + length rest →

@@ -29,7 +29,7 @@ use Rattle.sidefile.specs.Breaks.{stamp, break_after}
 use Rattle.sidefile.specs.Hands.{batch_of, broken_or, hand, left_after}
 use Rattle.sidefile.specs.AheadEntries.{IsAhead, read_of, entries_ahead, ahead, cause_ahead, cause_to_come}
 use Rattle.sidefile.specs.ExactHands.{SidefileFront, HandsSame, IsHand, LeavesRuns, runs_ahead}
-use Rattle.sidefile.specs.Looks.{IsEntryTo, EntriesAreRead, have_stamp, FoundBehind, TakesRun}
+use Rattle.sidefile.specs.Looks.{IsEntryTo, EntriesAreRead, have_stamp, FoundAfter, TakesRun}
 use Rattle.sidefile.specs.States.{IsRunOf}
 use Rattle.sidefile.specs.Turns.{IsHandover, front}
 use Rattle.sidefile.proofs.RunLaws.{hand_above, hand_before, hand_at_end, hand_crowded, left_before, left_at_end}
@@ -39,7 +39,7 @@ both_true : (a b : Bool) → (a && b) ≡ true → (a ≡ true) × (b ≡ true)
 both_true true b e = (refl, e)
 both_true false b e = absurd cc
 
--- what is ahead behind an entry that waits, where the reader goes on, and where it does not
+-- what is ahead after an entry that waits, where the reader goes on, and where it does not
 pub ahead_open : (first : Entry) (r : ReaderState) (bytes : List ℕ) → r.stopped ≡ None → ahead (Some first) r bytes ≡ first ∷ (read_of r bytes).0
 ahead_open first r bytes goes = ap (λ (s : Option Stopped). first ∷ entries_ahead s r bytes) goes
 
@@ -77,9 +77,9 @@ turn_is {control} {limit} {upto} {before} {now} {faults} {risen} {waiting} {old}
 
 -- ---- what is left
 
--- Where the same is handed over whatever stands behind the bytes that were used, it is handed over of all bytes.
+-- Where the same is handed over whatever stands after the bytes that were used, it is handed over of all bytes.
 pub leaves_same : (control limit : ℕ) (told : Option (List ℕ)) (old new : SidefileFront) (used rest bytes : List ℕ) (given : Hand) → bytes ≡ used ++ rest → IsAhead new.reader told rest
-    → cause_ahead new.reader rest ≡ cause_ahead old.reader bytes → old.reader.stopped ≡ None → ((behind : List ℕ) → HandsSame control limit old new used behind given)
+    → cause_ahead new.reader rest ≡ cause_ahead old.reader bytes → old.reader.stopped ≡ None → ((after : List ℕ) → HandsSame control limit old new used after given)
     → IsHand control limit old bytes given × LeavesRuns control limit told old new bytes given
 leaves_same control limit told old new used rest bytes given split there end goes same =
     let all = same rest in (
@@ -92,7 +92,7 @@ leaves_same control limit told old new used rest bytes given split there end goe
         runs = all.runs ∙ ap (λ (b : List ℕ). left_after given (runs_ahead old b)) (sym split);
         same_end = end;
         went_on = λ g. goes;
-        fronts = λ g behind. same behind;
+        fronts = λ g after. same after;
       },
     )
 
@@ -102,8 +102,8 @@ pub turn_above : (control limit upto : ℕ) (told : Option (List ℕ)) (faults :
     → limit < stamp_of first → upto ≤ limit → IsEntryTo r.volumes first → r.last ≡ stamp_of first → r.stopped ≡ None
     → IsHandover control limit upto told told faults faults (Some first) r r (record { hand = hands.AtLimit; waiting = Some first })
 turn_above control limit upto told faults first r above le kept last goes = record {
-  due = λ bytes there. leaves_same control limit told (front (Some first) r) (front (Some first) r) [] bytes bytes hands.AtLimit refl there refl goes (λ behind. record {
-    hand = λ cause. sym (ap (λ (es : List Entry). hand control cause limit (runs es)) (ahead_open first r behind goes) ∙ hand_above control cause limit first (read_of r behind).0 above);
+  due = λ bytes there. leaves_same control limit told (front (Some first) r) (front (Some first) r) [] bytes bytes hands.AtLimit refl there refl goes (λ after. record {
+    hand = λ cause. sym (ap (λ (es : List Entry). hand control cause limit (runs es)) (ahead_open first r after goes) ∙ hand_above control cause limit first (read_of r after).0 above);
     runs = refl;
     fault = λ fault. fault;
   });
@@ -146,23 +146,23 @@ module _ {before now : Option (List ℕ)} {faults risen : ℕ} {old new : Reader
       → hand control cause limit (runs (ahead (Some first) old bytes)) ≡ broken_or (hands.Batch (batch_of control (first ∷ h.taken) limit)) (break_after cause (stamp_of first))
   at_end cause bytes e = ap (λ (es : List Entry). hand control cause limit (runs es)) (ahead_is bytes h.taken e) ∙ hand_at_end control cause limit first h.taken h.stamps there room
 
-  -- the same is handed over whatever stands behind the next entry
+  -- the same is handed over whatever stands after the next entry
   same_next : (e : Entry) (time : Stamp) (bytes rest : List ℕ) (p : EntriesAreRead old new (h.taken ++ e ∷ []) bytes rest) → stamp_of first ≢ stamp_of e → new.stopped ≡ None → time.0 ≡ min limit (stamp_of e - 1)
-      → (behind : List ℕ) → HandsSame control limit (front (Some first) old) (front (Some e) new) p.used behind (hands.Batch (record { control = control; writes = all; upto = time }))
-  same_next e time bytes rest p other goes_on is behind =
-      let more = (read_of new behind).0 in
-      let entries = ahead_is (p.used ++ behind) (h.taken ++ e ∷ more) (ap (λ (x : List Entry × Left). x.0) (p.fronts behind) ∙ append_assoc h.taken (e ∷ []) more) in
+      → (after : List ℕ) → HandsSame control limit (front (Some first) old) (front (Some e) new) p.used after (hands.Batch (record { control = control; writes = all; upto = time }))
+  same_next e time bytes rest p other goes_on is after =
+      let more = (read_of new after).0 in
+      let entries = ahead_is (p.used ++ after) (h.taken ++ e ∷ more) (ap (λ (x : List Entry × Left). x.0) (p.fronts after) ∙ append_assoc h.taken (e ∷ []) more) in
       let batch : Batch = record { control = control; writes = all; upto = time } in
       record {
         hand = λ cause.
             batch_is control all (writes_of (first ∷ h.taken)) time (min limit (stamp_of e - 1)) writes_are is
             ∙ sym (ap (λ (es : List Entry). hand control cause limit (runs es)) entries ∙ hand_before control cause limit first h.taken e more h.stamps other there room);
-        runs = ap runs (ahead_open e new behind goes_on) ∙ left_before first h.taken e more batch h.stamps other ∙ sym (ap (λ (es : List Entry). left_after (hands.Batch batch) (runs es)) entries);
-        fault = fault_before old new (h.taken ++ e ∷ []) bytes rest p behind;
+        runs = ap runs (ahead_open e new after goes_on) ∙ left_before first h.taken e more batch h.stamps other ∙ sym (ap (λ (es : List Entry). left_after (hands.Batch batch) (runs es)) entries);
+        fault = fault_before old new (h.taken ++ e ∷ []) bytes rest p after;
       }
 
-  -- the same with the parts of what was found behind the run
-  pub next_turn : (e : Entry) (time : Stamp) → FoundBehind before now faults risen old new (stamp_of first) h.taken all (looks.Next e) → time.0 ≡ min limit (stamp_of e - 1)
+  -- the same with the parts of what was found after the run
+  pub next_turn : (e : Entry) (time : Stamp) → FoundAfter before now faults risen old new (stamp_of first) h.taken all (looks.Next e) → time.0 ≡ min limit (stamp_of e - 1)
       → IsHandover control limit upto before now faults risen (Some first) old new (record { hand = hands.Batch (record { control = control; writes = all; upto = time }); waiting = Some e })
   next_turn e time (reads, e_kept, later, last, goes_on, count) is =
       let other : stamp_of first ≢ stamp_of e = λ same. omega (arith, same, later) in
@@ -182,7 +182,7 @@ module _ {before now : Option (List ℕ)} {faults risen : ℕ} {old new : Reader
         keeps = (subst (λ (v : List VolumeHead). IsEntryTo v e) (sym h.volumes) e_kept, early, last, goes_on);
       }
 
-  pub last_turn : FoundBehind before now faults risen old new (stamp_of first) h.taken all looks.Ended → (time : Stamp) → time.0 ≡ limit
+  pub last_turn : FoundAfter before now faults risen old new (stamp_of first) h.taken all looks.Ended → (time : Stamp) → time.0 ≡ limit
       → IsHandover control limit upto before now faults risen (Some first) old new (record { hand = hands.Batch (record { control = control; writes = all; upto = time }); waiting = None })
   last_turn (ended, stopped, count) time is = record {
     due = λ bytes is_ahead.
@@ -198,7 +198,7 @@ module _ {before now : Option (List ℕ)} {faults risen : ℕ} {old new : Reader
             runs = ap runs gone.0 ∙ left_at_end first h.taken batch h.stamps ∙ sym (ap (λ (es : List Entry). left_after (hands.Batch batch) (runs es)) (ahead_is bytes h.taken read));
             same_end = gone.1 ∙ sym end;
             went_on = λ g. goes;
-            fronts = λ g behind. let both = sym g ∙ stopped in absurd cc;
+            fronts = λ g after. let both = sym g ∙ stopped in absurd cc;
           },
         );
     holds = run_kept time (omega (arith, is, there)) (omega (arith, is));
@@ -209,7 +209,7 @@ module _ {before now : Option (List ℕ)} {faults risen : ℕ} {old new : Reader
     keeps = inr stopped;
   }
 
-  pub broken_turn : (cause : Cause) → FoundBehind before now faults risen old new (stamp_of first) h.taken all (looks.Bad cause)
+  pub broken_turn : (cause : Cause) → FoundAfter before now faults risen old new (stamp_of first) h.taken all (looks.Bad cause)
       → IsHandover control limit upto before now faults risen (Some first) old new (record { hand = hands.Broken cause (stamp (stamp_of first - 1)); waiting = None })
   broken_turn (BadTrace place) (ended, count) = record {
     due = λ bytes is_ahead.

@@ -45,7 +45,7 @@ takes_some version volumes last left e next t = some t.text (t.again [])
     some [] h = let n = none_there version volumes last left.place in absurd cc
     some (b ∷ text) h = omega arith
 
--- what is left behind an entry is shorter
+-- what is left after an entry is shorter
 pub shorter : (version : ℕ) (volumes : List VolumeHead) (last : ℕ) (left : Left) (e : Entry × Left) → entry_at version volumes last left ≡ Ok e → length e.1.bytes < length left.bytes
 shorter version volumes last left e h =
     let t = local_entry version volumes last left e h in

@@ -29,7 +29,7 @@ entries_ahead (Some why) reader bytes = []
 abbrev pub end_at : (bytes_end : ℕ) → Left → TraceEnd
 end_at bytes_end left = if left.place == bytes_end then Ended else BadTrace left.place
 
--- The source failed behind these bytes, and behind the entries that are read of them stands one that is cut.
+-- The source failed after these bytes, and after the entries that are read of them stands one that is cut.
 abbrev pub IsFault : ReaderState → List ℕ → Type 0
 IsFault reader bytes =
     (given : List ℕ) → length given ≡ reader.left.place + length bytes → end_of true given 1 reader.volumes (last_entry_stamp reader.last (read_of reader bytes).0) (read_of reader bytes).1 ≡ ReadFault
@@ -46,10 +46,10 @@ abbrev pub waiting_first : Option Entry → List Entry → List Entry
 waiting_first None entries = entries
 waiting_first (Some e) entries = e ∷ entries
 
--- the good entries of these bytes, behind the one that waits
+-- the good entries of these bytes, after the one that waits
 abbrev pub ahead : Option Entry → ReaderState → List ℕ → List Entry
 ahead waiting reader bytes = waiting_first waiting (entries_ahead reader.stopped reader bytes)
 
--- why the control will break after them, if it will
+-- why the controller will break after them, if it will
 abbrev pub cause_ahead : ReaderState → List ℕ → Option Cause
 cause_ahead reader bytes = cause_to_come reader.stopped reader bytes

@@ -1,4 +1,4 @@
--- The break of a control: in which run its trace is given up, why, and up to when it has reported.
+-- The break of a controller: in which run its trace is given up, why, and up to when it has reported.
 use Rattle.std.specs.Prelude.{ℕ, ◌-◌, List, [], ◌∷◌, Bool, false, Option, Some, None, option_map, nat_lt, if◌then◌else◌}
 use Rattle.tod_stamp.specs.declared.stamp.Stamp.{Stamp}
 use Rattle.ckd_track.specs.declared.write.Cause.{Cause}
@@ -18,7 +18,7 @@ cause_of ends.Ended = None
 cause_of (ends.BadTrace place) = Some (BadTrace place)
 cause_of ends.ReadFault = Some ReadFault
 
--- A break: its cause, and the time up to which the control had reported.
+-- A break: its cause, and the time up to which the controller had reported.
 pub record Break : Type 0 where
   pub cause : Cause
   pub upto : ℕ
@@ -44,7 +44,7 @@ break_of t = break_in (cause_of t.end) (runs t.entries)
 abbrev pub break_time : Trace → Option ℕ
 break_time t = option_map (λ b. b.upto) (break_of t)
 
--- whether a control has broken at a time: its break time is below
+-- whether a controller has broken at a time: its break time is below
 abbrev pub is_below : Option ℕ → ℕ → Bool
 is_below None time = false
 is_below (Some b) time = nat_lt b time
@@ -52,6 +52,6 @@ is_below (Some b) time = nat_lt b time
 abbrev pub has_broken : Trace → (time : ℕ) → Bool
 has_broken t time = is_below (break_time t) time
 
--- The cause that a report at a time shows of a control, if it has broken by then.
+-- The cause that a report at a time shows of a controller, if it has broken by then.
 abbrev pub cause_at : (time : ℕ) → Trace → Option Cause
 cause_at time t = if has_broken t time then option_map (λ b. b.cause) (break_of t) else None

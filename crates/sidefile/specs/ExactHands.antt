@@ -22,14 +22,14 @@ runs_ahead front bytes = runs (ahead front.waiting front.reader bytes)
 abbrev pub IsHand : (control limit : ℕ) → SidefileFront → (bytes : List ℕ) → Hand → Type 0
 IsHand control limit old bytes given = given ≡ hand control (cause_ahead old.reader bytes) limit (runs_ahead old bytes)
 
--- Were just these bytes behind those that were used, the same would be handed over, however the trace ends, and their runs would be
--- left. Where the source failed behind them, it failed behind them all.
+-- Were just these bytes after those that were used, the same would be handed over, however the trace ends, and their runs would be
+-- left. Where the source failed after them, it failed after them all.
 pub record HandsSame (control limit : ℕ) (old new : SidefileFront) (used bytes : List ℕ) (given : Hand) : Type 0 where
   pub hand : (cause : Option Cause) → given ≡ hand control cause limit (runs_ahead old (used ++ bytes))
   pub runs : runs_ahead new bytes ≡ left_after given (runs_ahead old (used ++ bytes))
   pub fault : IsFault new.reader bytes → IsFault old.reader (used ++ bytes)
 
--- The runs that the hand left are ahead afterwards, with the same end. A reader that goes on went on before, and what is behind the
+-- The runs that the hand left are ahead afterwards, with the same end. A reader that goes on went on before, and what is after the
 -- bytes that were used has made no difference.
 pub record LeavesRuns (control limit : ℕ) (told : Option (List ℕ)) (old new : SidefileFront) (bytes : List ℕ) (given : Hand) : Type 0 where
   pub used : List ℕ
@@ -41,8 +41,8 @@ pub record LeavesRuns (control limit : ℕ) (told : Option (List ℕ)) (old new 
   pub went_on : new.reader.stopped ≡ None → old.reader.stopped ≡ None
   pub fronts : new.reader.stopped ≡ None → (front : List ℕ) → HandsSame control limit old new used front given
 
--- The source failed behind these bytes, which are all that it gave: the hand of their runs. It still tells what it has left.
-pub record FailsBehind (control limit : ℕ) (now : Option (List ℕ)) (old : SidefileFront) (bytes : List ℕ) (given : Hand) : Type 0 where
+-- The source failed after these bytes, which are all that it gave: the hand of their runs. It still tells what it has left.
+pub record FailsWithHand (control limit : ℕ) (now : Option (List ℕ)) (old : SidefileFront) (bytes : List ℕ) (given : Hand) : Type 0 where
   pub front : List ℕ
   pub left : List ℕ
   pub split : bytes ≡ front ++ left
@@ -57,6 +57,6 @@ IsDue control limit before now old new (Batch batch) =
     (bytes : List ℕ) → IsAhead old.reader before bytes → IsHand control limit old bytes (Batch batch) × LeavesRuns control limit now old new bytes (Batch batch)
 IsDue control limit before now old new AtLimit = (bytes : List ℕ) → IsAhead old.reader before bytes → IsHand control limit old bytes AtLimit × LeavesRuns control limit now old new bytes AtLimit
 IsDue control limit before now old new (Broken ReadFault upto) =
-    (bytes : List ℕ) → IsAhead old.reader before bytes → FailsBehind control limit now old bytes (Broken ReadFault upto)
+    (bytes : List ℕ) → IsAhead old.reader before bytes → FailsWithHand control limit now old bytes (Broken ReadFault upto)
 IsDue control limit before now old new (Broken cause upto) = (bytes : List ℕ) → IsAhead old.reader before bytes → IsHand control limit old bytes (Broken cause upto)
 IsDue control limit before now old new NoMemory = Unit {0}

@@ -1,4 +1,4 @@
--- After what a sidefile hands over no more, and up to when its control has reported.
+-- After what a sidefile hands over no more, and up to when its controller has reported.
 use Rattle.std.specs.Prelude.{ℕ, Option, Some, None}
 use Rattle.tod_stamp.specs.declared.stamp.Stamp.{Stamp}
 use Rattle.ckd_track.specs.declared.write.Cause.{Cause}
@@ -24,7 +24,7 @@ broken_in None = None
 broken_in (Some (halts.Broken cause upto)) = Some (upto, cause)
 broken_in (Some halts.NoMemory) = None
 
--- The time up to which a control has reported: a batch's `upto`, the limit, a break's `upto`, or the time before.
+-- The time up to which a controller has reported: a batch's `upto`, the limit, a break's `upto`, or the time before.
 abbrev pub reached : (before limit : ℕ) → Hand → ℕ
 reached before limit (Batch batch) = batch.upto.0
 reached before limit AtLimit = limit

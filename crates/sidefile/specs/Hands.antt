@@ -19,7 +19,7 @@ abbrev pub broken_or : Hand → Option Break → Hand
 broken_or hand None = hand
 broken_or hand (Some b) = broken b
 
--- The hand at a limit, where these runs are left. Nothing is left or the next stamp is above the limit: the control is
+-- The hand at a limit, where these runs are left. Nothing is left or the next stamp is above the limit: the controller is
 -- at the limit. A run that is crowded, or in which the trace ends badly, is the break. Else it is a batch up to the
 -- limit, or up to just before the following entry if that is less.
 abbrev pub hand : (control : ℕ) → Option Cause → (limit : ℕ) → List (List Entry) → Hand

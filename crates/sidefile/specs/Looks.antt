@@ -38,7 +38,7 @@ FindsNext before now faults risen old new looks.NoMemory = Stops old new NoMemor
 abbrev pub IsEntryTo : List VolumeHead → Entry → Type 0
 IsEntryTo volumes e = (1 ≤ stamp_of e) × All (IsWriteTo volumes) (writes_of (e ∷ []))
 
--- Entries were read one after another, where the source tells its bytes: whatever stands behind the bytes of these entries, they
+-- Entries were read one after another, where the source tells its bytes: whatever stands after the bytes of these entries, they
 -- are read as these and what is read of it.
 pub record EntriesAreRead (old new : ReaderState) (taken : List Entry) (bytes rest : List ℕ) : Type 0 where
   pub used : List ℕ
@@ -62,14 +62,14 @@ abbrev pub FailsAfter : (before now : Option (List ℕ)) → (old : ReaderState)
 FailsAfter before now old taken =
     (bytes : List ℕ) → unread old.left.bytes before ≡ Some bytes → (left : List ℕ) × (now ≡ Some left) × (front : List ℕ) × (bytes ≡ front ++ left) × ((read_of old front).0 ≡ taken) × IsFault old front
 
--- Behind these entries stands a further write.
+-- After these entries stands a further write.
 abbrev pub WritesAfter : (before : Option (List ℕ)) → (old : ReaderState) → (taken : List Entry) → (stamp : ℕ) → Type 0
 WritesAfter before old taken stamp =
     (bytes : List ℕ) → unread old.left.bytes before ≡ Some bytes → (w : Write) × (more : List Entry) × ((read_of old bytes).0 ≡ taken ++ Written w ∷ more) × (w.stamp.0 ≡ stamp)
 
 -- ---- the rest of a run
 
--- The writes of an entry were put behind those of its run, or the entry is one write too many, or there was no memory.
+-- The writes of an entry were put after those of its run, or the entry is one write too many, or there was no memory.
 abbrev pub AddsWrites : (old new : List Write) → Entry → Result (Unit {0}) Look → Type 0
 AddsWrites old new e (Ok done) = (new ≡ old ++ writes_of (e ∷ [])) × (length new ≤ WRITES_OF_RUN)
 AddsWrites old new e (Err looks.NoMemory) = new ≡ old
@@ -79,17 +79,17 @@ AddsWrites old new e (Err other) = ⊥
 abbrev pub have_stamp : (stamp : ℕ) → List Entry → Bool
 have_stamp stamp entries = list_all (λ e. stamp_of e == stamp) entries
 
--- What was found behind the entries of a stamp that were taken.
-abbrev pub FoundBehind : (before now : Option (List ℕ)) → (faults risen : ℕ) → (old new : ReaderState) → (stamp : ℕ) → (taken : List Entry) → (writes : List Write) → Look → Type 0
-FoundBehind before now faults risen old new stamp taken writes (looks.Next e) =
+-- What was found after the entries of a stamp that were taken.
+abbrev pub FoundAfter : (before now : Option (List ℕ)) → (faults risen : ℕ) → (old new : ReaderState) → (stamp : ℕ) → (taken : List Entry) → (writes : List Write) → Look → Type 0
+FoundAfter before now faults risen old new stamp taken writes (looks.Next e) =
     ReadsAllEntries before now old new (taken ++ e ∷ []) × IsEntryTo old.volumes e × (stamp < stamp_of e) × (new.last ≡ stamp_of e) × (new.stopped ≡ None) × (risen ≡ faults)
-FoundBehind before now faults risen old new stamp taken writes looks.Ended = EndsAfter before old taken None × (new.stopped ≡ Some (AtEnd ends.Ended)) × (risen ≡ faults)
-FoundBehind before now faults risen old new stamp taken writes (looks.Bad (BadTrace place)) = EndsAfter before old taken (Some (BadTrace place)) × (risen ≡ faults)
-FoundBehind before now faults risen old new stamp taken writes (looks.Bad ReadFault) = FailsAfter before now old taken × Rose faults risen
-FoundBehind before now faults risen old new stamp taken writes (looks.Bad (Crowded s)) = (s.0 ≡ stamp) × (length writes ≡ WRITES_OF_RUN) × WritesAfter before old taken stamp × (risen ≡ faults)
-FoundBehind before now faults risen old new stamp taken writes looks.NoMemory = risen ≡ faults
+FoundAfter before now faults risen old new stamp taken writes looks.Ended = EndsAfter before old taken None × (new.stopped ≡ Some (AtEnd ends.Ended)) × (risen ≡ faults)
+FoundAfter before now faults risen old new stamp taken writes (looks.Bad (BadTrace place)) = EndsAfter before old taken (Some (BadTrace place)) × (risen ≡ faults)
+FoundAfter before now faults risen old new stamp taken writes (looks.Bad ReadFault) = FailsAfter before now old taken × Rose faults risen
+FoundAfter before now faults risen old new stamp taken writes (looks.Bad (Crowded s)) = (s.0 ≡ stamp) × (length writes ≡ WRITES_OF_RUN) × WritesAfter before old taken stamp × (risen ≡ faults)
+FoundAfter before now faults risen old new stamp taken writes looks.NoMemory = risen ≡ faults
 
--- The rest of a run was taken: its entries, all of that stamp, and their writes behind those that were there.
+-- The rest of a run was taken: its entries, all of that stamp, and their writes after those that were there.
 pub record TakesRun (before now : Option (List ℕ)) (faults risen : ℕ) (old new : ReaderState) (stamp : ℕ) (first all : List Write) (look : Look) : Type 0 where
   pub taken : List Entry
   pub stamps : IsTrue (have_stamp stamp taken)
@@ -97,4 +97,4 @@ pub record TakesRun (before now : Option (List ℕ)) (faults risen : ℕ) (old n
   pub writes : all ≡ first ++ writes_of taken
   pub room : length all ≤ WRITES_OF_RUN
   pub volumes : new.volumes ≡ old.volumes
-  pub found : FoundBehind before now faults risen old new stamp taken all look
+  pub found : FoundAfter before now faults risen old new stamp taken all look

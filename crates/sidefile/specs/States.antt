@@ -17,7 +17,7 @@ use Rattle.sidefile.specs.declared.hand.Halt.{Halt}
 use Rattle.sidefile.specs.Looks.{IsEntryTo}
 use Rattle.sidefile.specs.ExactHands.{SidefileFront}
 
--- A sidefile: its control, the entry that was looked at and waits, its reader, up to when its control has reported, and why it
+-- A sidefile: its controller, the entry that was looked at and waits, its reader, up to when its controller has reported, and why it
 -- hands over no more.
 pub record SidefileState : Type 0 where
   pub control : ℕ
@@ -71,7 +71,7 @@ HoldsRun volumes control before limit hands.AtLimit = Unit {0}
 HoldsRun volumes control before limit (hands.Broken cause upto) = Unit {0}
 HoldsRun volumes control before limit hands.NoMemory = Unit {0}
 
--- The count of the source's faults rose only where the control broke by one.
+-- The count of the source's faults rose only where the controller broke by one.
 abbrev pub HasFault : (faults risen : ℕ) → Hand → Type 0
 HasFault faults risen (hands.Batch batch) = risen ≡ faults
 HasFault faults risen hands.AtLimit = risen ≡ faults

@@ -9,13 +9,13 @@ use tod_stamp::Stamp;
 /// What a sidefile hands over at a limit. `Broken` and `NoMemory` are answered again from then on.
 #[derive(Debug, Drop)]
 pub enum Hand {
-    /// The writes of the next run. Every later write of the control has a stamp above the batch's `upto`.
+    /// The writes of the next run. Every later write of the controller has a stamp above the batch's `upto`.
     Batch(Batch),
 
     /// No write up to the limit is left.
     AtLimit,
 
-    /// The trace was given up. Its control reports no write with a stamp above `upto`.
+    /// The trace was given up. Its controller reports no write with a stamp above `upto`.
     Broken { cause: Cause, upto: Stamp },
 
     /// There was no memory.
@@ -58,7 +58,7 @@ impl Hand {
         }
     }
 
-    /// The time up to which the control has reported after it, where `upto` is the time before and `limit` was the limit.
+    /// The time up to which the controller has reported after it, where `upto` is the time before and `limit` was the limit.
     pub(crate) fn reached(&self, upto: Stamp, limit: Stamp) -> Stamp
         ensures { result.0 ≡ reached upto.0 limit.0 self.now }
     {

@@ -1,4 +1,4 @@
-//! A control's sidefile: the writes of its trace that were not yet handed over, run after run.
+//! A controller's sidefile: the writes of its trace that were not yet handed over, run after run.
 #![tactic(auto)]
 
 mod hand;

@@ -17,7 +17,7 @@ pub enum Look {
     Next(Entry),
     /// The trace ended.
     Ended,
-    /// The control breaks.
+    /// The controller breaks.
     Bad(Cause),
     /// There was no memory.
     NoMemory,

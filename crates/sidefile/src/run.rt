@@ -23,7 +23,7 @@ pub fn stamp_of(entry: &Entry) -> Stamp
     }
 }
 
-/// Puts the write of an entry, if it has one, behind the writes of its run. Otherwise says why it doesn't stand there.
+/// Puts the write of an entry, if it has one, after the writes of its run. Otherwise says why it doesn't stand there.
 pub fn add(alloc: Global, writes: &mut WriteList, entry: Entry) -> Result<(), Look>
     requires { length writes.old ≤ WRITES_OF_RUN }
     ensures { AddsWrites writes.old writes.new entry result }
@@ -40,7 +40,7 @@ pub fn add(alloc: Global, writes: &mut WriteList, entry: Entry) -> Result<(), Lo
     }
 }
 
-/// Takes the entries of a stamp, and puts their writes behind those that are there. Gives what stands behind them.
+/// Takes the entries of a stamp, and puts their writes after those that are there. Gives what stands after them.
 pub fn take_run<S: Source>(
     reader: &mut TraceReader,
     alloc: Global,

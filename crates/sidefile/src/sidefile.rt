@@ -16,7 +16,7 @@ use tod_stamp::Stamp;
 use write_trace::{Entry, TraceReader};
 use xrc_edge::{NoMemory, Source};
 
-/// The writes of a control's trace that were not yet handed over. It reads them from the source on which its reader was started, so
+/// The writes of a controller's trace that were not yet handed over. It reads them from the source on which its reader was started, so
 /// each handover takes that source.
 #[derive(Drop)]
 pub struct Sidefile {
@@ -38,7 +38,7 @@ impl Model for Sidefile {
 }
 
 impl Sidefile {
-    /// The sidefile of a control, whose trace this reader reads on.
+    /// The sidefile of a controller, whose trace this reader reads on.
     pub fn make(_alloc: Global, control: u16, reader: TraceReader) -> Result<Sidefile, NoMemory>
         requires { reader.stopped ≡ None }
         ensures { IfOk result (λ side. side ≡ record { control = control; waiting = None; reader = reader; upto = 0; halted = None }) }
@@ -52,8 +52,8 @@ impl Sidefile {
         })
     }
 
-    /// Hands over the writes of the next run up to the limit, which is not below the time up to which the control has reported.
-    /// A run has one stamp and at most `WRITES_OF_RUN` writes. Where one has more, or the trace ends badly in it, the control is
+    /// Hands over the writes of the next run up to the limit, which is not below the time up to which the controller has reported.
+    /// A run has one stamp and at most `WRITES_OF_RUN` writes. Where one has more, or the trace ends badly in it, the controller is
     /// given up, and none of its writes is handed over.
     pub fn handover<S: Source>(&mut self, alloc: Global, source: &mut S, limit: Stamp) -> Hand
         requires { self.old.upto ≤ limit.0 }
@@ -63,7 +63,7 @@ impl Sidefile {
         ensures halted { self.old.halted ≡ None → self.new.halted ≡ halt_of result }
         ensures reached { self.old.halted ≡ None → self.new.upto ≡ reached self.old.upto limit.0 result }
 
-        // The time up to which the control has reported never falls, and no entry up to it waits.
+        // The time up to which the controller has reported never falls, and no entry up to it waits.
         ensures rises { self.old.upto ≤ self.new.upto }
         ensures within { self.new.upto ≤ limit.0 }
         ensures waiting { IsSidefile self.new.halted self.new.waiting self.new.reader self.new.upto }

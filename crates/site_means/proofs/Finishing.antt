@@ -15,7 +15,7 @@ use Rattle.site_means.specs.declared.walking.Walking.{Walking}
 use Rattle.site_means.specs.Images.{Images, Shape}
 use Rattle.site_means.specs.Walk.{Walk, body_place, first_unfit, group_step, has_entered, last_time, rows_through, step, with_before}
 use Rattle.site_means.specs.Walk.WalkStep.{Ends, GoesOn, Breaks}
-use Rattle.site_means.specs.Steps.{AreDurable, Finishes, HasEnteredOne, WentOn, AnswersStep, AnswersWalk, WalkStands, StandsBehind, TakesRows, moved_on, standing_of, walk_of}
+use Rattle.site_means.specs.Steps.{AreDurable, Finishes, HasEnteredOne, WentOn, AnswersStep, AnswersWalk, WalkStands, StandsAtSpot, TakesRows, moved_on, standing_of, walk_of}
 use Rattle.site_means.specs.Answers.{ReadsAll, WhereTold}
 use Rattle.site_means.proofs.ReadAll.{durable_later}
 use Rattle.site_means.proofs.Goes.{before_both, entered_more, entered_one, entered_stays, rest_breaks, rest_ends, rest_goes}
@@ -56,9 +56,9 @@ stands_later old new w site s = record {
   here = s.here;
 }
 
--- behind a record
-pub stands_behind : (plant : PlantState) (now next : Walking) (after : Spot) (rows : List PairRow) → WalkStands plant now → StandsBehind after rows next → after.set < plant.journals → after.place < plant.lengths (Journal after.set) → after.number < 2 ^ 64 → are_below plant.volumes rows ≡ true → WalkStands plant next
-stands_behind plant now next after rows s b set place number below = record {
+-- after a record
+pub stands_after : (plant : PlantState) (now next : Walking) (after : Spot) (rows : List PairRow) → WalkStands plant now → StandsAtSpot after rows next → after.set < plant.journals → after.place < plant.lengths (Journal after.set) → after.number < 2 ^ 64 → are_below plant.volumes rows ≡ true → WalkStands plant next
+stands_after plant now next after rows s b set place number below = record {
   set = subst (λ (k : Spot). k.set < plant.journals) (sym b.at) set;
   place = subst (λ (k : Spot). k.place < plant.lengths (Journal k.set)) (sym b.at) place;
   number = subst (λ (k : Spot). k.number < 2 ^ 64) (sym b.at) number;
@@ -103,14 +103,14 @@ settled_first plant w one j is =
     let same = entered_one j w.at.set (ap (λ (l : List ℕ). has_entered j l) (sym one) ∙ is) in
     inr (omega (arith, ap length one), same)
 
--- behind a sync of the last
+-- after a sync of the last
 pub settled_all : (tells : Type 0) (told : tells) (a b : PlantState) (settled : ℕ) (w : Walking) → ReadsAll tells a b → AreSettled a settled w → (settled < length w.entered.items → IsDurable (on b (Journal w.at.set))) → AreDurable b w.entered.items
 settled_all tells told a b settled w reads are last j is = elim (are j is) [
   | inl durable ↦ durable_later tells a b (Journal j) told reads durable
   | inr fresh ↦ subst (λ (k : ℕ). IsDurable (on b (Journal k))) (sym fresh.1) (last fresh.0)
 ]
 
--- behind a record
+-- after a record
 pub settled_next : (tells : Type 0) (told : tells) (a b : PlantState) (shape : Shape) (images : Images) (now next : Walking) → ReadsAll tells a b → AreDurable a now.entered.items → WentOn (step shape images (standing_of now)) now next → AreSettled b (length now.entered.items) next
 settled_next tells told a b shape images now next reads are m j is = elim (entered_more shape images (standing_of now) (standing_of next) m.groups j m.is is) [
   | inl before ↦ inl (durable_later tells a b (Journal j) told reads (are j before))
@@ -135,7 +135,7 @@ told_durable plant shape images first now new (TooSmall d needed) lt g are p = a
 
 -- ---- a group
 
--- The rows took the items, and the walk stands behind them.
+-- The rows took the items, and the walk stands after them.
 pub group_moves : (volumes : ℕ) (time : Stamp) (after : Spot) (items : List Item) (old mid new : Walking) → mid ≡ record old { table = mid.table } → TakesRows volumes (body_place old.at) items None old.table mid.table
     → new ≡ moved_on time after (record mid { time = time }) → WentOn (group_step (standing_of old) time.0 items after (first_unfit volumes (body_place old.at) old.table.rows items)) old new
 group_moves volumes time after items old mid new rest taken is = record {

@@ -5,7 +5,7 @@ use Rattle.std.proofs.lemmas.Bool.{eqb-true, eqb-false}
 use Rattle.tod_stamp.specs.Fields.{◌>>=◌, Left, Bad, number_at, within}
 use Rattle.tod_stamp.proofs.FieldLaws.{at_place, bind_ok}
 use Rattle.crash_plant.specs.declared.spot.Spot.{Spot}
-use Rattle.xrc_journal.specs.Items.{Item, Form, anywhere, none_earlier, are_items_behind, body_spelling}
+use Rattle.xrc_journal.specs.Items.{Item, Form, anywhere, none_earlier, are_items_after, body_spelling}
 use Rattle.xrc_journal.specs.Reading.{Items, items_at}
 use Rattle.xrc_journal.specs.Records.{Found, RecordHead, record_head_at, is_body_length, next_set, spot_in, stretch, group_or, switch_or, switch_of, record_or, walk_one}
 use Rattle.xrc_journal.specs.Records.Found.{End, Group, Switch, Damaged}
@@ -80,19 +80,19 @@ group_ends form sets journal at last time items after e =
 
 -- ---- the items that were found
 
--- the place behind what was found, or that of the first bad byte
-abbrev pub behind_found : Found → ℕ
-behind_found End = 0
-behind_found (Group time items after) = after.place
-behind_found (Switch time after) = after.place
-behind_found (Damaged place items) = place
+-- the place after what was found, or that of the first bad byte
+abbrev pub after_found : Found → ℕ
+after_found End = 0
+after_found (Group time items after) = after.place
+after_found (Switch time after) = after.place
+after_found (Damaged place items) = place
 
 module _ (form : Form) (sets : ℕ) (journal : List ℕ) (at : Spot) (last : ℕ) where
   -- the items that were found end before it
   abbrev Lie : Found → Type 0
-  Lie found = are_items_behind anywhere none_earlier (items_found found) ≡ true → (items_found found ≡ []) ⊎ (at.place + 22 + length (body_spelling (items_found found)) ≤ behind_found found)
+  Lie found = are_items_after anywhere none_earlier (items_found found) ≡ true → (items_found found ≡ []) ⊎ (at.place + 22 + length (body_spelling (items_found found)) ≤ after_found found)
 
-  group_lies : (head : RecordHead) (read : Items) (bad : Option ℕ) → read.bad ≡ bad → (are_items_behind anywhere none_earlier read.good ≡ true → Ending (at_place (at.place + 22) (stretch (at.place + 22) head.len journal)) read) → Lie (group_or at head read bad)
+  group_lies : (head : RecordHead) (read : Items) (bad : Option ℕ) → read.bad ≡ bad → (are_items_after anywhere none_earlier read.good ≡ true → Ending (at_place (at.place + 22) (stretch (at.place + 22) head.len journal)) read) → Lie (group_or at head read bad)
   group_lies head read None none ends keep = inr (omega (arith, (ends keep).within, length-take head.len (drop (at.place + 22) journal)))
   group_lies head read (Some place) some ends keep = inr (omega (arith, (ends keep).before place some))
 
@@ -119,10 +119,10 @@ module _ (form : Form) (sets : ℕ) (journal : List ℕ) (at : Spot) (last : ℕ
   lie = by_gate (nat_eq (slice_index journal at.place) 1)
 
   -- so their places are numbers of 64 bits where that one is
-  pub found_places : (found : Found) → walk_one form sets journal at last ≡ found → behind_found found < 2 ^ 64 → HavePlaces at (items_found (walk_one form sets journal at last))
+  pub found_places : (found : Found) → walk_one form sets journal at last ≡ found → after_found found < 2 ^ 64 → HavePlaces at (items_found (walk_one form sets journal at last))
   found_places found is short keep = elim (lie keep) [
     | inl none ↦ inl none
-    | inr within ↦ inr (omega (arith, within, short, ap behind_found is))
+    | inr within ↦ inr (omega (arith, within, short, ap after_found is))
   ]
 
   -- ---- a switch

@@ -31,7 +31,7 @@ shape_same old new site =
 
 -- ---- one step
 
--- behind a group
+-- after a group
 pub record ByGroup (shape : Shape) (images : Images) (s : WalkState) (groups : List Logged) (n : WalkState) : Type 0 where
   pub time : ℕ
   pub items : List Item
@@ -41,7 +41,7 @@ pub record ByGroup (shape : Shape) (images : Images) (s : WalkState) (groups : L
   pub groups_are : groups ≡ record { time = time; items = items } ∷ []
   pub next_is : n ≡ record { rows = rows_through items s.rows; entered = s.entered; at = after; last = time }
 
--- behind a switch
+-- after a switch
 pub record BySwitch (shape : Shape) (images : Images) (s : WalkState) (groups : List Logged) (n : WalkState) : Type 0 where
   pub time : ℕ
   pub after : Spot
@@ -132,7 +132,7 @@ entered_split k (x ∷ xs) set is = by_first (nat_eq x k) is (entered_split k xs
     by_first true e more = inl refl
     by_first false e more = more e
 
--- What is entered behind a record was entered before, or the walk stands there and has entered one more.
+-- What is entered after a record was entered before, or the walk stands there and has entered one more.
 pub entered_more : (shape : Shape) (images : Images) (s n : WalkState) (groups : List Logged) (k : ℕ) → step shape images s ≡ GoesOn groups n → has_entered k n.entered ≡ true → (has_entered k s.entered ≡ true) ⊎ ((length s.entered < length n.entered) × (k ≡ n.at.set))
 entered_more shape images s n groups k e is = elim (goes_by shape images s groups n e) [
   | inl g ↦ inl (sym (ap (λ (m : WalkState). has_entered k m.entered) g.next_is) ∙ is)

@@ -13,7 +13,7 @@ use Rattle.ckd_track.specs.declared.rec.Rec.{Rec}
 use Rattle.ckd_track.specs.Tracks.{record_size, capacity}
 use Rattle.ckd_track.specs.Images.{image, image_at, record_after_head, record_at, record_spelling, records_at}
 use Rattle.pair_table.specs.Rows.{row_at}
-use Rattle.xrc_journal.specs.Items.{Item, Form, Earlier, anywhere, may_draw, behind, is_item, are_items_behind, item_spelling, body_spelling}
+use Rattle.xrc_journal.specs.Items.{Item, Form, Earlier, anywhere, may_draw, earlier_after, is_item, are_items_after, item_spelling, body_spelling}
 use Rattle.xrc_journal.specs.Items.Item.{Image, Delta, Pair, Gone}
 use Rattle.xrc_journal.specs.Deltas.{change_at}
 use Rattle.xrc_journal.specs.Reading.{Items, track_at, body_image_field, row_or, image_item_at, delta_item_at, pair_item_at, gone_item_at, is_tag, item_at, no_items, first_and_rest, items_from}
@@ -52,9 +52,9 @@ bytes_long n rule left text next e =
 record_is : (a b : Rec × List ℕ) → (let x : Result (Rec × List ℕ) ImageError = Ok a in let y : Result (Rec × List ℕ) ImageError = Ok b in x ≡ y) → a ≡ b
 record_is a b e = cc
 
-behind_head : (place last room number kl dl : ℕ) (bytes : List ℕ) (r : Rec) (rest : List ℕ) → record_after_head place last room number kl dl bytes ≡ Ok (r, rest) → length bytes + 4 ≡ length (record_spelling r) + length rest
+after_head : (place last room number kl dl : ℕ) (bytes : List ℕ) (r : Rec) (rest : List ℕ) → record_after_head place last room number kl dl bytes ≡ Ok (r, rest) → length bytes + 4 ≡ length (record_spelling r) + length rest
 unfolding record_after_head
-behind_head place last room number kl dl bytes r rest e =
+after_head place last room number kl dl bytes r rest e =
     let found : Rec × List ℕ = (record { number = number; key = take kl bytes; content = take dl (drop kl bytes) }, drop (kl + dl) bytes) in
     let one = guard_ok (nat_le number last) (Order place) (cond (nat_lt room (8 + kl + dl)) (Err TooBig) (cond (nat_lt (length bytes) (kl + dl)) (Err Short) (Ok found))) (r, rest) e in
     let two = guard_ok (nat_lt room (8 + kl + dl)) TooBig (cond (nat_lt (length bytes) (kl + dl)) (Err Short) (Ok found)) (r, rest) one.1 in
@@ -77,7 +77,7 @@ record_long : (place last room : ℕ) (bytes : List ℕ) (r : Rec) (rest : List 
 unfolding record_at
 record_long place last room bytes r rest e =
     let four = guard_ok (nat_lt (length bytes) 4) Short (record_after_head place last room (slice_index bytes 0) (slice_index bytes 1) (from_be_bytes w16 (slice_range bytes 2 4)) (drop 4 bytes)) (r, rest) e in
-    omega (arith, ltb-false (length bytes) 4 four.0, length-drop 4 bytes, behind_head place last room (slice_index bytes 0) (slice_index bytes 1) (from_be_bytes w16 (slice_range bytes 2 4)) (drop 4 bytes) r rest four.1)
+    omega (arith, ltb-false (length bytes) 4 four.0, length-drop 4 bytes, after_head place last room (slice_index bytes 0) (slice_index bytes 1) (from_be_bytes w16 (slice_range bytes 2 4)) (drop 4 bytes) r rest four.1)
 
 records_is : (a b : List Rec × List ℕ) → (let x : Result (List Rec × List ℕ) ImageError = Ok a in let y : Result (List Rec × List ℕ) ImageError = Ok b in x ≡ y) → a ≡ b
 records_is a b e = cc
@@ -112,7 +112,7 @@ image_long bytes recs rest e =
 
 -- ---- items
 
--- behind its tag of one byte, the item that was read
+-- after its tag of one byte, the item that was read
 record Tagged (left next : Left) (item : Item) : Type 0 where
   long : 1 + length left.bytes ≡ length (item_spelling item) + length next.bytes
   place : 1 + next.place ≡ left.place + length (item_spelling item)
@@ -198,8 +198,8 @@ item_long form earlier left item next e keep read =
     let one = bind_ok (number_at w8 (is_tag form.deltas earlier.late) left)
     (λ t. cond (nat_eq t.0 1) (image_item_at form earlier t.1) (cond (nat_eq t.0 2) (delta_item_at form t.1) (cond (nat_eq t.0 3) (pair_item_at t.1) (gone_item_at t.1)))) (item, next) read in
     let tag = number_long w8 (is_tag form.deltas earlier.late) left one.0.0 one.0.1 one.1 in
-    let behind_tag = choose one.0.1 (nat_eq one.0.0 1) (nat_eq one.0.0 2) (nat_eq one.0.0 3) one.2 in
-    record { long = omega (arith, tag.long, behind_tag.long); place = omega (arith, tag.place, behind_tag.place) }
+    let after_tag = choose one.0.1 (nat_eq one.0.0 1) (nat_eq one.0.0 2) (nat_eq one.0.0 3) one.2 in
+    record { long = omega (arith, tag.long, after_tag.long); place = omega (arith, tag.place, after_tag.place) }
   where
     choose : (after : Left) (one two three : Bool) → cond one (image_item_at form earlier after) (cond two (delta_item_at form after) (cond three (pair_item_at after) (gone_item_at after))) ≡ Ok (item, next) → Tagged after next item
     choose after true two three read = image_item_long form earlier after item next read
@@ -219,11 +219,11 @@ bad_ends : (left : Left) → Ending left (record { good = []; bad = Some left.pl
 bad_ends left = record { within = omega arith; before = λ at is. let same : left.place ≡ at = cc in omega (arith, same) }
 
 first_long : (form : Form) (earlier : Earlier) (left : Left) (e : Earlier) (read : Result (Item × Left) Bad) (rest : Item × Left → Items) → item_at form earlier left ≡ read
-    → ((i : Item × Left) → are_items_behind anywhere (behind i.0 e) (rest i).good ≡ true → Ending i.1 (rest i))
-    → are_items_behind anywhere e (first_and_rest left.place read rest).good ≡ true → Ending left (first_and_rest left.place read rest)
+    → ((i : Item × Left) → are_items_after anywhere (earlier_after i.0 e) (rest i).good ≡ true → Ending i.1 (rest i))
+    → are_items_after anywhere e (first_and_rest left.place read rest).good ≡ true → Ending left (first_and_rest left.place read rest)
 first_long form earlier left e (Err bad) rest is more keep = bad_ends left
 first_long form earlier left e (Ok i) rest is more keep =
-    let parts = and_parts (is_item anywhere e i.0) (are_items_behind anywhere (behind i.0 e) (rest i).good) keep in
+    let parts = and_parts (is_item anywhere e i.0) (are_items_after anywhere (earlier_after i.0 e) (rest i).good) keep in
     let front = item_long form earlier left i.0 i.1 e parts.0 is in
     let others = more i parts.1 in
     let size = length-append (item_spelling i.0) (body_spelling (rest i).good) in
@@ -232,13 +232,13 @@ first_long form earlier left e (Ok i) rest is more keep =
       before = λ at bad. omega (arith, front.place, others.before at bad, size);
     }
 
-pub items_long : (turns : ℕ) (form : Form) (earlier : Earlier) (left : Left) (e : Earlier) → are_items_behind anywhere e (items_from turns form earlier left).good ≡ true → Ending left (items_from turns form earlier left)
+pub items_long : (turns : ℕ) (form : Form) (earlier : Earlier) (left : Left) (e : Earlier) → are_items_after anywhere e (items_from turns form earlier left).good ≡ true → Ending left (items_from turns form earlier left)
 unfolding items_from
 items_long zero form earlier left e keep = none_ends left
-items_long (suc turns) form earlier left e keep = by_end (nat_eq (length left.bytes) 0) (λ i more. items_long turns form (behind i.0 earlier) i.1 (behind i.0 e) more) keep
+items_long (suc turns) form earlier left e keep = by_end (nat_eq (length left.bytes) 0) (λ i more. items_long turns form (earlier_after i.0 earlier) i.1 (earlier_after i.0 e) more) keep
   where
-    by_end : (over : Bool) → ((i : Item × Left) → are_items_behind anywhere (behind i.0 e) (items_from turns form (behind i.0 earlier) i.1).good ≡ true → Ending i.1 (items_from turns form (behind i.0 earlier) i.1))
-        → are_items_behind anywhere e (cond over no_items (first_and_rest left.place (item_at form earlier left) (λ i. items_from turns form (behind i.0 earlier) i.1))).good ≡ true
-        → Ending left (cond over no_items (first_and_rest left.place (item_at form earlier left) (λ i. items_from turns form (behind i.0 earlier) i.1)))
+    by_end : (over : Bool) → ((i : Item × Left) → are_items_after anywhere (earlier_after i.0 e) (items_from turns form (earlier_after i.0 earlier) i.1).good ≡ true → Ending i.1 (items_from turns form (earlier_after i.0 earlier) i.1))
+        → are_items_after anywhere e (cond over no_items (first_and_rest left.place (item_at form earlier left) (λ i. items_from turns form (earlier_after i.0 earlier) i.1))).good ≡ true
+        → Ending left (cond over no_items (first_and_rest left.place (item_at form earlier left) (λ i. items_from turns form (earlier_after i.0 earlier) i.1)))
     by_end true more keep = none_ends left
-    by_end false more keep = first_long form earlier left e (item_at form earlier left) (λ i. items_from turns form (behind i.0 earlier) i.1) refl more keep
+    by_end false more keep = first_long form earlier left e (item_at form earlier left) (λ i. items_from turns form (earlier_after i.0 earlier) i.1) refl more keep

@@ -110,7 +110,7 @@ module _ (shape : Shape) (images : Images) (m : Mark) (s : Stored) (chosen : cho
         entered = ap (λ (k : Walk). has_entered p.0 k.entered) (sym walk_is) ∙ p.2;
       })
 
--- Behind a chosen mark the state is damaged, or the walk.
+-- After a chosen mark the state is damaged, or the walk.
 module _ (shape : Shape) (images : Images) where
   by_bad : (m : Mark) (s : Stored) (w : Walk) (bad : Option (ℕ × ℕ)) (place : ℕ) → ¬ (meaning_by_walk m s w bad ≡ DamagedAt State place)
   by_bad m s w None place is = absurd cc

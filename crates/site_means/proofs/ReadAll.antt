@@ -61,7 +61,7 @@ fails_one {X = X} tells d old new rose only = record {
   others = λ e other. only.others_faults e (λ here. other (ap (λ (f : Device). Err (Fault f)) (sym here)));
 }
 
--- an answer behind a call that answered no fault
+-- an answer after a call that answered no fault
 pub fails_then : {X : Type 0} (a b c : Device → ℕ) (r : Result X SiteError) → ((d : Device) → b d ≡ a d) → FaultsAreCounted b c r → FaultsAreCounted a c r
 fails_then a b c r same f = record {
   rose = λ d is. subst (λ (n : ℕ). Rose n (c d)) (same d) (f.rose d is);

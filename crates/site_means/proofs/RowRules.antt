@@ -5,7 +5,7 @@ use Rattle.pair_table.specs.declared.row.PairRow.{PairRow}
 use Rattle.pair_table.specs.Rows.{keeps_row_rules}
 use Rattle.pair_table.specs.Tables.{is_of, with_row, without_row, MayPut, are_below}
 use Rattle.state_set.specs.Slots.{are_rows}
-use Rattle.state_set.proofs.Behind.{not_then, same_bool, rows_parts, rows_from}
+use Rattle.state_set.proofs.After.{not_then, same_bool, rows_parts, rows_from}
 
 alone : (b : Bool) → (b && true) ≡ b
 alone true = refl
@@ -14,8 +14,8 @@ alone false = refl
 beside : (a b : Bool) → b ≡ true → (a && b) ≡ a
 beside a b is = ap (λ (c : Bool). a && c) is ∙ alone a
 
-behind_true : (a b : Bool) → a ≡ true → (a && b) ≡ b
-behind_true a b is = ap (λ (c : Bool). c && b) is
+after_true : (a b : Bool) → a ≡ true → (a && b) ≡ b
+after_true a b is = ap (λ (c : Bool). c && b) is
 
 -- rows with one more are below where that one is
 pub below_with : (volumes : ℕ) (rows : List PairRow) (row : PairRow) → are_below volumes rows ≡ true → are_below volumes (with_row row rows) ≡ nat_lt row.device volumes
@@ -27,7 +27,7 @@ below_with volumes (r ∷ rows) row e =
     by_device : (here : Bool) → nat_lt r.device volumes ≡ true → are_below volumes rows ≡ true → are_below volumes (with_row row rows) ≡ nat_lt row.device volumes
         → are_below volumes (cond here (row ∷ rows) (r ∷ with_row row rows)) ≡ nat_lt row.device volumes
     by_device true first others more = beside (nat_lt row.device volumes) (are_below volumes rows) others
-    by_device false first others more = behind_true (nat_lt r.device volumes) (are_below volumes (with_row row rows)) first ∙ more
+    by_device false first others more = after_true (nat_lt r.device volumes) (are_below volumes (with_row row rows)) first ∙ more
 
 pub below_without : (volumes device : ℕ) (rows : List PairRow) → are_below volumes rows ≡ true → are_below volumes (without_row device rows) ≡ true
 below_without volumes device [] e = refl

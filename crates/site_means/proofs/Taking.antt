@@ -6,9 +6,9 @@ use Rattle.std.proofs.lemmas.List.{take_all, drop_at, drop-drop}
 use Rattle.crash_plant.specs.declared.spot.Spot.{Spot}
 use Rattle.pair_table.specs.declared.row.PairRow.{PairRow}
 use Rattle.pair_table.specs.Tables.{Table, with_row, with_rows, are_below}
-use Rattle.state_set.proofs.Behind.{rows_parts}
+use Rattle.state_set.proofs.After.{rows_parts}
 use Rattle.xrc_journal.specs.declared.reading.BodyItem.{BodyItem}
-use Rattle.xrc_journal.specs.Items.{Item, Earlier, none_earlier, anywhere, behind, is_item, are_items_behind, item_spelling, body_spelling}
+use Rattle.xrc_journal.specs.Items.{Item, Earlier, none_earlier, anywhere, earlier_after, is_item, are_items_after, item_spelling, body_spelling}
 use Rattle.xrc_journal.specs.Items.Item.{Image, Delta, Pair, Gone}
 use Rattle.xrc_journal.specs.Views.{AreItemBytes, told, first_told}
 use Rattle.xrc_journal.proofs.ItemsAgain.{some_bytes}
@@ -39,10 +39,10 @@ pub record Taking (volumes : ℕ) (items : List Item) (first : Table) (bytes : L
   pub todo : List Item
   pub within : at ≤ length bytes
   pub rest : drop at bytes ≡ body_spelling todo
-  pub keep : are_items_behind anywhere earlier todo ≡ true
+  pub keep : are_items_after anywhere earlier todo ≡ true
   pub fits : are_below volumes first.rows ≡ true → Fitting volumes items first at todo table
 
-pub at_first : (volumes : ℕ) (items : List Item) (first : Table) (bytes : List ℕ) → are_items_behind anywhere none_earlier items ≡ true → bytes ≡ body_spelling items → Taking volumes items first bytes 0 first
+pub at_first : (volumes : ℕ) (items : List Item) (first : Table) (bytes : List ℕ) → are_items_after anywhere none_earlier items ≡ true → bytes ≡ body_spelling items → Taking volumes items first bytes 0 first
 at_first volumes items first bytes keep spelled = record {
   earlier = none_earlier;
   todo = items;
@@ -65,7 +65,7 @@ module _ (volumes : ℕ) (items : List Item) (first : Table) (bytes : List ℕ) 
     pub more : List Item
     pub todo_is : t.todo ≡ i ∷ more
     pub is : is_item anywhere t.earlier i ≡ true
-    pub others : are_items_behind anywhere (behind i t.earlier) more ≡ true
+    pub others : are_items_after anywhere (earlier_after i t.earlier) more ≡ true
     pub told_is : item ≡ told i
     pub size_is : size ≡ length (item_spelling i)
     pub some : 1 ≤ size
@@ -75,7 +75,7 @@ module _ (volumes : ℕ) (items : List Item) (first : Table) (bytes : List ℕ) 
   next_by : (todo : List Item) (item : BodyItem) (size : ℕ) → t.todo ≡ todo → (let a : Option (BodyItem × ℕ) = Some (item, size) in a ≡ first_told todo) → Next item size
   next_by [] item size is e = absurd cc
   next_by (i ∷ more) item size is e =
-      let parts = and_parts (is_item anywhere t.earlier i) (are_items_behind anywhere (behind i t.earlier) more) (subst (λ (l : List Item). are_items_behind anywhere t.earlier l ≡ true) is t.keep) in
+      let parts = and_parts (is_item anywhere t.earlier i) (are_items_after anywhere (earlier_after i t.earlier) more) (subst (λ (l : List Item). are_items_after anywhere t.earlier l ≡ true) is t.keep) in
       let pair = same_Some (item, size) (told i, length (item_spelling i)) e in
       let same : (item ≡ told i) × (size ≡ length (item_spelling i)) = (ap (λ (p : BodyItem × ℕ). p.0) pair, ap (λ (p : BodyItem × ℕ). p.1) pair) in
       let spelled : drop at bytes ≡ item_spelling i ++ body_spelling more = t.rest ∙ ap (λ (l : List Item). body_spelling l) is in
@@ -103,7 +103,7 @@ module _ (volumes : ℕ) (items : List Item) (first : Table) (bytes : List ℕ) 
     -- it was taken
     pub taken_next : (new : Table) (fit : Bool) → fit ≡ true → (are_below volumes table.rows ≡ true → fit ≡ fits_rows volumes table.rows n.i) → new ≡ with_rows table (rows_by n.i table.rows) → Taking volumes items first bytes (at + size) new
     taken_next new fit does_fit test is = record {
-      earlier = behind n.i t.earlier;
+      earlier = earlier_after n.i t.earlier;
       todo = n.more;
       within = n.long;
       rest = n.rest_is;

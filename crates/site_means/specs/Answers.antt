@@ -114,7 +114,7 @@ IsOfState (Fault d) = d ≡ State
 IsOfState (TooSmall d needed) = ⊥
 IsOfState NoMemory = Unit {0}
 
--- The walk over these images enters a journal, behind a chosen mark and a good state slot.
+-- The walk over these images enters a journal, after a chosen mark and a good state slot.
 pub record Enters (shape : Shape) (images : Images) (j : ℕ) : Type 0 where
   pub mark : Mark
   pub stored : Stored
@@ -140,7 +140,7 @@ IsInTurn plant d = IsReached (shape_of plant) plant.bytes d
 abbrev pub AllDurable : (old new : PlantState) → Type 0
 AllDurable old new = (d : Device) → IsInTurn old d → IsDurable (on new d)
 
--- The same of the devices behind the control.
+-- The same of the devices after the control.
 abbrev pub RestDurable : (old new : PlantState) → Type 0
 RestDurable old new = (d : Device) → d ≢ Control → IsInTurn old d → IsDurable (on new d)
 

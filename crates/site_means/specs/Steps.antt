@@ -50,7 +50,7 @@ abbrev pub OnlyDamage : Result Bool SiteError → Type 0
 OnlyDamage (Ok more) = more ≡ true
 OnlyDamage (Err e) = IsDamage e
 
--- the walk behind a record
+-- the walk after a record
 abbrev pub moved_on : Stamp → Spot → Walking → Walking
 moved_on time after w = record { table = w.table; entered = w.entered; at = after; last = time; time = w.time }
 
@@ -79,7 +79,7 @@ abbrev pub AreDurable : PlantState → (entered : List ℕ) → Type 0
 AreDurable plant entered = (j : ℕ) → has_entered j entered ≡ true → IsDurable (on plant (Journal j))
 
 -- A walk stands at this spot, whose data set was entered, with these rows.
-pub record StandsBehind (after : Spot) (rows : List PairRow) (w : Walking) : Type 0 where
+pub record StandsAtSpot (after : Spot) (rows : List PairRow) (w : Walking) : Type 0 where
   pub at : w.at ≡ after
   pub rows_are : w.table.rows ≡ rows
   pub here : has_entered after.set w.entered.items ≡ true

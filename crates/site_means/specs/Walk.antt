@@ -50,7 +50,7 @@ pub record WalkState : Type 0 where
   pub at : Spot
   pub last : ℕ
 
--- What a walk does at a spot: it ends there, or it goes on behind a record with the groups that this adds, or a rule is broken
+-- What a walk does at a spot: it ends there, or it goes on after a record with the groups that this adds, or a rule is broken
 -- at a place of this data set.
 pub data WalkStep : Type 0 where
   Ends : WalkStep

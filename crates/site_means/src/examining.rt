@@ -56,7 +56,7 @@ fn find_mark<P: Plant>(plant: &mut P) -> Result<Mark, SiteError>
     }
 }
 
-/// The mark that counts: the first step of an examination behind that of the lengths. NoSession is answered exactly where no gate of
+/// The mark that counts: the first step of an examination after that of the lengths. NoSession is answered exactly where no gate of
 /// the control is open, and Damaged at the first byte of the first slot that breaks a rule.
 pub fn read_mark<P: Plant>(plant: &mut P, first: FirstRead) -> Result<Mark, SiteError>
     requires { CONTROL_LENGTH ≤ (P.state plant.old).lengths Control }
@@ -65,7 +65,7 @@ pub fn read_mark<P: Plant>(plant: &mut P, first: FirstRead) -> Result<Mark, Site
     ensures slot { IfOk result (λ mark. mark.state_slot ≤ 1) }
     ensures spot { IfOk result (λ mark. HasSpot (P.state plant.old) mark.at) }
     ensures wrong { (e : SiteErrorValue) → IsErrOf result e → IsOfControl e }
-    // Behind a sync, whatever is told of the control lasts.
+    // After a sync, whatever is told of the control lasts.
     ensures durable { P.tells → first ≡ Synced → ¬ IsErrOf result (Fault Control) → IsDurable (on (P.state plant.new) Control) }
     ensures cause { FaultsAreCounted (P.state plant.old).faults (P.state plant.new).faults result }
     ensures others { ReadsAll P.tells (P.state plant.old) (P.state plant.new) }
@@ -115,7 +115,7 @@ fn read_state<P: Plant>(
     // Whatever a read gave, the devices of the rows are the plant's.
     ensures below { IfOk result (λ found. IsTrue (are_below (P.state plant.old).volumes found.1.rows)) }
     ensures wrong { (e : SiteErrorValue) → IsErrOf result e → IsOfState e }
-    // Behind a sync, whatever is told of the state lasts.
+    // After a sync, whatever is told of the state lasts.
     ensures durable { P.tells → first ≡ Synced → ¬ IsErrOf result (Fault State) → IsDurable (on (P.state plant.new) State) }
     ensures cause { FaultsAreCounted (P.state plant.old).faults (P.state plant.new).faults result }
     ensures others { ReadsAll P.tells (P.state plant.old) (P.state plant.new) }
@@ -150,7 +150,7 @@ fn read_journals<P: Plant>(
         → (d : AnyDevice) → IsErrOf result (Fault d) → IsInTurn (P.state plant.old) d }
     ensures examined { (d : AnyDevice) → IsErrOf result (Fault d) → IsExamined d }
     ensures short { (d : AnyDevice) (needed : ℕ) → ¬ IsErrOf result (TooSmall d needed) }
-    // Behind syncs, whatever is told of the journals lasts.
+    // After syncs, whatever is told of the journals lasts.
     ensures durable { P.tells → first ≡ Synced → IsChosen (P.state plant.old) mark.now
         → IsStored (P.state plant.old) mark.now level table.rows
         → WhereTold result ((j : ℕ) → IsInTurn (P.state plant.old) (Journal j) → IsDurable (on (P.state plant.new) (Journal j))) }
@@ -165,8 +165,8 @@ fn read_journals<P: Plant>(
     }
 }
 
-/// What the devices mean behind a mark: its state slot, and then the walk over the journals, are the last steps of an examination.
-/// Behind syncs, whatever is told of them lasts.
+/// What the devices mean after a mark: its state slot, and then the walk over the journals, are the last steps of an examination.
+/// After syncs, whatever is told of them lasts.
 pub fn read_from_mark<P: Plant>(
     alloc: Global,
     plant: &mut P,

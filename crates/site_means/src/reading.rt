@@ -18,7 +18,7 @@ pub struct SiteReading {
     /// The mark that counts.
     pub mark: Mark,
     pub means: Means,
-    /// The spot behind the last record of the walk.
+    /// The spot after the last record of the walk.
     pub end: Spot,
 }
 
@@ -27,7 +27,7 @@ pub struct SiteReading {
 pub enum FirstRead {
     /// As it is.
     AsItIs,
-    /// Behind a sync, so that a crash leaves what is read.
+    /// After a sync, so that a crash leaves what is read.
     Synced,
 }
 

@@ -13,7 +13,7 @@ ghost use Rattle.site_means.specs.Images.{shape_of};
 ghost use Rattle.site_means.specs.Walk.WalkStep.{Breaks};
 ghost use Rattle.site_means.specs.Walk.{body_place, first_unfit, group_step, has_entered, step, switch_step};
 ghost use Rattle.site_means.specs.Answers.{FaultsAreCounted, IsExamined, ReadsAll, WhereTold};
-ghost use Rattle.site_means.specs.Steps.{AreDurable, BeginsAt, HasEnteredOne, HoldsEveryBody, HavePlaces, IsDamage, OnlyDamage, AnswersStep, AnswersWalk, WalkStands, StandsBehind, TakesRows, moved_on, standing_of, walk_of};
+ghost use Rattle.site_means.specs.Steps.{AreDurable, BeginsAt, HasEnteredOne, HoldsEveryBody, HavePlaces, IsDamage, OnlyDamage, AnswersStep, AnswersWalk, WalkStands, StandsAtSpot, TakesRows, moved_on, standing_of, walk_of};
 
 use crate::reading::{FirstRead, SiteReading, settle};
 use crate::rows::take_rows;
@@ -62,7 +62,7 @@ impl Walking {
         })
     }
 
-    /// Stands behind a record of this time.
+    /// Stands after a record of this time.
     fn move_on(&mut self, time: Stamp, after: Spot)
         ensures { self.new ≡ moved_on time after self.old }
     {
@@ -70,10 +70,10 @@ impl Walking {
         self.last = time;
     }
 
-    /// Goes on behind a switch, where the next data set wasn't entered before.
+    /// Goes on after a switch, where the next data set wasn't entered before.
     fn enter(&mut self, time: Stamp, after: Spot) -> Result<bool, SiteError>
         ensures passes { AnswersStep (switch_step (standing_of self.old) time.0 after) self.old self.new result }
-        ensures behind { OnOk result (StandsBehind after self.old.table.rows self.new) }
+        ensures at_spot { OnOk result (StandsAtSpot after self.old.table.rows self.new) }
         ensures others { OnlyDamage result }
     {
         if self.entered.contains(&after.set) {
@@ -110,7 +110,7 @@ impl Walking {
         }
     }
 
-    /// Goes on behind the group whose items were read.
+    /// Goes on after the group whose items were read.
     fn pass_group(
         &mut self,
         alloc: Global,
@@ -124,7 +124,7 @@ impl Walking {
         requires here { has_entered self.old.at.set self.old.entered.items ≡ true }
         ensures passes { HavePlaces self.old.at body.now.items
             → AnswersStep (group_step (standing_of self.old) time.0 body.now.items after (first_unfit volumes (body_place self.old.at) self.old.table.rows body.now.items)) self.old self.new result }
-        ensures behind { OnOk result (StandsBehind after self.new.table.rows self.new) }
+        ensures at_spot { OnOk result (StandsAtSpot after self.new.table.rows self.new) }
         ensures below { OnOk result (IsTrue (are_below volumes self.new.table.rows)) }
         ensures others { OnlyDamage result }
     {
@@ -152,7 +152,7 @@ impl Walking {
         }
     }
 
-    /// Reads the record at the spot, and goes on behind it. False where there is none.
+    /// Reads the record at the spot, and goes on after it. False where there is none.
     fn step<P: Plant>(
         &mut self,
         alloc: Global,

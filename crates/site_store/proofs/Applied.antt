@@ -1,4 +1,4 @@
--- The last group was applied: nothing else is seen at any moment, and the site stands behind it, over plain states.
+-- The last group was applied: nothing else is seen at any moment, and the site stands after it, over plain states.
 use Rattle.std.proofs.Common.{◌≡◌, ◌⊎◌, inl, inr, ℕ, ◌+◌, ◌*◌, ◌≤◌, ◌<◌, Bool, true, false, not, ◌&&◌, ◌||◌, nat_lt, nat_le, List, [], ◌++◌, length, get_or, Option, Some, Ok, refl, sym, ap, subst, ◌∙◌, arith, append-nil, IsTrue}
 use Rattle.std.specs.List.{list_all}
 use Rattle.std.proofs.lemmas.Bool.{cases_Bool}
@@ -120,7 +120,7 @@ module _ (tells : Type 0) (told : tells) (site next : SiteState) (old new : Plan
       walked_is : walked old b ≡ stands.done ++ site.waiting
       walked_is = ap walked_by (stands.meant b is) ∙ stands.items
 
-      -- behind the walk's items a track is the same
+      -- after the walk's items a track is the same
       through_same : (d x : ℕ) → d < old.volumes → content_through d x (stands.done ++ site.waiting) (slot_track (c (Volume d)) x) ≡ content_through d x (stands.done ++ site.waiting) (slot_track (b (Volume d)) x)
       through_same d x within = elim (item_cases d x site.waiting) [
         | inl has ↦
@@ -189,7 +189,7 @@ module _ (tells : Type 0) (told : tells) (site next : SiteState) (old new : Plan
         kept ∙ before ∙ ap (λ (t : Option (List Rec)). content_through d x stands.done t) (sym kept) ∙ sym (content_none d x site.waiting (content_through d x stands.done (slot_track w x)) none)
         ∙ sym (content_append d x stands.done site.waiting (slot_track w x))
 
-    -- A track that isn't excepted behind it wasn't before, or an image of it waited.
+    -- A track that isn't excepted after it wasn't before, or an image of it waited.
     free_or_drawn : (d x : ℕ) → excepted_by_apply site e d x ≡ false → (e d x ≡ false) ⊎ (have_image site.waiting d x ≡ true)
     free_or_drawn d x free = by_flags (e d x) (have_image site.waiting d x) free
       where
@@ -237,7 +237,7 @@ module _ (tells : Type 0) (told : tells) (site next : SiteState) (old new : Plan
           ]
         ]
 
-    -- Behind it the site stands.
+    -- After it the site stands.
     pub stands_applied : next ≡ with_applied next.failed next.written site → SiteStands (excepted_by_apply site e) next new
     stands_applied next_is = record {
       walk = stands.walk;

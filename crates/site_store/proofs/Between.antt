@@ -20,11 +20,11 @@ use Rattle.site_store.specs.declared.placement.Placement.{Placement}
 use Rattle.site_store.specs.declared.placement.Placement.TheVariants.{Here, Switched, Marked}
 use Rattle.site_store.specs.Applying.{with_applied}
 use Rattle.site_store.specs.Changing.{LogsChange, MayChange, Suspends, changed_items, with_suspensions}
-use Rattle.site_store.specs.Commands.{AreOnVolumes, IsToLog, behind_put}
+use Rattle.site_store.specs.Commands.{AreOnVolumes, IsToLog, after_put}
 use Rattle.site_store.specs.Jobs.{has_device}
-use Rattle.site_store.specs.Logging.{behind_group}
+use Rattle.site_store.specs.Logging.{after_group}
 use Rattle.site_store.specs.Marking.{MayMark}
-use Rattle.site_store.specs.Records.{behind_mark, behind_record}
+use Rattle.site_store.specs.Records.{after_mark, after_record}
 use Rattle.site_store.specs.Sites.{SiteState, new_site}
 use Rattle.site_store.specs.Standing.{FitsPlant, Leaves, SiteStands, StandsFast, none_excepted, row_has_volume}
 use Rattle.site_store.proofs.Below.{below_volumes}
@@ -56,15 +56,15 @@ starts_idle tells controls volumes session level at plant (Err e) is fits stands
 
 -- ---- records and marks
 
--- a site that is behind a record
-behind_waits : (journals : ℕ) (placement : Placement) (cut : ℕ) (items : List Item) (rows : List PairRow) (failed : List Bool) (site : SiteState) → site.waiting ≡ [] → (behind_record journals placement cut items rows failed site).waiting ≡ []
-behind_waits journals Here cut items rows failed site idle = idle
-behind_waits journals Switched cut items rows failed site idle = idle
-behind_waits journals Marked cut items rows failed site idle = refl
+-- a site that is after a record
+after_waits : (journals : ℕ) (placement : Placement) (cut : ℕ) (items : List Item) (rows : List PairRow) (failed : List Bool) (site : SiteState) → site.waiting ≡ [] → (after_record journals placement cut items rows failed site).waiting ≡ []
+after_waits journals Here cut items rows failed site idle = idle
+after_waits journals Switched cut items rows failed site idle = idle
+after_waits journals Marked cut items rows failed site idle = refl
 
 module _ (tells : Type 0) (site next : SiteState) (old new : PlantState) (now : Exceptions → Exceptions) where
   pub logged_stands : (journals : ℕ) (placement : Placement) (group : FormedGroup) (items : List Item) (early failed : List Bool) → IsSiteIdle tells site old → Leaves tells now site next old new
-      → next ≡ behind_group journals placement group items early failed site → IsSiteLogged tells next new
+      → next ≡ after_group journals placement group items early failed site → IsSiteLogged tells next new
   logged_stands journals placement group items early failed idle leaves is = record {
     fast = goes_on tells now site next old new idle.may.fast leaves;
     level = ap (λ (s : SiteState). s.is_ahead) is;
@@ -74,12 +74,12 @@ module _ (tells : Type 0) (site next : SiteState) (old new : PlantState) (now : 
   pub applied_idle : IsSiteLogged tells site old → Leaves tells now site next old new → next ≡ with_applied next.failed next.written site → IsSiteIdle tells next new
   applied_idle logged leaves is = idle_is tells (with_applied next.failed next.written site) next new is (goes_on tells now site next old new logged.fast leaves) logged.level refl logged.same
 
-  recorded_idle : (journals : ℕ) (placement : Placement) (cut : ℕ) (items : List Item) (rows : List PairRow) (failed : List Bool) → StandsFast tells site old → site.waiting ≡ [] → Leaves tells now site next old new → next ≡ behind_record journals placement cut items rows failed site → IsSiteIdle tells next new
+  recorded_idle : (journals : ℕ) (placement : Placement) (cut : ℕ) (items : List Item) (rows : List PairRow) (failed : List Bool) → StandsFast tells site old → site.waiting ≡ [] → Leaves tells now site next old new → next ≡ after_record journals placement cut items rows failed site → IsSiteIdle tells next new
   recorded_idle journals placement cut items rows failed fast idle leaves is =
-      idle_is tells (behind_record journals placement cut items rows failed site) next new is (goes_on tells now site next old new fast leaves) refl (behind_waits journals placement cut items rows failed site idle) refl
+      idle_is tells (after_record journals placement cut items rows failed site) next new is (goes_on tells now site next old new fast leaves) refl (after_waits journals placement cut items rows failed site idle) refl
 
-  pub marked_idle : (ended : Bool) (rows : List PairRow) (failed : List Bool) → StandsFast tells site old → Leaves tells now site next old new → next ≡ behind_mark ended rows failed site → IsSiteIdle tells next new
-  marked_idle ended rows failed fast leaves is = idle_is tells (behind_mark ended rows failed site) next new is (goes_on tells now site next old new fast leaves) refl refl refl
+  pub marked_idle : (ended : Bool) (rows : List PairRow) (failed : List Bool) → StandsFast tells site old → Leaves tells now site next old new → next ≡ after_mark ended rows failed site → IsSiteIdle tells next new
+  marked_idle ended rows failed fast leaves is = idle_is tells (after_mark ended rows failed site) next new is (goes_on tells now site next old new fast leaves) refl refl refl
 
   -- Suspensions are logged, or told by a mark, or there are none.
   suspended_so : {P : Type 0} (cut : ℕ) (was is : P) (value : Unit {0}) → IsSiteIdle tells site old → Leaves tells now site next old new → Suspends cut site next old was is (Ok value) → IsSiteIdle tells next new
@@ -111,7 +111,7 @@ module _ (tells : Type 0) (site next : SiteState) (old new : PlantState) (now : 
           (ap (λ (l : List Item). rows_through l site.told) (sym none) ∙ may.lead.leads)
       by_items (i ∷ items) some =
           let rows = logs.rows (λ none. let clash : i ∷ items ≡ [] = sym some ∙ none in cc clash) in
-          recorded_idle old.journals rows.placement cut rows.behind.items _ next.failed may.fast may.idle leaves rows.behind.next_is
+          recorded_idle old.journals rows.placement cut rows.after.items _ next.failed may.fast may.idle leaves rows.after.next_is
 
   pub changed_idle : {P : Type 0} (cut : ℕ) (change : Change) (was is : P) (r : Result (Unit {0}) StoreError) → MayChange tells cut change site old → OnOk r (Leaves tells now site next old new) → LogsChange cut change site next old was is r → OnOk r (IsSiteIdle tells next new)
   changed_idle cut change was is (Ok value) may leaves logs = changed_so cut change was is value may leaves logs
@@ -124,19 +124,19 @@ may_mark tells site plant idle = record { fast = idle.may.fast; level = idle.may
 -- ---- a row that is put
 
 module _ (tells : Type 0) (site : SiteState) (plant : PlantState) (row : PairRow) (idle : IsSiteIdle tells site plant) (below : row.device < plant.volumes) (long : 512 + row.cylinders * 860160 ≤ plant.lengths (Volume row.device)) where
-  put_leaves : Leaves tells (λ e. e) site (behind_put row site) plant plant
+  put_leaves : Leaves tells (λ e. e) site (after_put row site) plant plant
   put_leaves =
       put_rows_leave tells plant row site
       (and_from (nat_lt row.device plant.volumes) (nat_le (512 + row.cylinders * 860160) (plant.lengths (Volume row.device))) (lt-ltb row.device plant.volumes below) (le-leb (512 + row.cylinders * 860160) (plant.lengths (Volume row.device)) long))
       idle.may.fast.fits
 
-  put_below : AreOnVolumes (behind_put row site)
+  put_below : AreOnVolumes (after_put row site)
   put_below = below_volumes plant (length site.failed) (with_row row site.table.rows) (omega (arith, put_leaves.fits.failed)) put_leaves.fits.rows
 
   -- Its change may be logged.
-  pub put_may : (cut : ℕ) (next : SiteState) → next ≡ behind_put row site → site.time ≤ cut → (site.is_ahead ≡ false → AreOnVolumes next → IsToLog (Added row.device) next) → MayChange tells cut (Added row.device) next plant
+  pub put_may : (cut : ℕ) (next : SiteState) → next ≡ after_put row site → site.time ≤ cut → (site.is_ahead ≡ false → AreOnVolumes next → IsToLog (Added row.device) next) → MayChange tells cut (Added row.device) next plant
   put_may cut next is late to_log =
       let back = sym is in
-      let fast : StandsFast tells (behind_put row site) plant = goes_on tells (λ e. e) site (behind_put row site) plant plant idle.may.fast put_leaves in
+      let fast : StandsFast tells (after_put row site) plant = goes_on tells (λ e. e) site (after_put row site) plant plant idle.may.fast put_leaves in
       changes_may tells plant cut (Added row.device) next (subst (λ (s : SiteState). StandsFast tells s plant) back fast) (subst (λ (s : SiteState). s.waiting ≡ []) back idle.may.idle) (subst (λ (s : SiteState). s.time ≤ cut) back late)
       (to_log idle.may.level (subst AreOnVolumes back put_below))

@@ -20,7 +20,7 @@ use Rattle.site_store.proofs.Single.{no_call}
 use Rattle.site_means.specs.Images.{shape_of}
 use Rattle.site_means.specs.Walk.{rows_through}
 use Rattle.state_set.specs.Slots.{are_rows}
-use Rattle.state_set.proofs.Behind.{rows_from}
+use Rattle.state_set.proofs.After.{rows_from}
 use Rattle.xrc_journal.specs.Bodies.{BodyState}
 use Rattle.xrc_journal.specs.Items.{Item, body_spelling, form_of}
 use Rattle.xrc_journal.specs.RingWalks.{AllEndThrough}
@@ -28,11 +28,11 @@ use Rattle.site_store.specs.declared.store_error.StoreError.{StoreError}
 use Rattle.site_store.specs.declared.store_error.StoreError.TheVariants.{Spent}
 use Rattle.site_store.specs.declared.placement.Placement.{Placement}
 use Rattle.site_store.specs.declared.placement.Placement.TheVariants.{Here, Marked}
-use Rattle.site_store.specs.Changing.{AreChangeItems, DoesChange, DoesRows, FormsChange, Lead, IsBehindChange, IsPlacementOfChange, LogsChange, MayChange, change_deeds, change_deeds_of, changed_items}
+use Rattle.site_store.specs.Changing.{AreChangeItems, DoesChange, DoesRows, FormsChange, Lead, IsAfterChange, IsPlacementOfChange, LogsChange, MayChange, change_deeds, change_deeds_of, changed_items}
 use Rattle.site_store.specs.Hits.{pairs_with_next, with_hits}
 use Rattle.site_store.specs.Marking.{MakesMark}
 use Rattle.site_store.specs.Recording.{HasRoomBy, MayPutRecord, ShowsRecord, group_with}
-use Rattle.site_store.specs.Records.{IsJournal, IsOfMark, behind_record}
+use Rattle.site_store.specs.Records.{IsJournal, IsOfMark, after_record}
 use Rattle.site_store.specs.Sites.{SiteState, meant_for}
 use Rattle.site_store.specs.Standing.{FitsPlant, Leaves, SiteStands, none_excepted}
 use Rattle.site_store.specs.Placements.{is_spent, placement_of}
@@ -141,7 +141,7 @@ module _ (tells : Type 0) (cut : Stamp) (change : Change) (site : SiteState) (ol
   short : length (body_spelling now.items) ≤ 128 * 31
   short = omega (arith, forms.short, may.few)
 
-  -- ---- the record comes behind nothing
+  -- ---- the record comes after nothing
 
   module _ (same : failed ≡ site.failed) (some : changed_items change site.table.rows ≢ []) where
     logged : AreRowsLogged site old cut.0 now.items rows
@@ -155,7 +155,7 @@ module _ (tells : Type 0) (cut : Stamp) (change : Change) (site : SiteState) (ol
       change_placement = record { first = now.items; formed = first; placement_is = placement_is }
 
       pub spent_logs : {P : Type 0} (was : P) (next : SiteState) → is_spent placement site ≡ true → LogsChange cut.0 change site next old was was (Err Spent)
-      spent_logs was next spent = record { nothing = λ none. absurd (some none); rows = λ more. record { placement = placement; is_placement = change_placement; spent = (λ e. spent, λ e. refl); behind = tt } }
+      spent_logs was next spent = record { nothing = λ none. absurd (some none); rows = λ more. record { placement = placement; is_placement = change_placement; spent = (λ e. spent, λ e. refl); after = tt } }
 
       pub spent_done : (next : SiteState) → DoesChange tells cut.0 change site next old old (Err Spent)
       spent_done next = record {
@@ -166,14 +166,14 @@ module _ (tells : Type 0) (cut : Stamp) (change : Change) (site : SiteState) (ol
       }
 
     module _ (placement : Placement) (placement_is : placement ≡ placement_of old site now.items) (enough : is_spent placement site ≡ false) where
-      logs : {P : Type 0} (was is : P) (next : SiteState) (result : Result (Unit {0}) StoreError) → ¬ IsErrOf result Spent → OnOk result (IsBehindChange cut.0 change placement site next old) → LogsChange cut.0 change site next old was is result
-      logs was is next result unspent behind = record {
+      logs : {P : Type 0} (was is : P) (next : SiteState) (result : Result (Unit {0}) StoreError) → ¬ IsErrOf result Spent → OnOk result (IsAfterChange cut.0 change placement site next old) → LogsChange cut.0 change site next old was is result
+      logs was is next result unspent after = record {
         nothing = λ none. absurd (some none);
-        rows = λ more. record { placement = placement; is_placement = change_placement placement placement_is; spent = (λ e. absurd (unspent e), λ spent. absurd (cc (spent, enough))); behind = behind };
+        rows = λ more. record { placement = placement; is_placement = change_placement placement placement_is; spent = (λ e. absurd (unspent e), λ spent. absurd (cc (spent, enough))); after = after };
       }
 
-      pub mark_logs : {P : Type 0} (was is : P) (next : SiteState) (result : Result (Unit {0}) StoreError) → placement ≡ Marked → ¬ IsErrOf result Spent → OnOk result (IsBehindChange cut.0 change Marked site next old) → LogsChange cut.0 change site next old was is result
-      mark_logs was is next result marked unspent behind = logs was is next result unspent (subst (λ (w : Placement). OnOk result (IsBehindChange cut.0 change w site next old)) (sym marked) behind)
+      pub mark_logs : {P : Type 0} (was is : P) (next : SiteState) (result : Result (Unit {0}) StoreError) → placement ≡ Marked → ¬ IsErrOf result Spent → OnOk result (IsAfterChange cut.0 change Marked site next old) → LogsChange cut.0 change site next old was is result
+      mark_logs was is next result marked unspent after = logs was is next result unspent (subst (λ (w : Placement). OnOk result (IsAfterChange cut.0 change w site next old)) (sym marked) after)
 
       module _ (plain : placement ≢ Marked) where
         suffice : NumbersSuffice placement site.at.number
@@ -186,12 +186,12 @@ module _ (tells : Type 0) (cut : Stamp) (change : Change) (site : SiteState) (ol
         may_put ends = may_put_rows site old fits now.items short tells placement cut.0 room suffice (keep_anywhere (form_of old) now.items are_rows_alone forms.keep) ends
 
         pub record_logs : {P : Type 0} (was is : P) (next : SiteState) (result : Result (Unit {0}) StoreError) → ¬ IsErrOf result Spent → next.failed ≡ site.failed
-            → OnOk result (next ≡ behind_record old.journals placement cut.0 now.items (rows_with_hits site.level cut.0 next.failed site.table.rows) next.failed site) → LogsChange cut.0 change site next old was is result
-        record_logs was is next result unspent still next_is = logs was is next result unspent (behind result next_is)
+            → OnOk result (next ≡ after_record old.journals placement cut.0 now.items (rows_with_hits site.level cut.0 next.failed site.table.rows) next.failed site) → LogsChange cut.0 change site next old was is result
+        record_logs was is next result unspent still next_is = logs was is next result unspent (after result next_is)
           where
-            behind : (r : Result (Unit {0}) StoreError) → OnOk r (next ≡ behind_record old.journals placement cut.0 now.items (rows_with_hits site.level cut.0 next.failed site.table.rows) next.failed site) → OnOk r (IsBehindChange cut.0 change placement site next old)
-            behind (Ok value) same = record { items = now.items; are = subst (λ (f : List Bool). AreChangeItems cut.0 change f site old now.items) (sym still) first; next_is = same }
-            behind (Err error) same = tt
+            after : (r : Result (Unit {0}) StoreError) → OnOk r (next ≡ after_record old.journals placement cut.0 now.items (rows_with_hits site.level cut.0 next.failed site.table.rows) next.failed site) → OnOk r (IsAfterChange cut.0 change placement site next old)
+            after (Ok value) same = record { items = now.items; are = subst (λ (f : List Bool). AreChangeItems cut.0 change f site old now.items) (sym still) first; next_is = same }
+            after (Err error) same = tt
 
         module _ (low : site.mark.at.number < 2 ^ 64) (new : PlantState) (works : WorksOn tells IsJournal old new) (result : Result (Unit {0}) StoreError) (shows : ShowsRecord tells placement site.mark.at site.at (group_with cut.0 now.items) old new result) where
           abbrev pub next : SiteState
@@ -215,7 +215,7 @@ module _ (tells : Type 0) (cut : Stamp) (change : Change) (site : SiteState) (ol
                     (change_done tells [] site site old old new (nothing_first tells site old) placement cut.0 now.items rows (λ told e stands. logged) low works result shows told);
               }
 
-  -- ---- the record comes behind a mark
+  -- ---- the record comes after a mark
 
   module _ (low : site.at.number < 2 ^ 64) (choice : tells → (c : Choice) × IsChoice old old.clock c) (mid : PlantState) (enough : is_spent Marked site ≡ false) where
     abbrev pub marked : List PairRow
@@ -231,8 +231,8 @@ module _ (tells : Type 0) (cut : Stamp) (change : Change) (site : SiteState) (ol
       has_room : HasRoomBy mid Marked here.mark.at here.at now.items
       has_room = room_by_placement here mid leaves.fits now.items short Marked tt (λ e. refl) suffices
 
-      pub may_put_behind : (tells → AllEndThrough mid here.mark.at here.at cut.0) → MayPutRecord tells Marked here.mark.at here.at cut.0 now.items mid
-      may_put_behind ends = may_put_rows here mid leaves.fits now.items short tells Marked cut.0 has_room suffices (keep_anywhere (form_of mid) now.items are_rows_alone forms.keep) ends
+      pub may_put_after : (tells → AllEndThrough mid here.mark.at here.at cut.0) → MayPutRecord tells Marked here.mark.at here.at cut.0 now.items mid
+      may_put_after ends = may_put_rows here mid leaves.fits now.items short tells Marked cut.0 has_room suffices (keep_anywhere (form_of mid) now.items are_rows_alone forms.keep) ends
 
       -- The mark's rows are led to the same.
       leads_on : tells → (e : Exceptions) → SiteStands e site old → Lead old.volumes now.items marked rows
@@ -253,26 +253,26 @@ module _ (tells : Type 0) (cut : Stamp) (change : Change) (site : SiteState) (ol
       before : ComesFirst tells (MarkedDeed site.at site.mark.ended marked ∷ []) site here old mid
       before = mark_first tells site here old mid site.mark.ended marked may.idle makes leaves refl
 
-      pub behind_logs : (then : SiteState) (result : Result (Unit {0}) StoreError) → then.failed ≡ failed → OnOk result (then ≡ with_logged_rows mid.journals Marked cut.0 now.items rows here) → OnOk result (IsBehindChange cut.0 change Marked site then old)
-      behind_logs then (Ok value) still is = record {
+      pub after_logs : (then : SiteState) (result : Result (Unit {0}) StoreError) → then.failed ≡ failed → OnOk result (then ≡ with_logged_rows mid.journals Marked cut.0 now.items rows here) → OnOk result (IsAfterChange cut.0 change Marked site then old)
+      after_logs then (Ok value) still is = record {
         items = now.items;
         are = subst (λ (f : List Bool). AreChangeItems cut.0 change f site old now.items) (sym still) formed;
         next_is = is ∙ ap (λ (n : ℕ). with_logged_rows n Marked cut.0 now.items rows here) touches.site.journals
-            ∙ ap (λ (f : List Bool). behind_record old.journals Marked cut.0 now.items (rows_with_hits site.level cut.0 f site.table.rows) f site) (sym still);
+            ∙ ap (λ (f : List Bool). after_record old.journals Marked cut.0 now.items (rows_with_hits site.level cut.0 f site.table.rows) f site) (sym still);
       }
-      behind_logs then (Err error) still is = tt
+      after_logs then (Err error) still is = tt
 
       module _ (new : PlantState) (works : WorksOn tells IsJournal mid new) (result : Result (Unit {0}) StoreError) (shows : ShowsRecord tells Marked here.mark.at here.at (group_with cut.0 now.items) mid new result) where
         abbrev pub next_on : SiteState
         next_on = with_logged_rows mid.journals Marked cut.0 now.items rows here
 
-        pub behind_leaves : OnOk result (Leaves tells (λ e. e) site next_on old new)
-        behind_leaves =
+        pub after_leaves : OnOk result (Leaves tells (λ e. e) site next_on old new)
+        after_leaves =
             leaves_ok tells site next_on old new result (rows_fit tells here mid new Marked cut.0 now.items rows leaves.fits works has_room may.cut_is refl (hits_have mid site.level cut.0 failed site.table.rows leaves.fits.rows))
             (change_stands tells (MarkedDeed site.at site.mark.ended marked ∷ []) site here old mid new before Marked cut.0 now.items rows logged_on low works result shows)
 
-        pub behind_done : (then : SiteState) → then.failed ≡ failed → DoesRows tells Marked cut.0 site then old new result
-        behind_done then still =
+        pub after_done : (then : SiteState) → then.failed ≡ failed → DoesRows tells Marked cut.0 site then old new result
+        after_done then still =
             let deeds_are : MarkedDeed site.at site.mark.ended marked ∷ Changed cut.0 rows ∷ [] ≡ change_deeds Marked site cut.0 then.failed = ap (λ (f : List Bool). change_deeds Marked site cut.0 f) (sym still) in
             record {
               begins = λ told e stands. subst (λ (deeds : List Deed). BeginsDeeds e site.told deeds old new) deeds_are
@@ -294,7 +294,7 @@ mark_fails tells cut site next old new error idle makes =
       does = λ told. tt;
     }
 
--- What is done behind a mark is what the change's record does that is placed so.
+-- What is done after a mark is what the change's record does that is placed so.
 pub marked_done : (tells : Type 0) (cut : ℕ) (change : Change) (site next : SiteState) (old new : PlantState) (result : Result (Unit {0}) StoreError) → changed_items change site.table.rows ≢ [] → IsPlacementOfChange cut change site old Marked → DoesRows tells Marked cut site next old new result
     → DoesChange tells cut change site next old new result
 marked_done tells cut change site next old new result some is_placement does =

@@ -1,4 +1,4 @@
--- A change of rows behind what comes first, nothing or a mark: the deeds and the site behind both, over plain states.
+-- A change of rows after what comes first, nothing or a mark: the deeds and the site after both, over plain states.
 use Rattle.std.proofs.Common.{◌≡◌, inl, inr, ℕ, ◌^◌, ◌<◌, ◌++◌, Bool, false, List, [], ◌∷◌, Result, Ok, Err, refl, sym, subst, ◌∙◌, arith}
 use Rattle.std.specs.Prelude.{OnOk, slice_index_or}
 use Rattle.crash_plant.specs.declared.device.Device.{Device}
@@ -7,11 +7,11 @@ use Rattle.crash_plant.specs.Calls.{WorksOn}
 use Rattle.crash_plant.specs.Moments.{PlantState}
 use Rattle.crash_plant.proofs.Steps.{works_on_more, works_on_trans}
 use Rattle.pair_table.specs.declared.row.PairRow.{PairRow}
-use Rattle.record_rows.specs.Deeds.{Deed, rows_behind}
+use Rattle.record_rows.specs.Deeds.{Deed, rows_after_deeds}
 use Rattle.record_rows.specs.Deeds.Deed.{Changed, Marked as MarkedDeed}
 use Rattle.site_store.specs.DoneDeeds.{BeginsDeeds, DoesDeeds}
-use Rattle.site_store.specs.Exceptions.{Exceptions, excepted_behind}
-use Rattle.site_store.proofs.Composing.{begin_behind, go_on}
+use Rattle.site_store.specs.Exceptions.{Exceptions, excepted_after}
+use Rattle.site_store.proofs.Composing.{begin_after, go_on}
 use Rattle.site_store.proofs.Single.{no_call}
 use Rattle.xrc_journal.specs.Items.{Item}
 use Rattle.xrc_journal.specs.Jobs.{FailsByCount}
@@ -29,19 +29,19 @@ use Rattle.site_store.proofs.RowsLogged.{AreRowsLogged, rows_begin, rows_done, r
 
 -- ---- what comes first
 
--- Deeds come first, and lead from a site to another, which stands with what it was excepted from before and behind them.
+-- Deeds come first, and lead from a site to another, which stands with what it was excepted from before and after them.
 pub record ComesFirst (tells : Type 0) (first : List Deed) (site here : SiteState) (old mid : PlantState) : Type 0 where
   pub does : tells → (e : Exceptions) → SiteStands e site old → DoesDeeds e site.told first old mid
   pub stands : tells → (e : Exceptions) → SiteStands e site old → SiteStands e here mid
-  pub behind : tells → (e : Exceptions) → SiteStands e site old → SiteStands (excepted_behind site.told first e) here mid
-  pub rows : rows_behind first site.told ≡ here.told
+  pub after : tells → (e : Exceptions) → SiteStands e site old → SiteStands (excepted_after site.told first e) here mid
+  pub rows : rows_after_deeds first site.told ≡ here.told
 
 -- nothing
 pub nothing_first : (tells : Type 0) (site : SiteState) (plant : PlantState) → ComesFirst tells [] site site plant plant
 nothing_first tells site plant = record {
   does = λ told e stands. no_call plant e site.told;
   stands = λ told e stands. stands;
-  behind = λ told e stands. stands;
+  after = λ told e stands. stands;
   rows = refl;
 }
 
@@ -56,7 +56,7 @@ module _ (tells : Type 0) (site here : SiteState) (old mid : PlantState) (ended 
   mark_first makes leaves told_is = record {
     does = λ told e stands. mark_does tells ended rows site here old mid (Ok tt) makes idle told e stands;
     stands = λ told e stands. stands_more e here mid (leaves.stands told e stands);
-    behind = λ told e stands. stands_more (excepted_behind site.told (MarkedDeed site.at ended rows ∷ []) e) here mid (leaves.stands told e stands);
+    after = λ told e stands. stands_more (excepted_after site.told (MarkedDeed site.at ended rows ∷ []) e) here mid (leaves.stands told e stands);
     rows = sym told_is;
   }
 
@@ -64,7 +64,7 @@ module _ (tells : Type 0) (site here : SiteState) (old mid : PlantState) (ended 
   pub mark_done : (result : Result (Unit {0}) StoreError) → MakesMark tells ended rows site here old mid result → tells → OnOk result ((e : Exceptions) → SiteStands e site old → DoesDeeds e site.told (MarkedDeed site.at ended rows ∷ []) old mid)
   mark_done result makes told = all_ok result site old (λ e. DoesDeeds e site.told (MarkedDeed site.at ended rows ∷ []) old mid) (λ e stands. mark_does tells ended rows site here old mid result makes idle told e stands)
 
--- ---- the change behind it
+-- ---- the change after it
 
 module _ (tells : Type 0) (first : List Deed) (site here : SiteState) (old mid new : PlantState) (before : ComesFirst tells first site here old mid) (placement : Placement) (cut : ℕ) (items : List Item) (rows : List PairRow)
     (logged : tells → (e : Exceptions) → SiteStands e site old → AreRowsLogged here mid cut items rows) (low : here.mark.at.number < 2 ^ 64) (works : WorksOn tells IsJournal mid new) (result : Result (Unit {0}) StoreError)
@@ -74,16 +74,16 @@ module _ (tells : Type 0) (first : List Deed) (site here : SiteState) (old mid n
 
   pub change_begins : tells → (e : Exceptions) → SiteStands e site old → BeginsDeeds e site.told Deeds old new
   change_begins told e stands =
-      let f = excepted_behind site.told first e in
-      begin_behind old mid new e site.told first (Changed cut rows ∷ []) (before.does told e stands)
-      (subst (λ (l : List PairRow). BeginsDeeds f l (Changed cut rows ∷ []) mid new) (sym before.rows) (rows_begin tells told f here mid new placement cut items rows (before.behind told e stands) (logged told e stands) low works result shows))
+      let f = excepted_after site.told first e in
+      begin_after old mid new e site.told first (Changed cut rows ∷ []) (before.does told e stands)
+      (subst (λ (l : List PairRow). BeginsDeeds f l (Changed cut rows ∷ []) mid new) (sym before.rows) (rows_begin tells told f here mid new placement cut items rows (before.after told e stands) (logged told e stands) low works result shows))
 
   pub change_done : tells → OnOk result ((e : Exceptions) → SiteStands e site old → DoesDeeds e site.told Deeds old new)
   change_done told = all_ok result site old (λ e. DoesDeeds e site.told Deeds old new) (λ e stands.
-      let f = excepted_behind site.told first e in
+      let f = excepted_after site.told first e in
       on_ok result (λ (done : DoesDeeds f here.told (Changed cut rows ∷ []) mid new). go_on old mid new e site.told first (Changed cut rows ∷ []) (before.does told e stands)
       (subst (λ (l : List PairRow). DoesDeeds f l (Changed cut rows ∷ []) mid new) (sym before.rows) done))
-      (rows_done tells told f here mid new placement cut items rows (before.behind told e stands) (logged told e stands) low works result shows))
+      (rows_done tells told f here mid new placement cut items rows (before.after told e stands) (logged told e stands) low works result shows))
 
   pub change_stands : tells → OnOk result ((e : Exceptions) → SiteStands e site old → SiteStands e (with_logged_rows mid.journals placement cut items rows here) new)
   change_stands told = all_ok result site old (λ e. SiteStands e (with_logged_rows mid.journals placement cut items rows here) new) (λ e stands.

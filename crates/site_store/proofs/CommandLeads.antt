@@ -1,4 +1,4 @@
--- The items of a command's change lead from the rows before it to those behind it.
+-- The items of a command's change lead from the rows before it to those after it.
 use Rattle.std.proofs.Common.{◌≡◌, ◌≢◌, ℕ, ◌+◌, ◌≤◌, ◌==◌, ◌&&◌, ◌||◌, Bool, true, false, not, cond, nat_le, List, [], ◌∷◌, ◌++◌, length, map, filter, Option, Some, None, refl, sym, ap, subst, ◌∙◌, arith, eqb-true, eq-eqb}
 use Rattle.std.specs.Prelude.{find}
 use Rattle.std.specs.List.{list_any, list_all}
@@ -88,19 +88,19 @@ not_is false e = refl
 
 -- ---- rows that go
 
-gone_behind : (devices : List ℕ) (r : PairRow) (rows : List PairRow) → list_all (is_other r.device) devices ≡ true → rows_through (gone_of devices) (r ∷ rows) ≡ r ∷ rows_through (gone_of devices) rows
-gone_behind [] r rows others = refl
-gone_behind (d ∷ devices) r rows others =
+gone_after : (devices : List ℕ) (r : PairRow) (rows : List PairRow) → list_all (is_other r.device) devices ≡ true → rows_through (gone_of devices) (r ∷ rows) ≡ r ∷ rows_through (gone_of devices) rows
+gone_after [] r rows others = refl
+gone_after (d ∷ devices) r rows others =
     let parts = and_parts (is_other r.device d) (list_all (is_other r.device) devices) others in
-    ap (λ (b : Bool). rows_through (gone_of devices) (cond (not b) (r ∷ without_row d rows) (without_row d rows))) (not_is (d == r.device) parts.0) ∙ gone_behind devices r (without_row d rows) parts.1
+    ap (λ (b : Bool). rows_through (gone_of devices) (cond (not b) (r ∷ without_row d rows) (without_row d rows))) (not_is (d == r.device) parts.0) ∙ gone_after devices r (without_row d rows) parts.1
 
-gone_fit_behind : (volumes place : ℕ) (devices : List ℕ) (r : PairRow) (rows : List PairRow) → list_all (is_other r.device) devices ≡ true → first_unfit volumes place rows (gone_of devices) ≡ None → first_unfit volumes place (r ∷ rows) (gone_of devices) ≡ None
-gone_fit_behind volumes place [] r rows others fit = refl
-gone_fit_behind volumes place (d ∷ devices) r rows others fit =
+gone_fit_after : (volumes place : ℕ) (devices : List ℕ) (r : PairRow) (rows : List PairRow) → list_all (is_other r.device) devices ≡ true → first_unfit volumes place rows (gone_of devices) ≡ None → first_unfit volumes place (r ∷ rows) (gone_of devices) ≡ None
+gone_fit_after volumes place [] r rows others fit = refl
+gone_fit_after volumes place (d ∷ devices) r rows others fit =
     let parts = and_parts (is_other r.device d) (list_all (is_other r.device) devices) others in
     let differ : (d == r.device) ≡ false = not_is (d == r.device) parts.0 in
     (λ i. cond (differ i || list_any (is_of d) rows) (first_unfit volumes (place + length (item_spelling (Gone d))) (cond (not (differ i)) (r ∷ without_row d rows) (without_row d rows)) (gone_of devices)) (Some place))
-    ∙ by_row (list_any (is_of d) rows) fit (λ more. gone_fit_behind volumes (place + length (item_spelling (Gone d))) devices r (without_row d rows) parts.1 more)
+    ∙ by_row (list_any (is_of d) rows) fit (λ more. gone_fit_after volumes (place + length (item_spelling (Gone d))) devices r (without_row d rows) parts.1 more)
   where
     by_row : (b : Bool) → cond b (first_unfit volumes (place + length (item_spelling (Gone d))) (without_row d rows) (gone_of devices)) (Some place) ≡ None
         → (first_unfit volumes (place + length (item_spelling (Gone d))) (without_row d rows) (gone_of devices) ≡ None → first_unfit volumes (place + length (item_spelling (Gone d))) (r ∷ without_row d rows) (gone_of devices) ≡ None)
@@ -122,7 +122,7 @@ gone_leads test (r ∷ rows) apart =
     by_test true away others more =
         (λ i. rows_through (gone_of (devices_of (filter test rows))) (cond (not (own i)) (r ∷ without_row r.device rows) (without_row r.device rows)))
         ∙ ap (λ (l : List PairRow). rows_through (gone_of (devices_of (filter test rows))) l) away ∙ more
-    by_test false away others more = gone_behind (devices_of (filter test rows)) r rows others ∙ ap (λ (l : List PairRow). r ∷ l) more
+    by_test false away others more = gone_after (devices_of (filter test rows)) r rows others ∙ ap (λ (l : List PairRow). r ∷ l) more
 
 gone_fits : (volumes place : ℕ) (test : PairRow → Bool) (rows : List PairRow) → none_clash rows ≡ true → first_unfit volumes place rows (gone_of (devices_of (filter test rows))) ≡ None
 gone_fits volumes place test [] apart = refl
@@ -138,7 +138,7 @@ gone_fits volumes place test (r ∷ rows) apart =
     by_test true away others more =
         (λ i. cond (own i || list_any (is_of r.device) rows) (first_unfit volumes (place + length (item_spelling (Gone r.device))) (cond (not (own i)) (r ∷ without_row r.device rows) (without_row r.device rows)) (gone_of (devices_of (filter test rows)))) (Some place))
         ∙ ap (λ (l : List PairRow). first_unfit volumes (place + length (item_spelling (Gone r.device))) l (gone_of (devices_of (filter test rows)))) away ∙ more (place + length (item_spelling (Gone r.device)))
-    by_test false away others more = gone_fit_behind volumes place (devices_of (filter test rows)) r rows others (more place)
+    by_test false away others more = gone_fit_after volumes place (devices_of (filter test rows)) r rows others (more place)
 
 -- ---- rows that pass a test, in another state
 
@@ -154,11 +154,11 @@ rows_where test state (r ∷ rows) = λ i. by_test (test r) i ∷ rows_where tes
     by_test true = refl
     by_test false = refl
 
-pairs_behind : (devices : List ℕ) (r : PairRow) (rows : List PairRow) → list_all (is_other r.device) devices ≡ true → pairs_of devices (r ∷ rows) ≡ pairs_of devices rows
-pairs_behind [] r rows others = refl
-pairs_behind (d ∷ devices) r rows others =
+pairs_after : (devices : List ℕ) (r : PairRow) (rows : List PairRow) → list_all (is_other r.device) devices ≡ true → pairs_of devices (r ∷ rows) ≡ pairs_of devices rows
+pairs_after [] r rows others = refl
+pairs_after (d ∷ devices) r rows others =
     let parts = and_parts (is_other r.device d) (list_all (is_other r.device) devices) others in
-    (λ i. pair_item (cond (not_is (d == r.device) parts.0 i) (Some r) (row_of d rows)) ++ pairs_behind devices r rows parts.1 i)
+    (λ i. pair_item (cond (not_is (d == r.device) parts.0 i) (Some r) (row_of d rows)) ++ pairs_after devices r rows parts.1 i)
 
 pairs_where : (test : PairRow → Bool) (state : PairState) (rows : List PairRow) → none_clash rows ≡ true → pairs_of (devices_of (filter test rows)) (map (λ r. cond (test r) (in_state state r) r) rows) ≡ pairs_with_next (next_where test state) rows
 pairs_where test state [] apart = refl
@@ -169,9 +169,9 @@ pairs_where test state (r ∷ rows) apart =
     by_test : (b : Bool) → list_all (is_other r.device) (devices_of (filter test rows)) ≡ true → pairs_of (devices_of (filter test rows)) (map (λ s. cond (test s) (in_state state s) s) rows) ≡ pairs_with_next (next_where test state) rows
         → pairs_of (devices_of (cond b (r ∷ filter test rows) (filter test rows))) (cond b (in_state state r) r ∷ map (λ s. cond (test s) (in_state state s) s) rows) ≡ pair_in r (cond b (Some state) None) ++ pairs_with_next (next_where test state) rows
     by_test true others more =
-        (λ i. pair_item (cond (eq-eqb r.device r.device refl i) (Some (in_state state r)) (row_of r.device (map (λ s. cond (test s) (in_state state s) s) rows))) ++ pairs_behind (devices_of (filter test rows)) (in_state state r) (map (λ s. cond (test s) (in_state state s) s) rows) others i)
+        (λ i. pair_item (cond (eq-eqb r.device r.device refl i) (Some (in_state state r)) (row_of r.device (map (λ s. cond (test s) (in_state state s) s) rows))) ++ pairs_after (devices_of (filter test rows)) (in_state state r) (map (λ s. cond (test s) (in_state state s) s) rows) others i)
         ∙ ap (λ (l : List Item). Pair (in_state state r) ∷ l) more
-    by_test false others more = pairs_behind (devices_of (filter test rows)) r (map (λ s. cond (test s) (in_state state s) s) rows) others ∙ more
+    by_test false others more = pairs_after (devices_of (filter test rows)) r (map (λ s. cond (test s) (in_state state s) s) rows) others ∙ more
 
 -- ---- one row
 
@@ -183,9 +183,9 @@ any_there d (s ∷ rows) r found = by_first (d == s.device) found (any_there d r
     by_first true found more = refl
     by_first false found more = more found
 
--- Behind a row with which none clashes a device's row is found too.
-behind_other : (s : PairRow) (rows : List PairRow) (r : PairRow) → none_clash (s ∷ rows) ≡ true → row_of r.device rows ≡ Some r → row_of r.device (s ∷ rows) ≡ Some r
-behind_other s rows r apart there = by_device (r.device == s.device) refl
+-- After a row with which none clashes a device's row is found too.
+after_other : (s : PairRow) (rows : List PairRow) (r : PairRow) → none_clash (s ∷ rows) ≡ true → row_of r.device rows ≡ Some r → row_of r.device (s ∷ rows) ≡ Some r
+after_other s rows r apart there = by_device (r.device == s.device) refl
   where
     by_device : (b : Bool) → (r.device == s.device) ≡ b → cond (r.device == s.device) (Some s) (row_of r.device rows) ≡ Some r
     by_device true is =
@@ -205,7 +205,7 @@ row_there test (s ∷ rows) r apart found =
 
     by_test : (b : Bool) → cond b (Some s) (find test rows) ≡ Some r → (find test rows ≡ Some r → row_of r.device rows ≡ Some r) → row_of r.device (s ∷ rows) ≡ Some r
     by_test true found more = own (cc found)
-    by_test false found more = behind_other s rows r apart (more found)
+    by_test false found more = after_other s rows r apart (more found)
 
 -- A row put in another state is in the place of its own.
 put_state : (state : PairState) (rows : List PairRow) (r : PairRow) → none_clash rows ≡ true → row_of r.device rows ≡ Some r → with_row (in_state state r) rows ≡ with_state r.device state rows
@@ -297,7 +297,7 @@ module _ (volumes : ℕ) (names : Naming) (time : ℕ) (rows : List PairRow) (be
         fit = next_pairs_fit (next_where test state) volumes 0 rows (are_by volumes rows keeps.few keeps.apart below) keeps.apart;
       })
 
-  -- The items of the change lead to the rows behind the command.
+  -- The items of the change lead to the rows after the command.
   pub command_leads : (command : Command) → (wants_memory command ≡ true → AreRowsSound rows) → is_start command ≡ false → refuses_command names rows command ≡ None → AreRowsSound (rows_after names time command rows) → are_below volumes (rows_after names time command rows) ≡ true
       → Lead volumes (changed_items (change_of names command rows) (rows_after names time command rows)) rows (rows_after names time command rows)
   command_leads (Start level) keeps starts own keeps_then below_then = absurd (cc starts)

@@ -215,14 +215,14 @@ alters_wants names Query rows some = some
 alters_wants names End rows some = some
 
 -- The rows that the devices tell stay, where those of the table are kept before it goes ahead of them.
-pub told_behind : (names : Naming) (table : Table) (session : List ℕ) (command : Command) (time : ℕ) (change : Change) → answer names table session command ≡ Ok change → table.is_started ≡ true → (ahead : Bool) (told : List PairRow)
+pub told_after : (names : Naming) (table : Table) (session : List ℕ) (command : Command) (time : ℕ) (change : Change) → answer names table session command ≡ Ok change → table.is_started ≡ true → (ahead : Bool) (told : List PairRow)
     → cond (ahead || alters change) (cond (wants_memory command && not ahead) table.rows told) (table_after names table session command time).rows ≡ cond ahead told table.rows
-told_behind names table session command time change is started true told = ap (λ (b : Bool). cond b table.rows told) (never (wants_memory command))
+told_after names table session command time change is started true told = ap (λ (b : Bool). cond b table.rows told) (never (wants_memory command))
   where
     never : (b : Bool) → (b && false) ≡ false
     never true = refl
     never false = refl
-told_behind names table session command time change is started false told = by_change (alters change) refl
+told_after names table session command time change is started false told = by_change (alters change) refl
   where
     a : Answered names table session command change
     a = answered names table session command change is
@@ -248,8 +248,8 @@ added_is (SuspendedRows devices) d = refl
 added_is EndedSession d = refl
 
 -- Its job's flag is taken away, and no other.
-pub flags_behind : (change : Change) (flags : List Bool) (d : ℕ) → added_device change ≡ Some d → without_flag 0 change flags ≡ set flags d false
-flags_behind change flags d found = flag_away 0 d change flags (λ k. added_is change k ∙ ap (λ (o : Option ℕ). is_found o k) found ∙ ap (λ (n : ℕ). n == k) here)
+pub flags_after : (change : Change) (flags : List Bool) (d : ℕ) → added_device change ≡ Some d → without_flag 0 change flags ≡ set flags d false
+flags_after change flags d found = flag_away 0 d change flags (λ k. added_is change k ∙ ap (λ (o : Option ℕ). is_found o k) found ∙ ap (λ (n : ℕ). n == k) here)
   where
     here : d ≡ 0 + d
     here = omega arith

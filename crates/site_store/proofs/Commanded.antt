@@ -50,7 +50,7 @@ module _ (names : Naming) (site : SiteState) (session : List ℕ) (command : Com
   rows_are : (table_after names site.table session command at).rows ≡ rows_after names at command site.table.rows
   rows_are = ap (λ (t : Table). t.rows) after_is
 
-  -- whether the job of a device has failed behind it
+  -- whether the job of a device has failed after it
   flag_is : (d : ℕ) → has_failed (with_change (table_after names site.table session command at) change site) d ≡ cond (is_added change d) false (has_failed site d)
   flag_is d = flag_then 0 d change site.failed ∙ ap (λ (n : ℕ). cond (is_added change n) false (has_failed site d)) here
     where

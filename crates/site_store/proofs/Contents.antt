@@ -15,7 +15,7 @@ use Rattle.image_former.specs.Changes.{changed_by, changed_through, changed_wher
 use Rattle.image_former.specs.Entries.{is_device, is_entry_on, is_row_of, row_device}
 use Rattle.image_former.proofs.Changing.{changed_none}
 use Rattle.record_rows.specs.Deeds.{Deed, entries_by_deed, rows_by_deed}
-use Rattle.site_store.specs.Deeds.{content_behind, content_by_deed, kinds_of}
+use Rattle.site_store.specs.Deeds.{content_after, content_by_deed, kinds_of}
 use Rattle.record_rows.specs.Deeds.Deed.{Logged, Changed, Marked}
 use Rattle.site_store.specs.Exceptions.{is_whole_on}
 use Rattle.site_store.specs.DeedLaws.{EntriesChangeTheirTracks, EntriesGoByRowsBefore, OnlyEntriesChangeContent}
@@ -30,7 +30,7 @@ no_entries d x rows (Marked spot ended next) old none = refl
 pub only_entries : OnlyEntriesChangeContent
 only_entries d x rows [] old none = refl
 only_entries d x rows (deed ∷ deeds) old none =
-    ap (λ (r : Option (List Rec)). content_behind d x (rows_by_deed deed) deeds r) (no_entries d x rows deed old (All-head (λ (e : Deed). entries_by_deed e ≡ []) deed deeds none))
+    ap (λ (r : Option (List Rec)). content_after d x (rows_by_deed deed) deeds r) (no_entries d x rows deed old (All-head (λ (e : Deed). entries_by_deed e ≡ []) deed deeds none))
     ∙ only_entries d x (rows_by_deed deed) deeds old (All-tail (λ (e : Deed). entries_by_deed e ≡ []) deed deeds none)
 
 -- ---- one entry

@@ -36,7 +36,7 @@ pub none_first : (rows : List PairRow) → slice_get rows 0 ≡ None → rows �
 none_first [] is = refl
 none_first (r ∷ rows) is = absurd (cc is)
 
--- ---- put behind the others
+-- ---- put after the others
 
 none_before : (test : PairRow → Bool) (rows : List PairRow) (i : ℕ) → list_any test rows ≡ false → list_any test (take i rows) ≡ false
 none_before test [] zero none = refl
@@ -70,7 +70,7 @@ new_device (r ∷ rows) (suc i) row apart is =
     (λ j. differ j || new_device rows i row first.others is j)
 
 module _ (rows : List PairRow) (i : ℕ) (row : PairRow) (keeps : AreRowsSound rows) (is : slice_get rows i ≡ Some row) where
-  -- The next row goes behind those before it.
+  -- The next row goes after those before it.
   pub next_row : with_row row (take i rows) ≡ take (i + 1) rows
   next_row =
       with_row-last row (take i rows) (new_device rows i row keeps.apart is)

@@ -26,7 +26,7 @@ found_is_row device (r ∷ rows) row are is =
 pub pair_length : (row : PairRow) → is_row row ≡ true → length (item_spelling (Pair row)) ≡ 31
 pair_length row is = omega (arith, spelled_length row is)
 
--- The items of the first so many devices stand behind those that were there.
+-- The items of the first so many devices stand after those that were there.
 pub record Put (items : ℕ → List Item) (held now : BodyState) (devices : List ℕ) (i : ℕ) : Type 0 where
   pub items_are : now.items ≡ held.items ++ flat_map items (take i devices)
   pub room : now.room ≡ held.room

@@ -39,11 +39,11 @@ spelled_by_kinds (e ∷ entries) all = (all zero e (omega arith), spelled_by_kin
 -- ---- volumes with items
 
 any_more : {A : Type 0} (test : A → Bool) (a : A) (xs : List A) → list_any test xs ≡ true → list_any test (a ∷ xs) ≡ true
-any_more test a xs has = behind (test a)
+any_more test a xs has = after (test a)
   where
-    behind : (b : Bool) → (b || list_any test xs) ≡ true
-    behind true = refl
-    behind false = has
+    after : (b : Bool) → (b || list_any test xs) ≡ true
+    after true = refl
+    after false = has
 
 any_here : {A : Type 0} (test : A → Bool) (a : A) (xs : List A) → test a ≡ true → list_any test (a ∷ xs) ≡ true
 any_here test a xs is = ap (λ (b : Bool). b || list_any test xs) is

@@ -12,11 +12,11 @@ use Rattle.site_store.proofs.LentJobs.{found_any, home_at}
 any_at_place : {A : Type 0} (test : A → Bool) (xs : List A) (k : ℕ) (d : A) → k < length xs → test (get_or xs k d) ≡ true → list_any test xs ≡ true
 any_at_place test [] k d lt is = absurd (omega (arith, lt))
 any_at_place test (x ∷ xs) zero d lt is = λ i. is i || list_any test xs
-any_at_place test (x ∷ xs) (suc k) d lt is = behind (test x) (any_at_place test xs k d (omega (arith, lt)) is)
+any_at_place test (x ∷ xs) (suc k) d lt is = after (test x) (any_at_place test xs k d (omega (arith, lt)) is)
   where
-    behind : (c : Bool) → list_any test xs ≡ true → (c || list_any test xs) ≡ true
-    behind true has = refl
-    behind false has = has
+    after : (c : Bool) → list_any test xs ≡ true → (c || list_any test xs) ≡ true
+    after true has = refl
+    after false has = has
 
 flag_within : {D : Type 0} (jobs : List (VolumeJob D)) (d : ℕ) → get_or (map has_job_failed jobs) d false ≡ true → d < length jobs
 flag_within [] d flag = absurd cc

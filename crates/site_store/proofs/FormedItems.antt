@@ -1,4 +1,4 @@
--- The items of a formed record: images, and behind them the pairs of the rows that change.
+-- The items of a formed record: images, and after them the pairs of the rows that change.
 use Rattle.std.proofs.Common.{◌≡◌, ◌==◌, ℕ, ◌+◌, ◌*◌, true, nat_lt, List, [], ◌∷◌, ◌++◌, Option, Some, None, refl, sym, ap, subst, ◌∙◌, arith, eqb-true}
 use Rattle.std.specs.List.{All, list_all}
 use Rattle.std.proofs.lemmas.Bool.{and_parts, and_from, lt-ltb, le-leb}
@@ -12,7 +12,7 @@ use Rattle.record_rows.proofs.Changed.{changed_make}
 use Rattle.record_rows.proofs.Devices.{apart_of}
 use Rattle.site_means.specs.Walk.{rows_through}
 use Rattle.pending_queue.specs.Entries.{WaitingEntry}
-use Rattle.xrc_journal.specs.Items.{AreItems, Earlier, Form, Item, are_items_behind, behind, form_of, is_item, is_within, none_earlier}
+use Rattle.xrc_journal.specs.Items.{AreItems, Earlier, Form, Item, are_items_after, earlier_after, form_of, is_item, is_within, none_earlier}
 use Rattle.xrc_journal.specs.Items.Item.{Pair}
 use Rattle.xrc_journal.specs.Contents.{HasItem}
 use Rattle.image_former.specs.Entries.{HasEntry, is_device, is_entry_on, row_device}
@@ -48,17 +48,17 @@ pairs_lead next rows apart = pairs_put next rows rows ∙ changed_make next rows
 -- ---- the rules on one record
 
 -- Pairs of rows keep them whatever tracks a form allows.
-pairs_keep : (form : Form) (next : NextStates) (rows : List PairRow) → list_all (stays_row next) rows ≡ true → (earlier : Earlier) → are_items_behind form earlier (pairs_with_next next rows) ≡ true
+pairs_keep : (form : Form) (next : NextStates) (rows : List PairRow) → list_all (stays_row next) rows ≡ true → (earlier : Earlier) → are_items_after form earlier (pairs_with_next next rows) ≡ true
 pairs_keep form next [] are earlier = refl
 pairs_keep form next (r ∷ rows) are earlier =
     let parts = and_parts (stays_row next r) (list_all (stays_row next) rows) are in
     by_state (next r) parts.0 (pairs_keep form next rows parts.1)
   where
-    by_state : (state : Option PairState) → is_row_in r state ≡ true → ((e : Earlier) → are_items_behind form e (pairs_with_next next rows) ≡ true) → are_items_behind form earlier (pair_in r state ++ pairs_with_next next rows) ≡ true
+    by_state : (state : Option PairState) → is_row_in r state ≡ true → ((e : Earlier) → are_items_after form e (pairs_with_next next rows) ≡ true) → are_items_after form earlier (pair_in r state ++ pairs_with_next next rows) ≡ true
     by_state None is more = more earlier
     by_state (Some state) is more =
         let item : Item = Pair (in_state state r) in
-        and_from (is_item form earlier item) (are_items_behind form (behind item earlier) (pairs_with_next next rows)) is (more (behind item earlier))
+        and_from (is_item form earlier item) (are_items_after form (earlier_after item earlier) (pairs_with_next next rows)) is (more (earlier_after item earlier))
 
 -- The slot of a track with an entry is one of the plant's.
 pub slot_there : (start : PlantState) (rows : List PairRow) (entries : List WaitingEntry) → list_all (row_has_volume start) rows ≡ true → All (IsOfSomeRow rows) entries → (device x : ℕ) → HasEntry rows device x entries → (form_of start).has_slot device x ≡ true

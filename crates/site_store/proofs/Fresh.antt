@@ -1,4 +1,4 @@
--- What stands behind the first mark, and the devices at the moments of a session's start, over plain states.
+-- What stands after the first mark, and the devices at the moments of a session's start, over plain states.
 use Rattle.std.proofs.Common.{◌≡◌, ◌≢◌, ◌⊎◌, inl, inr, ℕ, zero, suc, ◌+◌, ◌≤◌, ◌<◌, false, true, List, [], ◌∷◌, drop, slice_index, Option, Some, None, Result, Ok, Err, refl, sym, ap, subst, ◌∙◌, arith}
 use Rattle.std.specs.Prelude.{IsErrOf, slice_index_or}
 use Rattle.std.specs.List.{Contains}
@@ -212,7 +212,7 @@ module _ (tells : Type 0) (told : tells) (session : List ℕ) (level : Level) (a
           | inr e ↦ inr (first_seen y z is (put.others (Journal 0) (λ no. no)) e.0 e.1)
         ])
 
--- What was put is the first mark behind its state.
+-- What was put is the first mark after its state.
 pub mark_is_put : (new : PlantState) (session : List ℕ) (level : Level) (at : Stamp) (m : Mark) (rows : List PairRow) → m ≡ first_mark session at → rows ≡ [] → MarkIsPut m (record { level = level; rows = rows }) new → MarkIsPut (first_mark session at) (record { level = level; rows = [] }) new
 mark_is_put new session level at m rows is none put = subst (λ (x : Type 0). x) (λ i. MarkIsPut (is i) (record { level = level; rows = none i }) new) put
 

@@ -51,11 +51,11 @@ row_below n (r ∷ rows) (suc i) row below is = row_below n rows i row (and_part
 pub any_at : (test : PairRow → Bool) (rows : List PairRow) (i : ℕ) (row : PairRow) → slice_get rows i ≡ Some row → test row ≡ true → list_any test rows ≡ true
 any_at test [] i row is passes = absurd cc
 any_at test (r ∷ rows) zero row is passes = let same : r ≡ row = cc is in ap (λ (b : Bool). b || list_any test rows) (ap test same ∙ passes)
-any_at test (r ∷ rows) (suc i) row is passes = behind (test r) (any_at test rows i row is passes)
+any_at test (r ∷ rows) (suc i) row is passes = after (test r) (any_at test rows i row is passes)
   where
-    behind : (b : Bool) → list_any test rows ≡ true → (b || list_any test rows) ≡ true
-    behind true has = refl
-    behind false has = has
+    after : (b : Bool) → list_any test rows ≡ true → (b || list_any test rows) ≡ true
+    after true has = refl
+    after false has = has
 
 -- one flag more may be set
 pub flag_or : (flags : List Bool) (i d : ℕ) (b : Bool) → i < length flags → get_or (set flags i (get_or flags i false || b)) d false ≡ (get_or flags d false || (b && i == d))

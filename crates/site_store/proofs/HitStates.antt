@@ -14,9 +14,9 @@ use Rattle.row_changes.specs.Changes.{reach_of, reaches_others, since}
 use Rattle.record_rows.specs.ChangedRows.{later_state, rows_in_states, state_told, state_with_record}
 use Rattle.record_rows.specs.GroupRows.{row_in, row_with_group, state_with_group}
 use Rattle.record_rows.specs.Hits.{hit_now, is_reached}
-use Rattle.record_rows.specs.Records.{rows_behind_mark, rows_with_hits}
+use Rattle.record_rows.specs.Records.{rows_after_mark, rows_with_hits}
 use Rattle.pending_queue.specs.Groups.{FormedGroup}
-use Rattle.record_rows.proofs.Changed.{behind_marks_change, hits_change}
+use Rattle.record_rows.proofs.Changed.{after_marks_change, hits_change}
 use Rattle.site_store.specs.declared.hits.HitDevices.{HitDevices}
 use Rattle.site_store.specs.declared.hits.Hits.{Hits}
 use Rattle.site_store.specs.Hits.{AreDevices, AreHits, is_hit_by, is_reached_by, next_by_hits, state_by_hits, state_or, with_group_and_hits, with_hits}
@@ -50,7 +50,7 @@ by_flags false true time state = by_state (is_suspended state)
     by_state false = refl
 
 module _ (level : Level) (time : Stamp) (failed : List Bool) (marked : List ℕ) (all : List PairRow) (hits : Hits) (are : AreHits level time failed marked all hits) where
-  -- Hits change a row as a record tells it that comes behind a mark with these hits, or with none.
+  -- Hits change a row as a record tells it that comes after a mark with these hits, or with none.
   pub told_state : (r : PairRow) → r.device < 64 → with_hits hits r ≡ state_told (reach_of level all) time.0 marked (hit_now failed all) r
   told_state r lt =
       let hit = hit_now failed all in
@@ -66,11 +66,11 @@ module _ (level : Level) (time : Stamp) (failed : List Bool) (marked : List ℕ)
       let parts = and_parts (nat_lt r.device 64) (are_below 64 rows) below in
       λ i. row_in r (told_state r (ltb-true r.device 64 parts.0) i) ∷ in_states_told rows parts.1 i
 
--- The rows behind hits alone.
+-- The rows after hits alone.
 pub hits_make_rows : (level : Level) (time : Stamp) (failed : List Bool) (rows : List PairRow) (hits : Hits) → AreHits level time failed [] rows hits → are_below 64 rows ≡ true → rows_in_states (with_hits hits) rows ≡ rows_with_hits level time.0 failed rows
 hits_make_rows level time failed rows hits are below = in_states_told level time failed [] rows hits are rows below ∙ sym (hits_change level time.0 failed rows)
 
--- ---- the rows behind a group
+-- ---- the rows after a group
 
 with_row_in : (hits : Hits) (r : PairRow) (o : Option PairState) → next_by_hits hits r.device (state_or r.state o) ≡ with_hits hits (row_in r o)
 with_row_in hits r (Some state) = refl
@@ -89,7 +89,7 @@ in_states_logged level group failed marked all (r ∷ rows) hits are below =
     let told = told_state level group.cut failed marked all hits are (row_with_group group r) (below_in 64 r grouped (ltb-true r.device 64 parts.0)) in
     λ i. row_in r (later_state ((with_row_in hits r grouped ∙ told) i) grouped) ∷ in_states_logged level group failed marked all rows hits are parts.1 i
 
--- The rows behind a group's record, which may come behind a mark with these hits.
+-- The rows after a group's record, which may come after a mark with these hits.
 pub group_makes_rows : (level : Level) (group : FormedGroup) (failed : List Bool) (marked : List ℕ) (rows : List PairRow) (hits : Hits) → AreHits level group.cut failed marked rows hits → are_below 64 rows ≡ true
-    → rows_in_states (with_group_and_hits group hits) rows ≡ rows_behind_mark level marked group failed rows
-group_makes_rows level group failed marked rows hits are below = in_states_logged level group failed marked rows rows hits are below ∙ sym (behind_marks_change level marked group failed rows)
+    → rows_in_states (with_group_and_hits group hits) rows ≡ rows_after_mark level marked group failed rows
+group_makes_rows level group failed marked rows hits are below = in_states_logged level group failed marked rows rows hits are below ∙ sym (after_marks_change level marked group failed rows)

@@ -1,4 +1,4 @@
--- A change's items with those of the hits behind them lead to the rows with the hits, also from rows in which these hits are told.
+-- A change's items with those of the hits after them lead to the rows with the hits, also from rows in which these hits are told.
 use Rattle.std.proofs.Common.{◌≡◌, inl, inr, ℕ, zero, suc, ◌+◌, ◌<◌, ◌==◌, Bool, true, false, cond, ◌||◌, List, [], ◌∷◌, ◌++◌, length, Option, Some, None, refl, sym, ap, subst, ◌∙◌, eq-eqb, eqb-true}
 use Rattle.std.specs.Prelude.{slice_get, nat_lt}
 use Rattle.std.specs.List.{list_any}
@@ -21,7 +21,7 @@ use Rattle.record_rows.proofs.Devices.{apart_of}
 use Rattle.record_rows.proofs.HitRows.{among_hit}
 use Rattle.row_changes.specs.Changes.{hit_row, since}
 use Rattle.state_set.specs.Slots.{are_rows}
-use Rattle.state_set.proofs.Behind.{rows_parts}
+use Rattle.state_set.proofs.After.{rows_parts}
 use Rattle.site_means.specs.Walk.{first_unfit, fits_rows, rows_by, rows_through}
 use Rattle.site_means.proofs.Goes.{rows_append}
 use Rattle.xrc_journal.specs.Items.{Item, item_spelling}
@@ -69,7 +69,7 @@ row_then_any device (r ∷ rows) row is = by_first (is_of device r) (row_then_an
     by_first true more e = refl
     by_first false more e = more e
 
--- behind a row of another device it is among them still
+-- after a row of another device it is among them still
 more_among : (r : PairRow) (rows : List PairRow) (row : PairRow) → list_any (is_of r.device) rows ≡ false → IsAmongBare rows row → IsAmongBare (r ∷ rows) row
 more_among r rows row apart among = one (is_of row.device r) refl
   where
@@ -103,11 +103,11 @@ module _ (next : NextStates) where
   -- ---- and lead
 
   -- pairs of other devices leave a row
-  behind_row : (r : PairRow) (rows before : List PairRow) → list_any (is_of r.device) rows ≡ false → rows_through (pairs_with_next next rows) (r ∷ before) ≡ r ∷ rows_through (pairs_with_next next rows) before
-  behind_row r [] before apart = refl
-  behind_row r (s ∷ rows) before apart =
+  after_row : (r : PairRow) (rows before : List PairRow) → list_any (is_of r.device) rows ≡ false → rows_through (pairs_with_next next rows) (r ∷ before) ≡ r ∷ rows_through (pairs_with_next next rows) before
+  after_row r [] before apart = refl
+  after_row r (s ∷ rows) before apart =
       let parts = either_false (is_of r.device s) (list_any (is_of r.device) rows) apart in
-      by_state (next s) (eqb_sym_false r.device s.device parts.0) (λ l. behind_row r rows l parts.1)
+      by_state (next s) (eqb_sym_false r.device s.device parts.0) (λ l. after_row r rows l parts.1)
     where
       by_state : (o : Option PairState) → (s.device == r.device) ≡ false → ((l : List PairRow) → rows_through (pairs_with_next next rows) (r ∷ l) ≡ r ∷ rows_through (pairs_with_next next rows) l)
           → rows_through (pair_in s o ++ pairs_with_next next rows) (r ∷ before) ≡ r ∷ rows_through (pair_in s o ++ pairs_with_next next rows) before
@@ -133,10 +133,10 @@ module _ (next : NextStates) where
           → rows_through (pair_in b o ++ pairs_with_next next bs) (a ∷ ns) ≡ row_in b o ∷ rows_in_states next bs
       by_state None none others more =
           let same : a ≡ b = elim near.0.same [ inl same ↦ same | inr hit ↦ (let c = change 0 b refl hit in let some = c.1 in absurd (cc (some, none))) ] in
-          behind_row a bs ns (ap (λ (d : ℕ). list_any (is_of d) bs) device ∙ others) ∙ (λ i. same i ∷ more i)
+          after_row a bs ns (ap (λ (d : ℕ). list_any (is_of d) bs) device ∙ others) ∙ (λ i. same i ∷ more i)
       by_state (Some state) some others more =
           ap (λ (x : Bool). rows_through (pairs_with_next next bs) (cond x (in_state state b ∷ ns) (a ∷ with_row (in_state state b) ns))) (eq-eqb b.device a.device (sym device))
-          ∙ behind_row (in_state state b) bs ns others ∙ ap (λ (l : List PairRow). in_state state b ∷ l) more
+          ∙ after_row (in_state state b) bs ns others ∙ ap (λ (l : List PairRow). in_state state b ∷ l) more
 
 -- ---- hits
 

@@ -18,7 +18,7 @@ module _ {V : Type 0} where
   is_home : (first : ℕ) (job : VolumeJob V) (jobs : List (VolumeJob V)) → job.device ≡ first → is_none job.disk ≡ true → are_home_from (suc first) jobs ≡ true → are_home_from first (job ∷ jobs) ≡ true
   is_home first job jobs device disk more = (λ i. (eq-eqb job.device first device i && disk i) && more i)
 
-  -- One more goes behind them.
+  -- One more goes after them.
   pub home_push : (first : ℕ) (jobs : List (VolumeJob V)) (job : VolumeJob V) → are_home_from first jobs ≡ true → job.device ≡ first + length jobs → is_none job.disk ≡ true → are_home_from first (jobs ++ job ∷ []) ≡ true
   home_push first [] job home device disk = is_home first job [] (device ∙ omega arith) disk refl
   home_push first (j ∷ jobs) job home device disk =

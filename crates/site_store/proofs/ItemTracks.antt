@@ -12,7 +12,7 @@ use Rattle.crash_plant.specs.declared.device.Device.TheVariants.{Volume}
 use Rattle.crash_plant.specs.Moments.{PlantState}
 use Rattle.xrc_journal.specs.Bodies.{draws, have_image}
 use Rattle.xrc_journal.specs.Contents.{HasItem, content_by, content_through, is_of_track}
-use Rattle.xrc_journal.specs.Items.{AreItems, Earlier, Item, are_items_behind, behind, behind_all, form_of, is_drawn, is_item, is_within, none_earlier}
+use Rattle.xrc_journal.specs.Items.{AreItems, Earlier, Item, are_items_after, earlier_after, earlier_after_all, form_of, is_drawn, is_item, is_within, none_earlier}
 use Rattle.xrc_journal.specs.Items.Item.{Image, Delta, Pair, Gone}
 use Rattle.xrc_journal.proofs.ItemsAgain.{image_rules}
 use Rattle.applier.specs.Slots.{DiffersInSlots}
@@ -50,9 +50,9 @@ item_cases device x items = by_test (list_any (is_of_track device x) items) refl
     by_test false is = inr (λ has. absurd (cc (has, is)))
 
 -- A track with an image has an item.
-drawn_item : (device x : ℕ) (items : List Item) (earlier : Earlier) → is_drawn (behind_all items earlier).drawn device x ≡ true → HasItem device x items ⊎ (is_drawn earlier.drawn device x ≡ true)
+drawn_item : (device x : ℕ) (items : List Item) (earlier : Earlier) → is_drawn (earlier_after_all items earlier).drawn device x ≡ true → HasItem device x items ⊎ (is_drawn earlier.drawn device x ≡ true)
 drawn_item device x [] earlier is = inr is
-drawn_item device x (Image d y recs ∷ items) earlier is = elim (drawn_item device x items (behind (Image d y recs) earlier) is) [
+drawn_item device x (Image d y recs ∷ items) earlier is = elim (drawn_item device x items (earlier_after (Image d y recs) earlier) is) [
   | inl has ↦ inl (right (d == device && y == x) (list_any (is_of_track device x) items) has)
   | inr now ↦ by_test (d == device && y == x) refl now
 ]
@@ -72,8 +72,8 @@ drawn_item device x (Delta d y kind ∷ items) earlier is = elim (drawn_item dev
     right : (a b : Bool) → b ≡ true → (a || b) ≡ true
     right true b e = refl
     right false b e = e
-drawn_item device x (Pair row ∷ items) earlier is = drawn_item device x items (behind (Pair row) earlier) is
-drawn_item device x (Gone d ∷ items) earlier is = drawn_item device x items (behind (Gone d) earlier) is
+drawn_item device x (Pair row ∷ items) earlier is = drawn_item device x items (earlier_after (Pair row) earlier) is
+drawn_item device x (Gone d ∷ items) earlier is = drawn_item device x items (earlier_after (Gone d) earlier) is
 
 pub image_item : (device x : ℕ) (items : List Item) → have_image items device x ≡ true → HasItem device x items
 image_item device x items is = elim (drawn_item device x items none_earlier is) [
@@ -95,11 +95,11 @@ item_room plant earlier device x (Delta d y kind) keeps is = absurd cc
 item_room plant earlier device x (Pair row) keeps is = absurd cc
 item_room plant earlier device x (Gone d) keeps is = absurd cc
 
-rooms : (plant : PlantState) (earlier : Earlier) (device x : ℕ) (items : List Item) → are_items_behind (form_of plant) earlier items ≡ true → HasItem device x items → (slot_end x ≤ plant.lengths (Volume device)) × (list_any (draws device x) items ≡ true)
+rooms : (plant : PlantState) (earlier : Earlier) (device x : ℕ) (items : List Item) → are_items_after (form_of plant) earlier items ≡ true → HasItem device x items → (slot_end x ≤ plant.lengths (Volume device)) × (list_any (draws device x) items ≡ true)
 rooms plant earlier device x [] keep has = absurd cc
 rooms plant earlier device x (i ∷ items) keep has =
-    let parts = and_parts (is_item (form_of plant) earlier i) (are_items_behind (form_of plant) (behind i earlier) items) keep in
-    by_first (is_of_track device x i) refl parts.0 (λ later. rooms plant (behind i earlier) device x items parts.1 later) has
+    let parts = and_parts (is_item (form_of plant) earlier i) (are_items_after (form_of plant) (earlier_after i earlier) items) keep in
+    by_first (is_of_track device x i) refl parts.0 (λ later. rooms plant (earlier_after i earlier) device x items parts.1 later) has
   where
     left : (a b : Bool) → a ≡ true → (a || b) ≡ true
     left true b e = refl

@@ -95,11 +95,11 @@ any_wider one more (x ∷ xs) wider has = by_first (one x) refl has (any_wider o
   where
     by_first : (b : Bool) → one x ≡ b → (b || list_any one xs) ≡ true → (list_any one xs ≡ true → list_any more xs ≡ true) → (more x || list_any more xs) ≡ true
     by_first true e has later = λ i. wider x e i || list_any more xs
-    by_first false e has later = behind (more x) (later has)
+    by_first false e has later = after (more x) (later has)
       where
-        behind : (c : Bool) → list_any more xs ≡ true → (c || list_any more xs) ≡ true
-        behind true has = refl
-        behind false has = has
+        after : (c : Bool) → list_any more xs ≡ true → (c || list_any more xs) ≡ true
+        after true has = refl
+        after false has = has
 
 pub on_device : (rows : List PairRow) (entries : List WaitingEntry) (device x : ℕ) → HasEntry rows device x entries → HasEntryOn rows entries device
 on_device rows entries device x has = any_wider (is_entry_on rows device x) (is_entry_of_device rows device) entries (λ e on. (and_parts (is_entry_of_device rows device e) (e.head.track == x) on).0) has

@@ -93,7 +93,7 @@ module _ (tells : Type 0) (group : FormedGroup) (site : SiteState) (after : List
   abbrev pub logged_deed : Deed
   logged_deed = Logged group.cut.0 group.entries after
 
-  -- The items lead from the rows on the devices to those behind the record.
+  -- The items lead from the rows on the devices to those after the record.
   pub items_lead : rows_through items site.told ≡ after
   items_lead = ap (λ (l : List Item). rows_through l site.told) are.parts ∙ image_rows are.images are.pairs site.told are.are_images ∙ are.lead
 

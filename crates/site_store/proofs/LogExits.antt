@@ -17,7 +17,7 @@ use Rattle.pair_table.specs.declared.row.PairRow.{PairRow}
 use Rattle.pending_queue.specs.Groups.{FormedGroup}
 use Rattle.record_rows.specs.ChangedRows.{rows_in_states}
 use Rattle.record_rows.specs.Hits.{hit_now}
-use Rattle.record_rows.specs.Records.{rows_behind_mark, rows_with_record}
+use Rattle.record_rows.specs.Records.{rows_after_mark, rows_with_record}
 use Rattle.xrc_journal.specs.Bodies.{BodyState}
 use Rattle.xrc_journal.specs.Items.{Item, body_spelling}
 use Rattle.site_store.specs.Exceptions.{Exceptions}
@@ -30,21 +30,21 @@ use Rattle.site_store.specs.Causes.{FailByCounts, HasStoreCause}
 use Rattle.site_store.specs.Hits.{AreHits, are_some, with_group_and_hits}
 use Rattle.site_store.specs.Jobs.{body_room}
 use Rattle.site_store.specs.Logging.{FailByEntries, FormsRecord, HasEntryOn, IsOfLog, IsOfSomeRow, LogsBy, LogsGroup, MayLog, StaysUnwritten, rows_before, rows_logged}
-use Rattle.site_store.specs.Marking.{MakesMark, behind_next_mark, rows_at_mark}
-use Rattle.site_store.specs.Recording.{HasRoomBehindSwitch, MayPutRecord, ShowsRecord, group_with}
-use Rattle.site_store.specs.Records.{IsJournal, IsOfMark, behind_mark, one_more}
+use Rattle.site_store.specs.Marking.{MakesMark, after_next_mark, rows_at_mark}
+use Rattle.site_store.specs.Recording.{HasRoomAfterSwitch, MayPutRecord, ShowsRecord, group_with}
+use Rattle.site_store.specs.Records.{IsJournal, IsOfMark, after_mark, one_more}
 use Rattle.site_store.specs.Sites.{SiteState}
 use Rattle.site_store.specs.Standing.{FitsPlant, Leaves, MayRecord, SiteStands, none_excepted}
 use Rattle.site_store.specs.Placements.{is_spent, record_needs_more, placement_from}
 use Rattle.site_store.proofs.LogFails.{StoresQuiet, cause_then, fails_trans, quiet_ok, quiet_reads, spent_cause}
-use Rattle.site_store.proofs.LogForms.{FirstForm, HasPlace, fits_formed, formed_ready, formed_stands, forms_first, group_behind_mark, logs_spent, marked_entries, marked_stage, plain_place, plain_stage}
+use Rattle.site_store.proofs.LogForms.{FirstForm, HasPlace, fits_formed, formed_ready, formed_stands, forms_first, group_after_mark, logs_spent, marked_entries, marked_stage, plain_place, plain_stage}
 use Rattle.site_store.proofs.LogPut.{IsReady, logged_site, may_put}
 use Rattle.site_store.proofs.LogReads.{with_failed}
 use Rattle.site_store.proofs.LogStage.{PutStage, put_cause, put_failed, put_fails, put_leaves, put_logs, put_others}
 use Rattle.site_store.proofs.LogStart.{FormedBy, first_formed, first_rows, formed_short, marked_formed, marked_rows, placement_still}
-use Rattle.site_store.proofs.MarkFirst.{room_behind_mark, suffice}
+use Rattle.site_store.proofs.MarkFirst.{room_after_mark, suffice}
 use Rattle.site_store.proofs.MarkRows.{hits_alone}
-use Rattle.site_store.proofs.NextMark.{behind_level, makes_alone}
+use Rattle.site_store.proofs.NextMark.{after_level, makes_alone}
 use Rattle.site_store.proofs.RecordPuts.{on_ok}
 
 -- ---- a record put, from any stage
@@ -109,7 +109,7 @@ module _ (tells : Type 0) (group : FormedGroup) (site : SiteState) (old mid : Pl
   hits_told : AreHits site.level group.cut failed [] site.told hits
   hits_told = subst (λ (rows : List PairRow). AreHits site.level group.cut failed [] rows hits) (sym told_is) are
 
-  -- the rows behind it
+  -- the rows after it
   pub first_after : rows_in_states (with_group_and_hits group hits) site.table.rows ≡ rows_with_record site.level group failed site.told
   first_after = ap (λ (rows : List PairRow). rows_in_states (with_group_and_hits group hits) rows) (sym told_is) ∙ first_rows tells group site old held now due failed hits forms_told ready.fast.fits hits_told
 
@@ -176,7 +176,7 @@ module _ (tells : Type 0) (group : FormedGroup) (site : SiteState) (old mid : Pl
   pub spent_failed : (start next : SiteState) → site ≡ start → next.failed ≡ failed → FailByCounts start.failed next.failed old.faults mid.faults
   spent_failed start next is failed_is = subst (λ (s : SiteState). FailByCounts s.failed next.failed old.faults mid.faults) is (subst (λ (f : List Bool). FailByCounts site.failed f old.faults mid.faults) (sym failed_is) first.fails)
 
-  -- ---- behind a mark
+  -- ---- after a mark
 
   pub mark_ready : (now : SiteState) → now ≡ with_failed failed site → MayRecord tells now mid
   mark_ready now is = subst (λ (s : SiteState). MayRecord tells s mid) (sym is) (record { fast = record { fits = fits_then; stands = some_stands }; level = first.ready.level; idle = first.ready.idle })
@@ -185,10 +185,10 @@ module _ (tells : Type 0) (group : FormedGroup) (site : SiteState) (old mid : Pl
   mark_may now is = subst (λ (s : SiteState). MayLog s group) (sym is) (record { controls = first.may.controls; entries = first.may.entries; cut = first.may.cut })
 
   module _ (start next now : SiteState) (new : PlantState) (result : Result (Unit {0}) StoreError) (is : site ≡ start) (now_is : now ≡ with_failed failed site) where
-    pub behind_logged : placement ≡ MarkedFirst → is_spent placement site ≡ false → LogsBy tells group MarkedFirst now next mid new result → FailByCounts now.failed next.failed mid.faults new.faults → ¬ IsErrOf result Spent → LogsGroup tells group start next old new result
-    behind_logged placement_is enough logs fails unspent =
+    pub logged_after_mark : placement ≡ MarkedFirst → is_spent placement site ≡ false → LogsBy tells group MarkedFirst now next mid new result → FailByCounts now.failed next.failed mid.faults new.faults → ¬ IsErrOf result Spent → LogsGroup tells group start next old new result
+    logged_after_mark placement_is enough logs fails unspent =
         subst (λ (s : SiteState). LogsGroup tells group s next old new result) is
-        (group_behind_mark tells group site next old mid failed first.works first.reads first.fails new result stands_then (subst (λ (s : SiteState). LogsBy tells group MarkedFirst s next mid new result) now_is logs)
+        (group_after_mark tells group site next old mid failed first.works first.reads first.fails new result stands_then (subst (λ (s : SiteState). LogsBy tells group MarkedFirst s next mid new result) now_is logs)
         (subst (λ (s : SiteState). FailByCounts s.failed next.failed mid.faults new.faults) now_is fails) items (subst (λ (w : Placement). FirstForm tells group site old w failed items) placement_is first_form) (subst (λ (w : Placement). is_spent w site ≡ false) placement_is enough) unspent)
 
     leaves_then : Leaves tells (λ e. e) now next mid new → Leaves tells (λ e. e) start next old new
@@ -196,26 +196,26 @@ module _ (tells : Type 0) (group : FormedGroup) (site : SiteState) (old mid : Pl
         let here : Leaves tells (λ e. e) (with_failed failed site) next mid new = subst (λ (s : SiteState). Leaves tells (λ e. e) s next mid new) now_is leaves in
         subst (λ (s : SiteState). Leaves tells (λ e. e) s next old new) is (record { fits = here.fits; stands = λ told e stood. here.stands told e (stands_then told e stood) })
 
-    pub behind_leaves : OnOk result (Leaves tells (λ e. e) now next mid new) → OnOk result (Leaves tells (λ e. e) start next old new)
-    behind_leaves = on_ok result leaves_then
+    pub after_leaves : OnOk result (Leaves tells (λ e. e) now next mid new) → OnOk result (Leaves tells (λ e. e) start next old new)
+    after_leaves = on_ok result leaves_then
 
-    pub behind_others : WorksOnLent tells (IsOfLog now group) mid new → WorksOnLent tells (IsOfLog start group) old new
-    behind_others works =
+    pub after_others : WorksOnLent tells (IsOfLog now group) mid new → WorksOnLent tells (IsOfLog start group) old new
+    after_others works =
         subst (λ (s : SiteState). WorksOnLent tells (IsOfLog s group) old new) is
         (works_lent_trans tells (IsOfLog site group) old mid new first_others (works_lent_more tells (IsOfLog (with_failed failed site) group) (IsOfLog site group) mid new of_site (subst (λ (s : SiteState). WorksOnLent tells (IsOfLog s group) mid new) now_is works)))
       where
         of_site : (d : Device) → IsOfLog (with_failed failed site) group d → IsOfLog site group d
         of_site d among = among
 
-    pub behind_cause : HasStoreCause mid.faults new.faults result → HasStoreCause old.faults new.faults result
-    behind_cause cause = cause_then old.faults mid.faults new.faults result quiet_first cause
+    pub after_cause : HasStoreCause mid.faults new.faults result → HasStoreCause old.faults new.faults result
+    after_cause cause = cause_then old.faults mid.faults new.faults result quiet_first cause
 
-    pub behind_failed : FailByCounts now.failed next.failed mid.faults new.faults → FailByCounts start.failed next.failed old.faults new.faults
-    behind_failed fails =
+    pub after_failed : FailByCounts now.failed next.failed mid.faults new.faults → FailByCounts start.failed next.failed old.faults new.faults
+    after_failed fails =
         subst (λ (s : SiteState). FailByCounts s.failed next.failed old.faults new.faults) is
         (fails_trans site.failed failed next.failed old.faults mid.faults new.faults first.fails (subst (λ (s : SiteState). FailByCounts s.failed next.failed mid.faults new.faults) now_is fails))
 
-  -- The numbers of a mark and of a record behind a switch suffice.
+  -- The numbers of a mark and of a record after a switch suffice.
   pub mark_number : placement ≡ MarkedFirst → is_spent placement site ≡ false → site.mark.number < 2 ^ 64 - 2
   mark_number placement_is enough = (suffice site.at.number site.mark.number fits_then.mark.most (subst (λ (w : Placement). record_needs_more w site.at.number site.mark.number ≡ false) placement_is enough)).mark_is
 
@@ -239,135 +239,135 @@ module _ (tells : Type 0) (group : FormedGroup) (site : SiteState) (old mid : Pl
     plain_group start next new result is unspent fails here logs = subst (λ (s : SiteState). LogsBy tells group placement s next old new result → LogsGroup tells group s next old new result) is
         (λ by. record { placement = placement; first = forms_first tells group placement site next old mid new failed items result first_form enough unspent first.fails fails here; logs = by; early_has = λ marked. absurd (plain marked) }) logs
 
--- ---- behind a mark that was made first
+-- ---- after a mark that was made first
 
 -- What a mark that was made leaves.
-pub record MadeMark (tells : Type 0) (site behind : SiteState) (old marked : PlantState) : Type 0 where
-  pub is : behind ≡ behind_mark site.mark.ended (rows_before MarkedFirst site behind.failed) behind.failed site
-  pub leaves : Leaves tells (λ e. none_excepted) site behind old marked
-  pub makes : MakesMark tells site.mark.ended (rows_before MarkedFirst site behind.failed) site behind old marked (Ok tt)
+pub record MadeMark (tells : Type 0) (site marked_site : SiteState) (old marked : PlantState) : Type 0 where
+  pub is : marked_site ≡ after_mark site.mark.ended (rows_before MarkedFirst site marked_site.failed) marked_site.failed site
+  pub leaves : Leaves tells (λ e. none_excepted) site marked_site old marked
+  pub makes : MakesMark tells site.mark.ended (rows_before MarkedFirst site marked_site.failed) site marked_site old marked (Ok tt)
   pub works : WorksOn tells (IsOfMark site) old marked
   pub quiet : StoresQuiet old.faults marked.faults
-  pub fails : FailByCounts site.failed behind.failed old.faults marked.faults
+  pub fails : FailByCounts site.failed marked_site.failed old.faults marked.faults
 
 -- So it is where no change waits to be logged: the mark's rows tell the hits alone.
-pub made_mark : (tells : Type 0) (site behind : SiteState) (old marked : PlantState) → site.is_ahead ≡ false → behind ≡ behind_next_mark site.mark.ended (rows_at_mark VolumeLevel site behind.failed) behind.failed site → Leaves tells (λ e. none_excepted) site behind old marked
-    → MakesMark tells site.mark.ended (rows_at_mark VolumeLevel site behind.failed) site behind old marked (Ok tt) → WorksOn tells (IsOfMark site) old marked → HasStoreCause old.faults marked.faults (Ok tt) → FailByCounts site.failed behind.failed old.faults marked.faults → MadeMark tells site behind old marked
-made_mark tells site behind old marked level is leaves makes works cause fails = record {
-  is = is ∙ behind_level site.mark.ended (rows_at_mark VolumeLevel site behind.failed) behind.failed site level ∙ ap (λ (rows : List PairRow). behind_mark site.mark.ended rows behind.failed site) (hits_alone site.time behind.failed site.told);
+pub made_mark : (tells : Type 0) (site marked_site : SiteState) (old marked : PlantState) → site.is_ahead ≡ false → marked_site ≡ after_next_mark site.mark.ended (rows_at_mark VolumeLevel site marked_site.failed) marked_site.failed site → Leaves tells (λ e. none_excepted) site marked_site old marked
+    → MakesMark tells site.mark.ended (rows_at_mark VolumeLevel site marked_site.failed) site marked_site old marked (Ok tt) → WorksOn tells (IsOfMark site) old marked → HasStoreCause old.faults marked.faults (Ok tt) → FailByCounts site.failed marked_site.failed old.faults marked.faults → MadeMark tells site marked_site old marked
+made_mark tells site marked_site old marked level is leaves makes works cause fails = record {
+  is = is ∙ after_level site.mark.ended (rows_at_mark VolumeLevel site marked_site.failed) marked_site.failed site level ∙ ap (λ (rows : List PairRow). after_mark site.mark.ended rows marked_site.failed site) (hits_alone site.time marked_site.failed site.told);
   leaves = leaves;
-  makes = makes_alone tells site.mark.ended behind.failed site behind old marked (Ok tt) makes;
+  makes = makes_alone tells site.mark.ended marked_site.failed site marked_site old marked (Ok tt) makes;
   works = works;
   quiet = quiet_ok old.faults marked.faults cause;
   fails = fails;
 }
 
--- the rows behind the record
-abbrev pub rows_after : FormedGroup → (site behind : SiteState) → (failed : List Bool) → List PairRow
-rows_after group site behind failed = rows_behind_mark behind.level (hit_now behind.failed site.told) group failed behind.told
+-- the rows after the record
+abbrev pub rows_after : FormedGroup → (site marked_site : SiteState) → (failed : List Bool) → List PairRow
+rows_after group site marked_site failed = rows_after_mark marked_site.level (hit_now marked_site.failed site.told) group failed marked_site.told
 
--- The record was formed behind the mark.
-pub record IsBehind (tells : Type 0) (group : FormedGroup) (site behind : SiteState) (old marked last : PlantState) (failed : List Bool) (items : List Item) : Type 0 where
+-- The record was formed after the mark.
+pub record IsAfter (tells : Type 0) (group : FormedGroup) (site marked_site : SiteState) (old marked last : PlantState) (failed : List Bool) (items : List Item) : Type 0 where
   pub idle : site.waiting ≡ []
   pub late : site.time ≤ group.cut.0
   pub told_is : site.told ≡ site.table.rows
   pub stands : tells → (e : Exceptions) × SiteStands e site old
   pub number : site.at.number < 2 ^ 64 - 2
-  pub mark : MadeMark tells site behind old marked
-  pub by : FormedBy tells group behind marked failed items (rows_after group site behind failed)
-  pub works : WorksOnLent tells (λ device. (d : ℕ) × (device ≡ Volume d) × HasEntryOn behind.table.rows group.entries d) marked last
+  pub mark : MadeMark tells site marked_site old marked
+  pub by : FormedBy tells group marked_site marked failed items (rows_after group site marked_site failed)
+  pub works : WorksOnLent tells (λ device. (d : ℕ) × (device ≡ Volume d) × HasEntryOn marked_site.table.rows group.entries d) marked last
   pub reads : OnlyReads tells marked last
   pub home : NoneLent last
-  pub fails : FailByCounts behind.failed failed marked.faults last.faults
-  pub by_entries : FailByEntries behind.table.rows group.entries behind.failed failed
-  pub short : length (body_spelling items) ≤ body_room behind.controls
+  pub fails : FailByCounts marked_site.failed failed marked.faults last.faults
+  pub by_entries : FailByEntries marked_site.table.rows group.entries marked_site.failed failed
+  pub short : length (body_spelling items) ≤ body_room marked_site.controls
 
-module _ (tells : Type 0) (group : FormedGroup) (site behind : SiteState) (old marked : PlantState) (ready : MayRecord tells site old) (may : MayLog site group) (told_is : site.told ≡ site.table.rows) (mark : MadeMark tells site behind old marked) where
+module _ (tells : Type 0) (group : FormedGroup) (site marked_site : SiteState) (old marked : PlantState) (ready : MayRecord tells site old) (may : MayLog site group) (told_is : site.told ≡ site.table.rows) (mark : MadeMark tells site marked_site old marked) where
   -- A mark's rows are those of its table.
-  pub behind_told : behind.told ≡ behind.table.rows
-  behind_told = ap (λ (s : SiteState). s.told) mark.is ∙ sym (ap (λ (s : SiteState). s.table.rows) mark.is)
+  pub after_told : marked_site.told ≡ marked_site.table.rows
+  after_told = ap (λ (s : SiteState). s.told) mark.is ∙ sym (ap (λ (s : SiteState). s.table.rows) mark.is)
 
   -- Each entry has its row there, too.
-  pub behind_entries : All (IsOfSomeRow behind.table.rows) group.entries
-  behind_entries =
+  pub after_entries : All (IsOfSomeRow marked_site.table.rows) group.entries
+  after_entries =
       subst (λ (s : SiteState). All (IsOfSomeRow s.table.rows) group.entries) (sym mark.is)
-      (marked_entries (hit_now behind.failed site.told) site.time site.told group.entries (subst (λ (rows : List PairRow). All (IsOfSomeRow rows) group.entries) (sym told_is) may.entries))
+      (marked_entries (hit_now marked_site.failed site.told) site.time site.told group.entries (subst (λ (rows : List PairRow). All (IsOfSomeRow rows) group.entries) (sym told_is) may.entries))
 
-  pub behind_few : group.controls ≤ behind.controls
-  behind_few = omega (arith, may.controls, ap (λ (s : SiteState). s.controls) mark.is)
+  pub after_few : group.controls ≤ marked_site.controls
+  after_few = omega (arith, may.controls, ap (λ (s : SiteState). s.controls) mark.is)
 
-  module _ (last : PlantState) (held now : BodyState) (due was failed : List Bool) (hits : Hits) (forms : FormsRecord tells group behind.table.rows marked held now due failed hits) (are : AreHits behind.level group.cut failed (hit_now behind.failed site.told) behind.table.rows hits) where
-    told_forms : FormsRecord tells group behind.told marked held now due failed hits
-    told_forms = subst (λ (rows : List PairRow). FormsRecord tells group rows marked held now due failed hits) (sym behind_told) forms
+  module _ (last : PlantState) (held now : BodyState) (due was failed : List Bool) (hits : Hits) (forms : FormsRecord tells group marked_site.table.rows marked held now due failed hits) (are : AreHits marked_site.level group.cut failed (hit_now marked_site.failed site.told) marked_site.table.rows hits) where
+    told_forms : FormsRecord tells group marked_site.told marked held now due failed hits
+    told_forms = subst (λ (rows : List PairRow). FormsRecord tells group rows marked held now due failed hits) (sym after_told) forms
 
-    told_hits : AreHits behind.level group.cut failed (hit_now behind.failed site.told) behind.told hits
-    told_hits = subst (λ (rows : List PairRow). AreHits behind.level group.cut failed (hit_now behind.failed site.told) rows hits) (sym behind_told) are
+    told_hits : AreHits marked_site.level group.cut failed (hit_now marked_site.failed site.told) marked_site.told hits
+    told_hits = subst (λ (rows : List PairRow). AreHits marked_site.level group.cut failed (hit_now marked_site.failed site.told) rows hits) (sym after_told) are
 
-    -- the rows behind it
-    pub behind_after : rows_in_states (with_group_and_hits group hits) behind.table.rows ≡ rows_after group site behind failed
-    behind_after =
-        ap (λ (rows : List PairRow). rows_in_states (with_group_and_hits group hits) rows) (sym behind_told)
-        ∙ marked_rows tells group behind marked held now due failed hits told_forms mark.leaves.fits (hit_now behind.failed site.told) told_hits
+    -- the rows after it
+    pub rows_come_after : rows_in_states (with_group_and_hits group hits) marked_site.table.rows ≡ rows_after group site marked_site failed
+    rows_come_after =
+        ap (λ (rows : List PairRow). rows_in_states (with_group_and_hits group hits) rows) (sym after_told)
+        ∙ marked_rows tells group marked_site marked held now due failed hits told_forms mark.leaves.fits (hit_now marked_site.failed site.told) told_hits
 
-    pub is_behind : site.at.number < 2 ^ 64 - 2 → was ≡ behind.failed → FailByCounts was failed marked.faults last.faults → FailByEntries behind.table.rows group.entries was failed → OnlyReads tells marked last → NoneLent last
-        → WorksOnLent tells (λ device. (d : ℕ) × (device ≡ Volume d) × HasEntryOn behind.table.rows group.entries d) marked last → length group.entries ≤ WRITES_OF_RUN * group.controls → IsBehind tells group site behind old marked last failed now.items
-    is_behind number was_is fails enters reads home works few = record {
+    pub is_after : site.at.number < 2 ^ 64 - 2 → was ≡ marked_site.failed → FailByCounts was failed marked.faults last.faults → FailByEntries marked_site.table.rows group.entries was failed → OnlyReads tells marked last → NoneLent last
+        → WorksOnLent tells (λ device. (d : ℕ) × (device ≡ Volume d) × HasEntryOn marked_site.table.rows group.entries d) marked last → length group.entries ≤ WRITES_OF_RUN * group.controls → IsAfter tells group site marked_site old marked last failed now.items
+    is_after number was_is fails enters reads home works few = record {
       idle = ready.idle;
       late = may.cut;
       told_is = told_is;
       stands = ready.fast.stands;
       number = number;
       mark = mark;
-      by = marked_formed tells group behind marked held now due failed hits told_forms mark.leaves.fits (hit_now behind.failed site.told) told_hits;
+      by = marked_formed tells group marked_site marked held now due failed hits told_forms mark.leaves.fits (hit_now marked_site.failed site.told) told_hits;
       works = works;
       reads = reads;
       home = home;
       fails = subst (λ (f : List Bool). FailByCounts f failed marked.faults last.faults) was_is fails;
-      by_entries = subst (λ (f : List Bool). FailByEntries behind.table.rows group.entries f failed) was_is enters;
-      short = formed_short behind.controls group.controls group.entries now.items behind_few few forms.short;
+      by_entries = subst (λ (f : List Bool). FailByEntries marked_site.table.rows group.entries f failed) was_is enters;
+      short = formed_short marked_site.controls group.controls group.entries now.items after_few few forms.short;
     }
 
-module _ (tells : Type 0) (group : FormedGroup) (site behind : SiteState) (old marked last : PlantState) (failed : List Bool) (items : List Item) (b : IsBehind tells group site behind old marked last failed items) where
-  behind_idle : behind.waiting ≡ []
-  behind_idle = ap (λ (s : SiteState). s.waiting) b.mark.is
+module _ (tells : Type 0) (group : FormedGroup) (site marked_site : SiteState) (old marked last : PlantState) (failed : List Bool) (items : List Item) (b : IsAfter tells group site marked_site old marked last failed items) where
+  after_idle : marked_site.waiting ≡ []
+  after_idle = ap (λ (s : SiteState). s.waiting) b.mark.is
 
-  behind_late : behind.time ≤ group.cut.0
-  behind_late = omega (arith, b.late, ap (λ (s : SiteState). s.time) b.mark.is)
+  after_late : marked_site.time ≤ group.cut.0
+  after_late = omega (arith, b.late, ap (λ (s : SiteState). s.time) b.mark.is)
 
-  fits_last : FitsPlant (with_failed failed behind) last
-  fits_last = fits_formed tells group behind marked last failed items (rows_after group site behind failed) b.mark.leaves.fits behind_idle behind_late b.by.are b.by.fit b.by.have b.by.told_by b.works b.reads b.home b.fails b.short
+  fits_last : FitsPlant (with_failed failed marked_site) last
+  fits_last = fits_formed tells group marked_site marked last failed items (rows_after group site marked_site failed) b.mark.leaves.fits after_idle after_late b.by.are b.by.fit b.by.have b.by.told_by b.works b.reads b.home b.fails b.short
 
-  stands_last : tells → (e : Exceptions) → SiteStands e behind marked → SiteStands e (with_failed failed behind) last
-  stands_last = formed_stands tells group behind marked last failed items (rows_after group site behind failed) b.mark.leaves.fits behind_idle behind_late b.by.are b.by.fit b.by.have b.by.told_by b.works b.reads b.home b.fails b.short
+  stands_last : tells → (e : Exceptions) → SiteStands e marked_site marked → SiteStands e (with_failed failed marked_site) last
+  stands_last = formed_stands tells group marked_site marked last failed items (rows_after group site marked_site failed) b.mark.leaves.fits after_idle after_late b.by.are b.by.fit b.by.have b.by.told_by b.works b.reads b.home b.fails b.short
 
-  pub last_stands : tells → (e : Exceptions) × SiteStands e (with_failed failed behind) last
+  pub last_stands : tells → (e : Exceptions) × SiteStands e (with_failed failed marked_site) last
   last_stands told = let at = b.stands told in (none_excepted, stands_last told none_excepted (b.mark.leaves.stands told at.0 at.1))
 
-  pub last_set : behind.at.set < last.journals
+  pub last_set : marked_site.at.set < last.journals
   last_set = fits_last.set
 
-  mark_there : behind.mark.at ≡ behind.at
+  mark_there : marked_site.mark.at ≡ marked_site.at
   mark_there = ap (λ (s : SiteState). s.mark.at) b.mark.is ∙ sym (ap (λ (s : SiteState). s.at) b.mark.is)
 
-  low_number : behind.at.number < 2 ^ 64 - 2
+  low_number : marked_site.at.number < 2 ^ 64 - 2
   low_number = omega (arith, b.number, ap (λ (s : SiteState). s.at.number) b.mark.is)
 
-  place : HasPlace last MarkedFirst behind.mark.at behind.at items
+  place : HasPlace last MarkedFirst marked_site.mark.at marked_site.at items
   place = record {
-    room = subst (λ (f : Spot). HasRoomBehindSwitch last f behind.at items) (sym mark_there) (room_behind_mark behind.controls last behind.at items fits_last.lengths fits_last.set (omega (arith, low_number)) b.short);
+    room = subst (λ (f : Spot). HasRoomAfterSwitch last f marked_site.at items) (sym mark_there) (room_after_mark marked_site.controls last marked_site.at items fits_last.lengths fits_last.set (omega (arith, low_number)) b.short);
     number = omega (arith, low_number);
   }
 
-  pub last_ready : IsReady tells group MarkedFirst (with_failed failed behind) (rows_after group site behind failed) last items
+  pub last_ready : IsReady tells group MarkedFirst (with_failed failed marked_site) (rows_after group site marked_site failed) last items
   last_ready =
-      formed_ready tells group behind marked last failed items (rows_after group site behind failed) b.mark.leaves.fits behind_idle behind_late b.by.are b.by.fit b.by.have b.by.told_by b.works b.reads b.home b.fails b.short
+      formed_ready tells group marked_site marked last failed items (rows_after group site marked_site failed) b.mark.leaves.fits after_idle after_late b.by.are b.by.fit b.by.have b.by.told_by b.works b.reads b.home b.fails b.short
       MarkedFirst place
 
-  after_logged : rows_after group site behind failed ≡ rows_logged MarkedFirst site group behind.failed failed
+  after_logged : rows_after group site marked_site failed ≡ rows_logged MarkedFirst site group marked_site.failed failed
   after_logged =
-      ap (λ (rows : List PairRow). rows_behind_mark behind.level (hit_now behind.failed site.told) group failed rows) (ap (λ (s : SiteState). s.told) b.mark.is)
-      ∙ ap (λ (level : Level). rows_behind_mark level (hit_now behind.failed site.told) group failed (rows_before MarkedFirst site behind.failed)) (ap (λ (s : SiteState). s.level) b.mark.is)
+      ap (λ (rows : List PairRow). rows_after_mark marked_site.level (hit_now marked_site.failed site.told) group failed rows) (ap (λ (s : SiteState). s.told) b.mark.is)
+      ∙ ap (λ (level : Level). rows_after_mark level (hit_now marked_site.failed site.told) group failed (rows_before MarkedFirst site marked_site.failed)) (ap (λ (s : SiteState). s.level) b.mark.is)
 
-  pub last_put : (new : PlantState) → PutStage tells group MarkedFirst site (with_failed failed behind) (rows_after group site behind failed) old last new items
+  pub last_put : (new : PlantState) → PutStage tells group MarkedFirst site (with_failed failed marked_site) (rows_after group site marked_site failed) old last new items
   last_put new =
-      marked_stage tells group site behind.failed old marked behind (Ok tt) b.idle b.mark.makes b.mark.works b.mark.fails last new refl b.told_is failed items (rows_after group site behind failed) b.mark.is b.mark.leaves b.mark.quiet b.works b.reads b.fails b.by_entries after_logged last_ready stands_last
+      marked_stage tells group site marked_site.failed old marked marked_site (Ok tt) b.idle b.mark.makes b.mark.works b.mark.fails last new refl b.told_is failed items (rows_after group site marked_site failed) b.mark.is b.mark.leaves b.mark.quiet b.works b.reads b.fails b.by_entries after_logged last_ready stands_last

@@ -69,7 +69,7 @@ pub none_by_journals : (tells : Type 0) (old new : PlantState) → WorksOn tells
 none_by_journals tells old new works d = works.others_faults (Volume d) (λ journal. journal)
 
 pub fails_between : (a b c : List Bool) (first mid last : Device → ℕ) → FailByCounts a b first mid → FailByCounts b c mid last → FailedBetween a b c
-fails_between a b c first mid last one two = record { before = λ d was. stays_failed a b first mid one d was; behind = λ d was. stays_failed b c mid last two d was }
+fails_between a b c first mid last one two = record { before = λ d was. stays_failed a b first mid one d was; after = λ d was. stays_failed b c mid last two d was }
 
 -- ---- causes
 

@@ -1,4 +1,4 @@
--- A group's record formed, alone or behind a mark that is made first, over plain states.
+-- A group's record formed, alone or after a mark that is made first, over plain states.
 use Rattle.std.proofs.Common.{◌≡◌, ◌≢◌, inl, inr, ℕ, ◌+◌, ◌*◌, ◌-◌, ◌^◌, ◌≤◌, ◌<◌, ◌==◌, Bool, true, false, cond, ◌||◌, List, [], ◌∷◌, length, get_or, None, Some, Ok, Err, Result, refl, sym, ap, subst, ◌∙◌, arith}
 use Rattle.std.specs.Prelude.{find, IsErrOf, IsSomeAnd, OnOk, if◌then◌else◌}
 use Rattle.std.specs.List.{All, list_all, list_any}
@@ -39,7 +39,7 @@ use Rattle.site_store.specs.Jobs.{body_room}
 use Rattle.site_store.specs.Logging.{AreItemsOf, FailByEntries, FailedBetween, HasEntryOn, FormsFirst, IsOfLog, IsOfSomeRow, LogsBy, LogsGroup, is_entry_of_device, failed_before, log_deeds, rows_before, rows_logged}
 use Rattle.site_store.specs.Marking.{MakesMark}
 use Rattle.site_store.specs.Recording.{HasRoomBy}
-use Rattle.site_store.specs.Records.{IsOfMark, behind_mark, behind_record, behind_placement, one_more}
+use Rattle.site_store.specs.Records.{IsOfMark, after_mark, after_record, after_placement, one_more}
 use Rattle.site_store.specs.Sites.{SiteState}
 use Rattle.site_store.specs.Standing.{FitsPlant, HasLengths, Leaves, SiteStands, none_excepted, row_has_volume}
 use Rattle.site_store.specs.Placements.{is_spent, most, record_has_room, record_needs_more, placement_from, placement_of}
@@ -49,7 +49,7 @@ use Rattle.site_store.proofs.LogReads.{fits_failed, fits_still, items_still, row
 use Rattle.site_store.proofs.LogRows.{kept_good}
 use Rattle.site_store.proofs.LogStage.{PutStage, SeenFrom, site_back}
 use Rattle.site_store.proofs.RecordPuts.{on_ok}
-use Rattle.site_store.proofs.MarkFirst.{begins_behind_mark, begins_behind_none, does_behind_mark, does_behind_none, first_begins, fits_front, mark_begins, mark_does, next_there, reads_do}
+use Rattle.site_store.proofs.MarkFirst.{begins_after_mark, begins_after_none, does_after_mark, does_after_none, first_begins, fits_front, mark_begins, mark_does, next_there, reads_do}
 
 -- ---- the record's room
 
@@ -144,7 +144,7 @@ plain_failed Switched site early plain = refl
 plain_failed MarkedFirst site early plain = absurd (plain refl)
 
 plain_next : (placement : Placement) (sets cut : ℕ) (site : SiteState) (items : List Item) (after : List PairRow) (failed : List Bool) → placement ≢ MarkedFirst
-    → logged_site sets placement cut items after (one_more site.since) (with_failed failed site) ≡ record (behind_record sets placement cut items after failed site) { since = one_more (behind_placement placement site).since; waiting = items }
+    → logged_site sets placement cut items after (one_more site.since) (with_failed failed site) ≡ record (after_record sets placement cut items after failed site) { since = one_more (after_placement placement site).since; waiting = items }
 plain_next Here sets cut site items after failed plain = refl
 plain_next Switched sets cut site items after failed plain = refl
 plain_next MarkedFirst sets cut site items after failed plain = absurd (plain refl)
@@ -160,17 +160,17 @@ module _ (tells : Type 0) (group : FormedGroup) (placement : Placement) (site : 
     fewer = λ d x is. is;
     begins = λ begins.
         subst (λ (deeds : List Deed). BeginsDeeds e site.told deeds old new) (plain_deeds placement site group failed failed plain)
-        (begins_behind_none old mid new e site.told (Logged group.cut.0 group.entries (rows_with_record site.level group failed site.told) ∷ []) (reads_do tells _ old mid works reads told e site.told) begins);
+        (begins_after_none old mid new e site.told (Logged group.cut.0 group.entries (rows_with_record site.level group failed site.told) ∷ []) (reads_do tells _ old mid works reads told e site.told) begins);
     does = λ does.
         subst (λ (deeds : List Deed). DoesDeeds e site.told deeds old new) (plain_deeds placement site group failed failed plain)
-        (does_behind_none old mid new e site.told (Logged group.cut.0 group.entries (rows_with_record site.level group failed site.told) ∷ []) (reads_do tells _ old mid works reads told e site.told) does);
+        (does_after_none old mid new e site.told (Logged group.cut.0 group.entries (rows_with_record site.level group failed site.told) ∷ []) (reads_do tells _ old mid works reads told e site.told) does);
   }
 
   pub plain_stage : PutStage tells group placement site (with_failed failed site) (rows_with_record site.level group failed site.told) old mid new items
   plain_stage = record {
     ready = ready;
     early = failed;
-    early_failed = record { before = stays_failed site.failed failed old.faults mid.faults fails; behind = λ d is. is };
+    early_failed = record { before = stays_failed site.failed failed old.faults mid.faults fails; after = λ d is. is };
     by_entries = subst (λ (f : List Bool). FailByEntries site.table.rows group.entries f failed) (plain_failed placement site failed plain) enters;
     before_is = plain_before placement site failed plain;
     after_is = plain_after placement site group failed failed plain;
@@ -182,7 +182,7 @@ module _ (tells : Type 0) (group : FormedGroup) (placement : Placement) (site : 
     works = works_lent_more tells _ (IsOfLog site group) old mid (λ d is. inr is) works;
   }
 
--- ---- entries behind a mark
+-- ---- entries after a mark
 
 -- A mark leaves the device of an entry's row.
 marked_row_device : (head : EntryHead) (hit : List ℕ) (time : ℕ) (rows : List PairRow) → row_device (find (is_row_of head) (rows_marked time hit rows)) ≡ row_device (find (is_row_of head) rows)
@@ -223,7 +223,7 @@ marked_row_within head hit time (r ∷ rows) within = by_among (is_among r.devic
 pub marked_entries : (hit : List ℕ) (time : ℕ) (rows : List PairRow) (entries : List WaitingEntry) → All (IsOfSomeRow rows) entries → All (IsOfSomeRow (rows_marked time hit rows)) entries
 marked_entries hit time rows entries all k e lt = marked_row_within (get_or entries k e).head hit time rows (all k e lt)
 
--- ---- behind a mark
+-- ---- after a mark
 
 module _ (tells : Type 0) (group : FormedGroup) (site : SiteState) (early : List Bool) where
   -- the rows of the mark that is made first, once these jobs have failed
@@ -234,7 +234,7 @@ module _ (tells : Type 0) (group : FormedGroup) (site : SiteState) (early : List
   mark_deed = Marked site.at site.mark.ended mark_rows
 
   -- A mark was made first, or failed.
-  module _ (old marked : PlantState) (behind : SiteState) (result : Result (Unit {0}) StoreError) (idle : site.waiting ≡ []) (makes : MakesMark tells site.mark.ended mark_rows site behind old marked result)
+  module _ (old marked : PlantState) (marked_site : SiteState) (result : Result (Unit {0}) StoreError) (idle : site.waiting ≡ []) (makes : MakesMark tells site.mark.ended mark_rows site marked_site old marked result)
       (works_mark : WorksOn tells (IsOfMark site) old marked) (fails_mark : FailByCounts site.failed early old.faults marked.faults) where
     pub marked_works : WorksOnLent tells (IsOfLog site group) old marked
     marked_works = works_lent_more tells (IsOfMark site) (IsOfLog site group) old marked (λ d is. inl (inr is)) (lent_of_works tells (IsOfMark site) old marked works_mark)
@@ -245,54 +245,54 @@ module _ (tells : Type 0) (group : FormedGroup) (site : SiteState) (early : List
       early = early;
       early_failed = record {
         before = stays_failed site.failed early old.faults marked.faults fails_mark;
-        behind = λ d down. subst (λ (f : List Bool). is_down f d ≡ true) (sym is) down;
+        after = λ d down. subst (λ (f : List Bool). is_down f d ≡ true) (sym is) down;
       };
       by_entries = λ d down. inl (subst (λ (f : List Bool). is_down f d ≡ true) is down);
       items = tt;
       next_is = tt;
       does = record {
-        begins = λ told e stood. first_begins old marked e site.told mark_deed (Logged group.cut.0 group.entries (rows_logged MarkedFirst site group early next.failed)) (mark_begins tells site.mark.ended mark_rows site behind old marked result makes idle told e stood);
+        begins = λ told e stood. first_begins old marked e site.told mark_deed (Logged group.cut.0 group.entries (rows_logged MarkedFirst site group early next.failed)) (mark_begins tells site.mark.ended mark_rows site marked_site old marked result makes idle told e stood);
         does = λ told. tt;
       };
     }
 
-    -- The mark was made, and the record formed behind it.
+    -- The mark was made, and the record formed after it.
     module _ (last new : PlantState) (made : result ≡ Ok tt) (told_is : site.told ≡ site.table.rows) (failed_last : List Bool) (items_last : List Item) (after : List PairRow)
-        (is : behind ≡ behind_mark site.mark.ended mark_rows early site) (leaves : Leaves tells (λ e. none_excepted) site behind old marked) (quiet_mark : StoresQuiet old.faults marked.faults)
-        (works_last : WorksOnLent tells (λ device. (d : ℕ) × (device ≡ Volume d) × HasEntryOn behind.table.rows group.entries d) marked last) (reads_last : OnlyReads tells marked last) (fails_last : FailByCounts early failed_last marked.faults last.faults)
-        (enters_last : FailByEntries behind.table.rows group.entries early failed_last)
-        (after_is : after ≡ rows_logged MarkedFirst site group early failed_last) (ready : IsReady tells group MarkedFirst (with_failed failed_last behind) after last items_last)
-        (stands_last : tells → (e : Exceptions) → SiteStands e behind marked → SiteStands e (with_failed failed_last behind) last) where
+        (is : marked_site ≡ after_mark site.mark.ended mark_rows early site) (leaves : Leaves tells (λ e. none_excepted) site marked_site old marked) (quiet_mark : StoresQuiet old.faults marked.faults)
+        (works_last : WorksOnLent tells (λ device. (d : ℕ) × (device ≡ Volume d) × HasEntryOn marked_site.table.rows group.entries d) marked last) (reads_last : OnlyReads tells marked last) (fails_last : FailByCounts early failed_last marked.faults last.faults)
+        (enters_last : FailByEntries marked_site.table.rows group.entries early failed_last)
+        (after_is : after ≡ rows_logged MarkedFirst site group early failed_last) (ready : IsReady tells group MarkedFirst (with_failed failed_last marked_site) after last items_last)
+        (stands_last : tells → (e : Exceptions) → SiteStands e marked_site marked → SiteStands e (with_failed failed_last marked_site) last) where
       abbrev deed : Deed
       deed = Logged group.cut.0 group.entries after
 
-      told_marked : behind.told ≡ mark_rows
+      told_marked : marked_site.told ≡ mark_rows
       told_marked = ap (λ (s : SiteState). s.told) is
 
       does_mark : (told : tells) (e : Exceptions) → SiteStands e site old → DoesDeeds e site.told (mark_deed ∷ []) old last
       does_mark told e stood =
-          let did : DoesDeeds e site.told (mark_deed ∷ []) old marked = subst (λ (r : Result (Unit {0}) StoreError). OnOk r (DoesDeeds e site.told (mark_deed ∷ []) old marked)) made (mark_does tells site.mark.ended mark_rows site behind old marked result makes idle told e stood) in
+          let did : DoesDeeds e site.told (mark_deed ∷ []) old marked = subst (λ (r : Result (Unit {0}) StoreError). OnOk r (DoesDeeds e site.told (mark_deed ∷ []) old marked)) made (mark_does tells site.mark.ended mark_rows site marked_site old marked result makes idle told e stood) in
           go_on old marked last e site.told (mark_deed ∷ []) [] did (reads_do tells _ marked last works_last reads_last told (excepted_by_deed site.told mark_deed e) mark_rows)
 
-      marked_seen : tells → (e : Exceptions) → SiteStands e site old → SeenFrom group MarkedFirst early site (with_failed failed_last behind) after old last new e
+      marked_seen : tells → (e : Exceptions) → SiteStands e site old → SeenFrom group MarkedFirst early site (with_failed failed_last marked_site) after old last new e
       marked_seen told e stood = record {
         excepted = none_excepted;
         stands = stands_last told none_excepted (leaves.stands told e stood);
         fewer = λ d x kept. refl;
         begins = λ begins.
             let here : BeginsDeeds none_excepted mark_rows (deed ∷ []) last new = subst (λ (rows : List PairRow). BeginsDeeds none_excepted rows (deed ∷ []) last new) told_marked begins in
-            subst (λ (rows : List PairRow). BeginsDeeds e site.told (mark_deed ∷ Logged group.cut.0 group.entries rows ∷ []) old new) after_is (begins_behind_mark old last new e site.told mark_deed deed (does_mark told e stood) here);
+            subst (λ (rows : List PairRow). BeginsDeeds e site.told (mark_deed ∷ Logged group.cut.0 group.entries rows ∷ []) old new) after_is (begins_after_mark old last new e site.told mark_deed deed (does_mark told e stood) here);
         does = λ does.
             let here : DoesDeeds none_excepted mark_rows (deed ∷ []) last new = subst (λ (rows : List PairRow). DoesDeeds none_excepted rows (deed ∷ []) last new) told_marked does in
-            subst (λ (rows : List PairRow). DoesDeeds e site.told (mark_deed ∷ Logged group.cut.0 group.entries rows ∷ []) old new) after_is (does_behind_mark old last new e site.told mark_deed deed (does_mark told e stood) here);
+            subst (λ (rows : List PairRow). DoesDeeds e site.told (mark_deed ∷ Logged group.cut.0 group.entries rows ∷ []) old new) after_is (does_after_mark old last new e site.told mark_deed deed (does_mark told e stood) here);
       }
 
-      has_entry : (d : ℕ) → HasEntryOn behind.table.rows group.entries d → HasEntryOn site.table.rows group.entries d
+      has_entry : (d : ℕ) → HasEntryOn marked_site.table.rows group.entries d → HasEntryOn site.table.rows group.entries d
       has_entry d has =
           ap (λ (rows : List PairRow). list_any (is_entry_of_device rows d) group.entries) (sym told_is) ∙ sym (has_on_still (hit_now early site.told) site.time site.told group.entries d)
           ∙ sym (ap (λ (s : SiteState). list_any (is_entry_of_device s.table.rows d) group.entries) is) ∙ has
 
-      pub marked_stage : PutStage tells group MarkedFirst site (with_failed failed_last behind) after old last new items_last
+      pub marked_stage : PutStage tells group MarkedFirst site (with_failed failed_last marked_site) after old last new items_last
       marked_stage = record {
         ready = ready;
         early = early;
@@ -307,7 +307,7 @@ module _ (tells : Type 0) (group : FormedGroup) (site : SiteState) (early : List
         next_is = λ sets. ap (λ (s : SiteState). logged_site sets MarkedFirst group.cut.0 items_last after (one_more s.since) (with_failed failed_last s)) is;
         seen = marked_seen;
         fails = fails_trans site.failed early failed_last old.faults marked.faults last.faults fails_mark fails_last;
-        quiet = quiet_trans old.faults marked.faults last.faults quiet_mark (quiet_reads tells (λ d. HasEntryOn behind.table.rows group.entries d) marked last works_last);
+        quiet = quiet_trans old.faults marked.faults last.faults quiet_mark (quiet_reads tells (λ d. HasEntryOn marked_site.table.rows group.entries d) marked last works_last);
         works = works_lent_trans tells (IsOfLog site group) old marked last marked_works (works_lent_more tells _ (IsOfLog site group) marked last (λ d is. inr (is.0, is.1, has_entry is.0 is.2)) works_last);
       }
 
@@ -354,14 +354,14 @@ module _ (tells : Type 0) (group : FormedGroup) (site next : SiteState) (old mid
   }
     where
       between : FailedBetween site.failed failed next.failed
-      between = record { before = stays_failed site.failed failed old.faults mid.faults fails; behind = λ d down. subst (λ (f : List Bool). is_down f d ≡ true) (sym is) down }
+      between = record { before = stays_failed site.failed failed old.faults mid.faults fails; after = λ d down. subst (λ (f : List Bool). is_down f d ≡ true) (sym is) down }
 
       by_placement : (w : Placement) → FailByEntries site.table.rows group.entries site.failed failed → FailByEntries site.table.rows group.entries (failed_before w site failed) failed
       by_placement Here enters = enters
       by_placement Switched enters = enters
       by_placement MarkedFirst enters = λ d down. inl down
 
-  -- What is logged behind a mark from there on is logged from the start.
+  -- What is logged after a mark from there on is logged from the start.
   module _ (new : PlantState) (result : Result (Unit {0}) StoreError) (stands : tells → (e : Exceptions) → SiteStands e site old → SiteStands e (with_failed failed site) mid) (logs : LogsBy tells group MarkedFirst (with_failed failed site) next mid new result)
       (later : FailByCounts failed next.failed mid.faults new.faults) where
     before_mark : (d : ℕ) → is_down site.failed d ≡ true → is_down logs.early d ≡ true
@@ -371,28 +371,28 @@ module _ (tells : Type 0) (group : FormedGroup) (site next : SiteState) (old mid
     items_before r = on_ok r (items_still tells group next.failed (rows_before MarkedFirst site logs.early) next.told mid old next.waiting (site_back old mid works.site) (λ told d. sym (reads.bytes told (Volume d))))
 
     next_before : (r : Result (Unit {0}) StoreError)
-        → OnOk r (next ≡ record (behind_record mid.journals MarkedFirst group.cut.0 next.waiting (rows_logged MarkedFirst site group logs.early next.failed) next.failed site) { since = one_more 0; waiting = next.waiting })
-        → OnOk r (next ≡ record (behind_record old.journals MarkedFirst group.cut.0 next.waiting (rows_logged MarkedFirst site group logs.early next.failed) next.failed site) { since = one_more 0; waiting = next.waiting })
-    next_before r = on_ok r (λ is. is ∙ ap (λ (sets : ℕ). record (behind_record sets MarkedFirst group.cut.0 next.waiting (rows_logged MarkedFirst site group logs.early next.failed) next.failed site) { since = one_more 0; waiting = next.waiting }) works.site.journals)
+        → OnOk r (next ≡ record (after_record mid.journals MarkedFirst group.cut.0 next.waiting (rows_logged MarkedFirst site group logs.early next.failed) next.failed site) { since = one_more 0; waiting = next.waiting })
+        → OnOk r (next ≡ record (after_record old.journals MarkedFirst group.cut.0 next.waiting (rows_logged MarkedFirst site group logs.early next.failed) next.failed site) { since = one_more 0; waiting = next.waiting })
+    next_before r = on_ok r (λ is. is ∙ ap (λ (sets : ℕ). record (after_record sets MarkedFirst group.cut.0 next.waiting (rows_logged MarkedFirst site group logs.early next.failed) next.failed site) { since = one_more 0; waiting = next.waiting }) works.site.journals)
 
     pub logs_before : LogsBy tells group MarkedFirst site next old new result
     logs_before = record {
       early = logs.early;
-      early_failed = record { before = before_mark; behind = logs.early_failed.behind };
+      early_failed = record { before = before_mark; after = logs.early_failed.after };
       by_entries = logs.by_entries;
       items = items_before result logs.items;
       next_is = next_before result logs.next_is;
       does = record {
-        begins = λ told e stood. begins_behind_none old mid new e site.told (log_deeds MarkedFirst site group logs.early next.failed) (reads_do tells _ old mid works reads told e site.told) (logs.does.begins told e (stands told e stood));
+        begins = λ told e stood. begins_after_none old mid new e site.told (log_deeds MarkedFirst site group logs.early next.failed) (reads_do tells _ old mid works reads told e site.told) (logs.does.begins told e (stands told e stood));
         does = λ told. on_ok result (λ (does : (x : Exceptions) → SiteStands x (with_failed failed site) mid → DoesDeeds x site.told (log_deeds MarkedFirst site group logs.early next.failed) mid new) e stood.
-            does_behind_none old mid new e site.told (log_deeds MarkedFirst site group logs.early next.failed) (reads_do tells _ old mid works reads told e site.told) (does e (stands told e stood))) (logs.does.does told);
+            does_after_none old mid new e site.told (log_deeds MarkedFirst site group logs.early next.failed) (reads_do tells _ old mid works reads told e site.told) (does e (stands told e stood))) (logs.does.does told);
       };
     }
 
     -- So its numbers and the record as it was formed first say.
-    pub group_behind_mark : (items : List Item) → FirstForm tells group site old MarkedFirst failed items → is_spent MarkedFirst site ≡ false → ¬ IsErrOf result Spent → LogsGroup tells group site next old new result
+    pub group_after_mark : (items : List Item) → FirstForm tells group site old MarkedFirst failed items → is_spent MarkedFirst site ≡ false → ¬ IsErrOf result Spent → LogsGroup tells group site next old new result
     unfolding forms_first logs_before
-    group_behind_mark items first enough unspent = record {
+    group_after_mark items first enough unspent = record {
       placement = MarkedFirst;
       first = forms_first tells group MarkedFirst site next old mid new failed items result first enough unspent fails later (λ other. absurd (other refl));
       logs = logs_before;

@@ -17,7 +17,7 @@ use Rattle.site_store.specs.declared.placement.Placement.{Placement}
 use Rattle.site_store.specs.Causes.{FailByCounts, HasStoreCause}
 use Rattle.site_store.specs.Logging.{AreItemsOf, FailByEntries, FailedBetween, IsOfLog, LogsBy, failed_before, log_deeds, rows_before, rows_logged}
 use Rattle.site_store.specs.Recording.{ShowsRecord, group_with}
-use Rattle.site_store.specs.Records.{IsJournal, behind_record, behind_placement, one_more}
+use Rattle.site_store.specs.Records.{IsJournal, after_record, after_placement, one_more}
 use Rattle.site_store.specs.Sites.{SiteState, has_failed}
 use Rattle.site_store.specs.Standing.{Leaves, SiteStands}
 use Rattle.site_store.proofs.LogFails.{StoresQuiet, cause_then, fails_still, none_by_journals}
@@ -60,7 +60,7 @@ pub record SeenFrom (group : FormedGroup) (placement : Placement) (early : List 
   pub begins : BeginsDeeds excepted last.told (Logged group.cut.0 group.entries after ∷ []) plant new → BeginsDeeds e site.told (log_deeds placement site group early last.failed) old new
   pub does : DoesDeeds excepted last.told (Logged group.cut.0 group.entries after ∷ []) plant new → DoesDeeds e site.told (log_deeds placement site group early last.failed) old new
 
--- Before the record is put: `site` is the site at the start, and `last` the one then, behind a mark where one was made first.
+-- Before the record is put: `site` is the site at the start, and `last` the one then, after a mark where one was made first.
 pub record PutStage (tells : Type 0) (group : FormedGroup) (placement : Placement) (site last : SiteState) (after : List PairRow) (old plant new : PlantState) (items : List Item) : Type 0 where
   pub ready : IsReady tells group placement last after plant items
   pub early : List Bool
@@ -69,7 +69,7 @@ pub record PutStage (tells : Type 0) (group : FormedGroup) (placement : Placemen
   pub before_is : last.told ≡ rows_before placement site early
   pub after_is : after ≡ rows_logged placement site group early last.failed
   pub bytes : tells → (d : ℕ) → plant.bytes (Volume d) ≡ old.bytes (Volume d)
-  pub next_is : (sets : ℕ) → logged_site sets placement group.cut.0 items after (one_more last.since) last ≡ record (behind_record sets placement group.cut.0 items after last.failed site) { since = one_more (behind_placement placement site).since; waiting = items }
+  pub next_is : (sets : ℕ) → logged_site sets placement group.cut.0 items after (one_more last.since) last ≡ record (after_record sets placement group.cut.0 items after last.failed site) { since = one_more (after_placement placement site).since; waiting = items }
   pub seen : tells → (e : Exceptions) → SiteStands e site old → SeenFrom group placement early site last after old plant new e
   pub fails : FailByCounts site.failed last.failed old.faults plant.faults
   pub quiet : StoresQuiet old.faults plant.faults
@@ -123,14 +123,14 @@ module _ (tells : Type 0) (group : FormedGroup) (placement : Placement) (site la
       items = items_old;
       next_is =
           ap (λ (sets : ℕ). logged_site sets placement group.cut.0 items after (one_more last.since) last) stage.works.site.journals ∙ stage.next_is old.journals
-          ∙ ap (λ (rows : List PairRow). record (behind_record old.journals placement group.cut.0 items rows last.failed site) { since = one_more (behind_placement placement site).since; waiting = items }) stage.after_is;
+          ∙ ap (λ (rows : List PairRow). record (after_record old.journals placement group.cut.0 items rows last.failed site) { since = one_more (after_placement placement site).since; waiting = items }) stage.after_is;
       does = record {
         begins = begins_by (Ok tt) shows;
         does = λ told e stands. let s = stage.seen told e stands in s.does (put_does tells group placement last after plant items stage.ready told s.excepted s.stands (read told) new works shows);
       };
     }
 
-    -- The site goes on behind it.
+    -- The site goes on after it.
     pub put_leaves : Leaves tells (λ e. e) site next old new
     put_leaves = record {
       fits = fits_logged tells group placement last after plant items stage.ready (one_more last.since) new works.site (none_lent_lent tells IsJournal plant new (lent_of_works tells IsJournal plant new works) stage.ready.fits.home);

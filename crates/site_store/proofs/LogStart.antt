@@ -13,11 +13,11 @@ use Rattle.pair_table.specs.Tables.{are_below}
 use Rattle.pending_queue.specs.Entries.{WaitingEntry}
 use Rattle.pending_queue.specs.Groups.{FormedGroup}
 use Rattle.record_rows.specs.ChangedRows.{rows_in_states}
-use Rattle.record_rows.specs.Records.{rows_behind_mark, rows_with_record}
+use Rattle.record_rows.specs.Records.{rows_after_mark, rows_with_record}
 use Rattle.record_rows.specs.Hits.{rows_marked}
 use Rattle.record_rows.specs.ToldRows.{AreTold}
 use Rattle.record_rows.proofs.Devices.{apart_of}
-use Rattle.record_rows.proofs.Telling.{behind_marks_tell, records_tell}
+use Rattle.record_rows.proofs.Telling.{after_marks_tell, records_tell}
 use Rattle.site_means.specs.Walk.{first_unfit}
 use Rattle.xrc_journal.specs.Bodies.{BodyState}
 use Rattle.xrc_journal.specs.Items.{Item, body_spelling}
@@ -61,14 +61,14 @@ module _ (tells : Type 0) (group : FormedGroup) (site : SiteState) (plant : Plan
   pub first_formed : AreHits site.level group.cut failed [] site.told hits → FormedBy tells group site plant failed now.items (rows_with_record site.level group failed site.told)
   first_formed are = formed_by (rows_with_record site.level group failed site.told) (first_rows are) (records_tell site.level group failed site.told (apart_of site.told forms.rules.apart))
 
-  -- Behind a mark it brings the rows that the mark's hits reach, too.
-  pub marked_rows : (hit : List ℕ) → AreHits site.level group.cut failed hit site.told hits → rows_in_states (with_group_and_hits group hits) site.told ≡ rows_behind_mark site.level hit group failed site.told
+  -- After a mark it brings the rows that the mark's hits reach, too.
+  pub marked_rows : (hit : List ℕ) → AreHits site.level group.cut failed hit site.told hits → rows_in_states (with_group_and_hits group hits) site.told ≡ rows_after_mark site.level hit group failed site.told
   marked_rows hit are = group_makes_rows site.level group failed hit site.told hits are low_rows
 
-  pub marked_formed : (hit : List ℕ) → AreHits site.level group.cut failed hit site.told hits → FormedBy tells group site plant failed now.items (rows_behind_mark site.level hit group failed site.told)
-  marked_formed hit are = formed_by (rows_behind_mark site.level hit group failed site.told) (marked_rows hit are) (behind_marks_tell site.level hit group failed site.told (apart_of site.told forms.rules.apart))
+  pub marked_formed : (hit : List ℕ) → AreHits site.level group.cut failed hit site.told hits → FormedBy tells group site plant failed now.items (rows_after_mark site.level hit group failed site.told)
+  marked_formed hit are = formed_by (rows_after_mark site.level hit group failed site.told) (marked_rows hit are) (after_marks_tell site.level hit group failed site.told (apart_of site.told forms.rules.apart))
 
--- The body has room for the largest record of the site's controls.
+-- The body has room for the largest record of the site's controllers.
 pub formed_short : (controls of : ℕ) (entries : List WaitingEntry) (items : List Item) → of ≤ controls → length entries ≤ WRITES_OF_RUN * of → length (body_spelling items) ≤ 56669 * length entries + 64 * 31 → length (body_spelling items) ≤ body_room controls
 formed_short controls of entries items fit few short = omega (arith, fit, few, short)
 

@@ -1,4 +1,4 @@
--- A mark first, then a record behind it: what they do in turn, whatever the record's deed is.
+-- A mark first, then a record after it: what they do in turn, whatever the record's deed is.
 use Rattle.std.proofs.Common.{◌≡◌, ℕ, ◌+◌, ◌^◌, ◌-◌, ◌≤◌, ◌<◌, ◌==◌, ◌||◌, Bool, true, false, cond, List, [], ◌∷◌, length, Result, refl, ap, subst, ◌∙◌, arith}
 use Rattle.std.specs.Prelude.{OnOk, ◌≢◌, nat_le}
 use Rattle.std.specs.List.{list_any}
@@ -17,7 +17,7 @@ use Rattle.record_rows.specs.Deeds.{Deed, rows_by_deed}
 use Rattle.record_rows.specs.Deeds.Deed.{Marked}
 use Rattle.site_store.specs.DoneDeeds.{BeginsDeeds, DoesDeeds}
 use Rattle.site_store.specs.Exceptions.{Exceptions, excepted_by_deed}
-use Rattle.site_store.proofs.Composing.{begin_behind, go_on}
+use Rattle.site_store.proofs.Composing.{begin_after, go_on}
 use Rattle.site_store.proofs.Moments.{more_follow}
 use Rattle.site_store.proofs.Single.{reads_and_syncs}
 use Rattle.site_store.proofs.Widening.{begins_still, does_still}
@@ -25,7 +25,7 @@ use Rattle.site_store.specs.declared.store_error.StoreError.{StoreError}
 use Rattle.site_store.specs.declared.placement.Placement.TheVariants.{Marked as MarkedFirst}
 use Rattle.site_store.specs.Jobs.{body_room}
 use Rattle.site_store.specs.Marking.{MakesMark, excepted_with_waiting}
-use Rattle.site_store.specs.Recording.{HasRoomBehindSwitch}
+use Rattle.site_store.specs.Recording.{HasRoomAfterSwitch}
 use Rattle.site_store.specs.Sites.{SiteState}
 use Rattle.site_store.specs.Standing.{HasLengths, SiteStands, none_excepted}
 use Rattle.site_store.specs.Placements.{most, record_needs_more}
@@ -58,13 +58,13 @@ module _ (tells : Type 0) (ended : Bool) (rows : List PairRow) (site next : Site
 pub first_begins : (old new : PlantState) (e : Exceptions) (rows : List PairRow) (first deed : Deed) → BeginsDeeds e rows (first ∷ []) old new → BeginsDeeds e rows (first ∷ deed ∷ []) old new
 first_begins old new e rows first deed begins = more_follow old new e rows (first ∷ []) (deed ∷ []) begins
 
--- Behind a mark no track is excepted. The record behind it begins, and is done, with the mark's own exceptions too.
+-- After a mark no track is excepted. The record after it begins, and is done, with the mark's own exceptions too.
 module _ (old mid new : PlantState) (e : Exceptions) (rows : List PairRow) (mark deed : Deed) (did : DoesDeeds e rows (mark ∷ []) old mid) where
-  pub begins_behind_mark : BeginsDeeds none_excepted (rows_by_deed mark) (deed ∷ []) mid new → BeginsDeeds e rows (mark ∷ deed ∷ []) old new
-  begins_behind_mark begins = begin_behind old mid new e rows (mark ∷ []) (deed ∷ []) did (begins_still mid new none_excepted (excepted_by_deed rows mark e) (rows_by_deed mark) (λ d x is. refl) (deed ∷ []) begins)
+  pub begins_after_mark : BeginsDeeds none_excepted (rows_by_deed mark) (deed ∷ []) mid new → BeginsDeeds e rows (mark ∷ deed ∷ []) old new
+  begins_after_mark begins = begin_after old mid new e rows (mark ∷ []) (deed ∷ []) did (begins_still mid new none_excepted (excepted_by_deed rows mark e) (rows_by_deed mark) (λ d x is. refl) (deed ∷ []) begins)
 
-  pub does_behind_mark : DoesDeeds none_excepted (rows_by_deed mark) (deed ∷ []) mid new → DoesDeeds e rows (mark ∷ deed ∷ []) old new
-  does_behind_mark does = go_on old mid new e rows (mark ∷ []) (deed ∷ []) did (does_still mid new none_excepted (excepted_by_deed rows mark e) (rows_by_deed mark) (λ d x is. refl) (deed ∷ []) does)
+  pub does_after_mark : DoesDeeds none_excepted (rows_by_deed mark) (deed ∷ []) mid new → DoesDeeds e rows (mark ∷ deed ∷ []) old new
+  does_after_mark does = go_on old mid new e rows (mark ∷ []) (deed ∷ []) did (does_still mid new none_excepted (excepted_by_deed rows mark e) (rows_by_deed mark) (λ d x is. refl) (deed ∷ []) does)
 
 -- ---- reads between
 
@@ -73,14 +73,14 @@ pub reads_do : (tells : Type 0) (among : Device → Type 0) (old new : PlantStat
 reads_do tells among old new works reads told e rows = reads_and_syncs old new e rows works.site (works.elapses told) (works.silent told) (reads.moments told)
 
 module _ (old mid new : PlantState) (e : Exceptions) (rows : List PairRow) (deeds : List Deed) where
-  -- Deeds behind calls that do none.
-  pub begins_behind_none : DoesDeeds e rows [] old mid → BeginsDeeds e rows deeds mid new → BeginsDeeds e rows deeds old new
-  begins_behind_none none begins = begin_behind old mid new e rows [] deeds none begins
+  -- Deeds after calls that do none.
+  pub begins_after_none : DoesDeeds e rows [] old mid → BeginsDeeds e rows deeds mid new → BeginsDeeds e rows deeds old new
+  begins_after_none none begins = begin_after old mid new e rows [] deeds none begins
 
-  pub does_behind_none : DoesDeeds e rows [] old mid → DoesDeeds e rows deeds mid new → DoesDeeds e rows deeds old new
-  does_behind_none none does = go_on old mid new e rows [] deeds none does
+  pub does_after_none : DoesDeeds e rows [] old mid → DoesDeeds e rows deeds mid new → DoesDeeds e rows deeds old new
+  does_after_none none does = go_on old mid new e rows [] deeds none does
 
--- ---- the record's room behind the mark
+-- ---- the record's room after the mark
 
 -- A switch leads to another data set.
 pub next_is_another : (sets set : ℕ) → set < sets → 2 ≤ sets → next_set sets set ≢ set
@@ -113,9 +113,9 @@ suffice next mark low enough =
     let other = eqb-false mark most parts.1 in
     record { next_is = omega (arith, less); mark_is = omega (arith, other, low) }
 
--- Behind the mark, which stands where the record would, the record has room behind a switch.
-pub room_behind_mark : (controls : ℕ) (plant : PlantState) (at : Spot) (items : List Item) → HasLengths controls plant → at.set < plant.journals → at.number + 1 ≤ 2 ^ 64 - 2 → length (body_spelling items) ≤ body_room controls → HasRoomBehindSwitch plant at at items
-room_behind_mark controls plant at items lengths there low short = record {
+-- After the mark, which stands where the record would, the record has room after a switch.
+pub room_after_mark : (controls : ℕ) (plant : PlantState) (at : Spot) (items : List Item) → HasLengths controls plant → at.set < plant.journals → at.number + 1 ≤ 2 ^ 64 - 2 → length (body_spelling items) ≤ body_room controls → HasRoomAfterSwitch plant at at items
+room_after_mark controls plant at items lengths there low short = record {
   free = next_is_another plant.journals at.set there lengths.journals.0;
   room = fits_front controls plant items (next_set plant.journals at.set) lengths (next_there plant.journals at.set there) short;
   number = low;

@@ -1,4 +1,4 @@
--- A site's numbers fit the plant behind calls and behind a mark.
+-- A site's numbers fit the plant after calls and after a mark.
 use Rattle.std.proofs.Common.{◌≡◌, ℕ, ◌+◌, ◌*◌, ◌-◌, ◌^◌, ◌≤◌, ◌<◌, ◌&&◌, Bool, true, false, nat_lt, nat_le, List, [], length, replicate, slice_index, refl, sym, ap, subst, ◌∙◌, arith, IsTrue}
 use Rattle.std.specs.List.{list_all}
 use Rattle.std.proofs.lemmas.List.{length-replicate}
@@ -17,7 +17,7 @@ use Rattle.xrc_journal.proofs.Appends.{same_form}
 use Rattle.site_store.specs.Sites.{SiteState, next_mark}
 use Rattle.site_store.specs.Standing.{FitsPlant, HasLengths, row_has_volume}
 
--- ---- behind calls
+-- ---- after calls
 
 pub lengths_still : (controls : ℕ) (old new : PlantState) → SameSite old new → HasLengths controls old → HasLengths controls new
 lengths_still controls old new same lengths = record {
@@ -51,7 +51,7 @@ site_fits site failed old new same home size fits = record {
   items = subst (λ (f : Form). AreItems f site.waiting) (sym (same_form old new same)) fits.items;
 }
 
--- ---- behind a mark
+-- ---- after a mark
 
 -- A spot of the plant is one by the lengths of its journals.
 spot_is : (plant : PlantState) (set place : ℕ) → set < plant.journals → place + 24 ≤ plant.lengths (Journal set) → (set < length (lengths_of plant)) × (place + 24 ≤ slice_index (lengths_of plant) set)
@@ -66,7 +66,7 @@ next_is_mark site ended plant f lt =
     let spot = spot_is plant site.at.set site.at.place f.set f.room in
     record { number = omega arith; most = omega (arith, lt); state_slot = omega arith; set = spot.0; room = spot.1; next = f.next; time = f.time }
 
--- the site behind a mark with these rows, and this table in memory
+-- the site after a mark with these rows, and this table in memory
 abbrev pub marked_with : (ended : Bool) → Table → (ahead : Bool) → (rows : List PairRow) → SiteState → SiteState
 marked_with ended table ahead rows site = record site {
   table = table;

@@ -86,9 +86,9 @@ module _ (tells : Type 0) (site : SiteState) (ended : Bool) (old : PlantState) (
     pub leaves : (ahead : Bool) (table : Table) → table.session ≡ site.table.session → table.is_started ≡ true → IsTrue (list_all (row_has_volume old) table.rows) → IsTrue (list_all (row_has_volume old) rows)
         → (tells → MarkIsPut (next_mark site ended) (record { level = site.level; rows = rows }) new) → Leaves tells (λ e. none_excepted) site (marked_with ended table ahead rows site) old new
     leaves ahead table session started have told_have put =
-        let behind = mark_fits site ended ahead table rows old may.fast.fits may.number session started have told_have in
+        let after = mark_fits site ended ahead table rows old may.fast.fits may.number session started have told_have in
         record {
-          fits = site_fits (marked_with ended table ahead rows site) site.failed old new works.site (none_lent_then tells IsMarked old new works may.fast.fits.home) refl behind;
+          fits = site_fits (marked_with ended table ahead rows site) site.failed old new works.site (none_lent_then tells IsMarked old new works may.fast.fits.home) refl after;
           stands = λ told e stands.
               mark_stands e site ended rows old new stands slot_low (from_lt told e stands) (ready told) tells told works (puts told) (put told) (marked_with ended table ahead rows site) (λ i. from_mark site.at ended rows (record (meant_for site) { session = sym session i; table = started_table (sym session i) site.told })) refl refl refl refl old.bytes (read told);
         }

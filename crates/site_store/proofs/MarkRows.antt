@@ -127,11 +127,11 @@ none_kept : (reach : FaultReach) (time : ℕ) (failed : List Bool) (hit : List �
 none_kept reach time failed hit d [] down so = refl
 none_kept reach time failed hit d (r ∷ rows) down so =
     neither (row_not_kept reach time failed hit d r down (λ hits on_it. so (ap (λ (b : Bool). b || list_any (hits_device failed d) rows) (and_from (is_hit_now failed r) (r.device == d) hits on_it))))
-    (none_kept reach time failed hit d rows down (λ any. so (behind (hits_device failed d r) any)))
+    (none_kept reach time failed hit d rows down (λ any. so (after (hits_device failed d r) any)))
   where
-    behind : (b : Bool) → list_any (hits_device failed d) rows ≡ true → (b || list_any (hits_device failed d) rows) ≡ true
-    behind true any = refl
-    behind false any = any
+    after : (b : Bool) → list_any (hits_device failed d) rows ≡ true → (b || list_any (hits_device failed d) rows) ≡ true
+    after true any = refl
+    after false any = any
 
     neither : {a b : Bool} → a ≡ false → b ≡ false → (a || b) ≡ false
     neither {a = a} {b = b} x y = ap (λ (c : Bool). c || b) x ∙ y

@@ -56,7 +56,7 @@ with_true : (b : Bool) → (b && true) ≡ false → b ≡ false
 with_true true is = is
 with_true false is = refl
 
--- A track that isn't excepted behind a mark is of a device that its rows keep, and wasn't excepted before.
+-- A track that isn't excepted after a mark is of a device that its rows keep, and wasn't excepted before.
 pub kept_by_mark : (told rows : List PairRow) (at : Spot) (ended : Bool) (e : Exceptions) (d x : ℕ) → excepted_by_deed told (Marked at ended rows) e d x ≡ false → (is_kept d rows ≡ true) × (e d x ≡ false)
 kept_by_mark told rows at ended e d x kept =
     let parts = either_false (not (is_kept d rows)) (e d x && true) kept in

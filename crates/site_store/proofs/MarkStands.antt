@@ -1,4 +1,4 @@
--- A mark that is put at a site's spot, as a deed, and the site behind it, over plain states.
+-- A mark that is put at a site's spot, as a deed, and the site after it, over plain states.
 use Rattle.std.proofs.Common.{◌≡◌, ◌⊎◌, ℕ, ◌^◌, ◌≤◌, ◌<◌, Bool, true, false, List, [], ◌∷◌, Some, Ok, refl, sym, ap, ◌∙◌, arith}
 use Rattle.crash_plant.specs.declared.device.Device.TheVariants.{Control, State, Journal, Volume}
 use Rattle.crash_plant.specs.declared.spot.Spot.{Spot}
@@ -88,7 +88,7 @@ module _ (e : Exceptions) (site : SiteState) (ended : Bool) (rows : List PairRow
         let came = marked c is in
         (came.0, came.1, came.3))
 
-    -- The site stands behind it: its walk begins at the mark's spot.
+    -- The site stands after it: its walk begins at the mark's spot.
     pub mark_stands : (next : SiteState) → from_mark site.at ended rows means ≡ meant_for next → next.mark ≡ m → next.at ≡ site.at → next.time ≡ site.time → next.waiting ≡ [] → (b : Choice) → IsChoice old old.clock b → SiteStands none_excepted next new
     mark_stands next means_is mark_is at_is time_is idle b here = record {
       walk = fresh_walk w rows means;

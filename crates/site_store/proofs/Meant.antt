@@ -16,7 +16,7 @@ use Rattle.state_set.specs.Slots.{Stored, started_table, state_of}
 use Rattle.xrc_journal.specs.Contents.{content_by, content_through}
 use Rattle.xrc_journal.specs.Items.{Form, Item}
 use Rattle.xrc_journal.specs.Walks.{Logged}
-use Rattle.xrc_journal.specs.RingWalks.{AddsThrough, EndsThrough, KeepsThrough, LeadsTo, WalkPlace, WalkRecord, behind_logged, journal_images, walk_behind, walk_start}
+use Rattle.xrc_journal.specs.RingWalks.{AddsThrough, EndsThrough, KeepsThrough, LeadsTo, WalkPlace, WalkRecord, journal_images, spot_after_logged, walk_after, walk_start}
 use Rattle.xrc_journal.specs.RingWalks.WalkRecord.{OfGroup, OfSwitch}
 use Rattle.xrc_journal.proofs.RecordsRead.{end_is_shut}
 use Rattle.site_means.specs.declared.means.Means.{Means}
@@ -32,7 +32,7 @@ use Rattle.site_means.proofs.Found.{group_ends}
 use Rattle.site_means.proofs.Goes.{rows_append}
 use Rattle.site_means.proofs.Meanings.{by_walk}
 use Rattle.site_means.proofs.Reaching.{MeantBy, added_means, ends_here, meant_by, rows_end, rows_turn, same_mark, shut_ends}
-use Rattle.site_store.specs.Ring.{IsThrough, ShowsBehind, and_switch, walk_end, groups_among, switched_from, walk_with}
+use Rattle.site_store.specs.Ring.{IsThrough, ShowsAfter, and_switch, walk_end, groups_among, switched_from, walk_with}
 use Rattle.site_store.specs.RingLaws.{AddedGroupsAreMeant, AddedSwitchesMeanTheSame, EndsAreEntered, GroupsHadAreShown, GroupsPutAreShown, KeptRingsMeanTheSame, MarksAtEndsAreMeant, MeantNumbersAreLow, MeantWalksAreShut, MeantWalksEnd, NextSetsAreFree, OtherSlotsKeepTheMark, SwitchesHadAreShown, SwitchesPutAreShown, UntouchedShowTheSame, fresh_walk, means_from_mark}
 use Rattle.site_store.proofs.Walking.{items_of, throughs_walked, walks_through}
 
@@ -117,8 +117,8 @@ lead_entered : (form : Form) (sets : ℕ) (images : ℕ → List ℕ) (from to :
 lead_entered form sets images from to [] leads here = subst (λ (p : WalkPlace). Contains p.entered p.at.set) (sym leads) here
 lead_entered form sets images from to (OfGroup g ∷ records) leads here =
     let ends = group_ends form sets (images from.at.set) from.at from.last g.time g.items leads.0 leads.1 in
-    lead_entered form sets images (walk_behind (OfGroup g) leads.0 from) to records leads.2 (subst (λ (n : ℕ). Contains from.entered n) (sym ends.set) here)
-lead_entered form sets images from to (OfSwitch time ∷ records) leads here = lead_entered form sets images (walk_behind (OfSwitch time) leads.0 from) to records leads.3 (Contains-push from.entered leads.0.set)
+    lead_entered form sets images (walk_after (OfGroup g) leads.0 from) to records leads.2 (subst (λ (n : ℕ). Contains from.entered n) (sym ends.set) here)
+lead_entered form sets images from to (OfSwitch time ∷ records) leads here = lead_entered form sets images (walk_after (OfSwitch time) leads.0 from) to records leads.3 (Contains-push from.entered leads.0.set)
 
 pub end_entered : EndsAreEntered
 end_entered shape images means w meant lt =
@@ -150,14 +150,14 @@ group_added shape a b means w g meant agree f adds =
     let by = meant_by shape a means w meant in
     let m = by.mark in
     let rows = by.stored.rows in
-    let after = behind_logged g w.at in
+    let after = spot_after_logged g w.at in
     let t = meant_through shape a means w by f.number in
     let records = t.is.records ++ OfGroup g ∷ [] in
     let more = subst (λ (k : Spot). AddsThrough shape.form shape.sets k w.at (OfGroup g) after (journal_images a) (journal_images b)) t.from adds in
     let turn = rows_turn shape a means w by in
     let fit = fit_last shape.volumes rows w.groups g t.is.fits (ap (λ (l : List PairRow). first_unfit shape.volumes 0 l g.items) (sym turn) ∙ f.fits) in
     let groups : groups_among records ≡ w.groups ++ g ∷ [] = groups_last t.is.records g ∙ ap (λ (l : List Logged). l ++ g ∷ []) (sym t.is.groups) in
-    let walks = throughs_walked shape b m rows records (walk_behind (OfGroup g) after (walk_end w)) t.number (more m.time.0 w.last t.is.records w.entered t.is.walks f.later) (subst (λ (l : List Logged). FitRows shape.volumes rows l) (sym groups) fit) in
+    let walks = throughs_walked shape b m rows records (walk_after (OfGroup g) after (walk_end w)) t.number (more m.time.0 w.last t.is.records w.entered t.is.walks f.later) (subst (λ (l : List Logged). FitRows shape.volumes rows l) (sym groups) fit) in
     let rows_are : rows_through (items_of (groups_among records)) rows ≡ rows_through g.items w.rows =
     ap (λ (l : List Logged). rows_through (items_of l) rows) groups ∙ ap (λ (l : List Item). rows_through l rows) (items_last w.groups g) ∙ rows_append (walk_items w) g.items rows
     ∙ ap (λ (l : List PairRow). rows_through g.items l) (sym turn ∙ sym (rows_end shape a means w by)) in
@@ -175,7 +175,7 @@ switch_added shape a b means w time meant agree lt late adds =
     let more = subst (λ (k : Spot). AddsThrough shape.form shape.sets k w.at (OfSwitch time) after (journal_images a) (journal_images b)) t.from adds in
     let still = groups_still t.is.records time in
     let groups : groups_among records ≡ w.groups = still ∙ sym t.is.groups in
-    let walks = throughs_walked shape b m rows records (walk_behind (OfSwitch time) after (walk_end w)) t.number (more m.time.0 w.last t.is.records w.entered t.is.walks late) (subst (λ (l : List Logged). FitRows shape.volumes rows l) (sym still) t.fits) in
+    let walks = throughs_walked shape b m rows records (walk_after (OfSwitch time) after (walk_end w)) t.number (more m.time.0 w.last t.is.records w.entered t.is.walks late) (subst (λ (l : List Logged). FitRows shape.volumes rows l) (sym still) t.fits) in
     let rows_are : rows_through (items_of (groups_among records)) rows ≡ w.rows = ap (λ (l : List Logged). rows_through (items_of l) rows) groups ∙ sym (rows_turn shape a means w by) ∙ sym (rows_end shape a means w by) in
     let walk : walk_in shape b m rows ≡ and_switch time after w =
     walks ∙ (λ i. let v : Walk = record { groups = groups i; rows = rows_are i; entered = w.entered ++ after.set ∷ []; at = after; last = time; bad = None } in v) in
@@ -193,7 +193,7 @@ agree_on_mark shape b c control state = record {
 }
 
 shows : (shape : Shape) (a b : Images) (was means : Means) (w v : Walk) (items : List Item) → meaning_in shape a ≡ Meant was w → meaning_in shape b ≡ Meant means v → walk_items v ≡ walk_items w ++ items → ((d : ℕ) → b (Volume d) ≡ a (Volume d))
-    → ShowsBehind shape items means v a b
+    → ShowsAfter shape items means v a b
 shows shape a b was means w v items before now more same = record {
   meant = now;
   content = λ d x. let slot = slot_track (a (Volume d)) x in
@@ -204,7 +204,7 @@ shows shape a b was means w v items before now more same = record {
 }
 
 -- nothing more
-shows_still : (shape : Shape) (a b : Images) (means : Means) (w v : Walk) → meaning_in shape a ≡ Meant means w → meaning_in shape b ≡ Meant means v → walk_items v ≡ walk_items w → ((d : ℕ) → b (Volume d) ≡ a (Volume d)) → ShowsBehind shape [] means v a b
+shows_still : (shape : Shape) (a b : Images) (means : Means) (w v : Walk) → meaning_in shape a ≡ Meant means w → meaning_in shape b ≡ Meant means v → walk_items v ≡ walk_items w → ((d : ℕ) → b (Volume d) ≡ a (Volume d)) → ShowsAfter shape [] means v a b
 shows_still shape a b means w v before now same volumes = shows shape a b means means w v [] before now (same ∙ sym (append-nil (walk_items w))) volumes
 
 -- a data set that was entered is among those
@@ -228,14 +228,14 @@ group_put shape a b means w g meant f puts =
     let volumes : (d : ℕ) → b (Volume d) ≡ a (Volume d) = λ d. others (Volume d) (λ e. cc e) in
     elim puts.walk [
       | inl keeps ↦ inl (shows_still shape a b means w w meant (kept_same shape a b means w meant agree f.number keeps) refl volumes)
-      | inr adds ↦ inr (shows shape a b means (with_group g means) w (and_group g (behind_logged g w.at) w) g.items meant (group_added shape a b means w g meant agree f adds) (items_last w.groups g) volumes)
+      | inr adds ↦ inr (shows shape a b means (with_group g means) w (and_group g (spot_after_logged g w.at) w) g.items meant (group_added shape a b means w g meant agree f adds) (items_last w.groups g) volumes)
     ]
 
 pub group_had : GroupsHadAreShown
 group_had shape a b means w g meant f has =
     let others = has.range.others in
     let agree = agree_on_mark shape a b (others Control (λ e. cc e)) (others State (λ e. cc e)) in
-    shows shape a b means (with_group g means) w (and_group g (behind_logged g w.at) w) g.items meant (group_added shape a b means w g meant agree f has.walk) (items_last w.groups g) (λ d. others (Volume d) (λ e. cc e))
+    shows shape a b means (with_group g means) w (and_group g (spot_after_logged g w.at) w) g.items meant (group_added shape a b means w g meant agree f has.walk) (items_last w.groups g) (λ d. others (Volume d) (λ e. cc e))
 
 pub switch_put : SwitchesPutAreShown
 switch_put shape a b means w time meant lt late puts =

@@ -11,7 +11,7 @@ use Rattle.pair_table.specs.declared.row.PairRow.{PairRow}
 use Rattle.pair_table.specs.Tables.{is_of, none_clash, with_row}
 use Rattle.pair_table.proofs.TableLaws.{apart-filter}
 use Rattle.state_set.specs.Slots.{Stored, are_rows, has_title, kept, level_of_number, rows_at, rows_in, slot_fields, state_at, state_of, state_slot_place}
-use Rattle.state_set.proofs.Behind.{rows_parts}
+use Rattle.state_set.proofs.After.{rows_parts}
 use Rattle.state_set.proofs.RowsAt.{bind_some}
 use Rattle.site_means.specs.declared.means.Means.{Means}
 use Rattle.site_means.specs.Images.{Images, Shape}
@@ -57,7 +57,7 @@ stored_apart volumes session slot state s e = by_held (state_at volumes session 
     by_held (Some found) is e = let same : found ≡ s = cc e in held_apart volumes session (drop (state_slot_place slot) state) s (is ∙ ap (λ (x : Stored). let o : Option Stored = Some x in o) same)
     by_held None is e = absurd cc
 
--- ---- the rows behind items that fit
+-- ---- the rows after items that fit
 
 by_item : (volumes : ℕ) (i : Item) (rows : List PairRow) → fits_rows volumes rows i ≡ true → none_clash rows ≡ true → none_clash (rows_by i rows) ≡ true
 by_item volumes (Image d x recs) rows fits apart = apart

@@ -11,7 +11,7 @@ use Rattle.record_rows.specs.Deeds.{Deed}
 use Rattle.site_store.specs.DoneDeeds.{BeginsDeeds, GoesThroughDeeds, PassedDeed, points_of, with_next}
 use Rattle.site_store.specs.Exceptions.{Exceptions}
 use Rattle.site_store.specs.DeedLaws.{DeedsNeverGoBack, DoneDeedsHaveBegun, EachDeedHasItsMoment, FirstDeedsAreSeen, MoreDeedsMayFollow}
-use Rattle.site_store.specs.Seeing.{SeesBehind}
+use Rattle.site_store.specs.Seeing.{SeesAfter}
 use Rattle.site_store.proofs.Points.{last_some, points_first, take_first}
 
 -- how many of these moments have come at a time, as far as they come in order
@@ -84,12 +84,12 @@ pub never_back : (old new : PlantState) → DeedsNeverGoBack old new
 never_back old new excepted rows deeds up begins = record {
   done = λ t. come t begins.moments;
   rises = λ s t le. come_rises s t begins.moments le;
-  seen = λ t from to c has. shown_at Choice (IsChoice new) (SeesBehind old excepted rows) old.clock new.clock [] begins.moments deeds begins.few (begins.goes up) t from to c has;
+  seen = λ t from to c has. shown_at Choice (IsChoice new) (SeesAfter old excepted rows) old.clock new.clock [] begins.moments deeds begins.few (begins.goes up) t from to c has;
 }
 
 pub first_seen : (old new : PlantState) → FirstDeedsAreSeen old new
 first_seen old new excepted rows deeds up begins t from to c has =
-    by_side (shown_at Choice (IsChoice new) (SeesBehind old excepted rows) old.clock new.clock [] begins.moments deeds begins.few (begins.goes up) t from to c has)
+    by_side (shown_at Choice (IsChoice new) (SeesAfter old excepted rows) old.clock new.clock [] begins.moments deeds begins.few (begins.goes up) t from to c has)
   where
     n : ℕ
     n = come t begins.moments
@@ -97,17 +97,17 @@ first_seen old new excepted rows deeds up begins t from to c has =
     few : n ≤ length deeds
     few = omega (arith, come_few t begins.moments, begins.few)
 
-    by_size : SeesBehind old excepted rows (take (suc n) deeds) c → (n < length deeds) ⊎ (length deeds ≤ n) → (k : ℕ) × (k ≤ length deeds) × SeesBehind old excepted rows (take k deeds) c
+    by_size : SeesAfter old excepted rows (take (suc n) deeds) c → (n < length deeds) ⊎ (length deeds ≤ n) → (k : ℕ) × (k ≤ length deeds) × SeesAfter old excepted rows (take k deeds) c
     by_size is (inl more) = (suc n, omega (arith, more), is)
-    by_size is (inr all) = (n, few, subst (λ (l : List Deed). SeesBehind old excepted rows l c) (take_all (suc n) deeds (omega (arith, all)) ∙ sym (take_all n deeds all)) is)
+    by_size is (inr all) = (n, few, subst (λ (l : List Deed). SeesAfter old excepted rows l c) (take_all (suc n) deeds (omega (arith, all)) ∙ sym (take_all n deeds all)) is)
 
-    by_side : SeesBehind old excepted rows (take n deeds) c ⊎ SeesBehind old excepted rows (take (suc n) deeds) c → (k : ℕ) × (k ≤ length deeds) × SeesBehind old excepted rows (take k deeds) c
+    by_side : SeesAfter old excepted rows (take n deeds) c ⊎ SeesAfter old excepted rows (take (suc n) deeds) c → (k : ℕ) × (k ≤ length deeds) × SeesAfter old excepted rows (take k deeds) c
     by_side (inl is) = (n, few, is)
     by_side (inr is) = by_size is (cases_lt n (length deeds))
 
 pub has_its_moment : (old new : PlantState) → EachDeedHasItsMoment old new
 has_its_moment old new excepted rows deeds n up does less =
-    let found = own_moment Choice (IsChoice new) (SeesBehind old excepted rows) old.clock new.clock [] does.moments deeds None n does.each less (does.goes up) in
+    let found = own_moment Choice (IsChoice new) (SeesAfter old excepted rows) old.clock new.clock [] does.moments deeds None n does.each less (does.goes up) in
     (found.0, found.1, found.2, λ c has. found.3 found.0 (omega arith) (omega arith) c has)
 
 pub have_begun : (old new : PlantState) → DoneDeedsHaveBegun old new
@@ -117,8 +117,8 @@ have_begun old new excepted rows deeds does = record {
   silent = does.silent;
   moments = does.moments;
   few = omega (arith, does.each);
-  goes = λ up. on_its_way (List Deed) Deed Choice (IsChoice new) (SeesBehind old excepted rows) old.clock new.clock [] (with_next (length does.moments) deeds) (points_of [] does.moments deeds) (does.goes up);
-  now = λ c has. inl (subst (λ (l : List Deed). SeesBehind old excepted rows l c) (sym (take_all (length does.moments) deeds (omega (arith, does.each)))) (does.now c has));
+  goes = λ up. on_its_way (List Deed) Deed Choice (IsChoice new) (SeesAfter old excepted rows) old.clock new.clock [] (with_next (length does.moments) deeds) (points_of [] does.moments deeds) (does.goes up);
+  now = λ c has. inl (subst (λ (l : List Deed). SeesAfter old excepted rows l c) (sym (take_all (length does.moments) deeds (omega (arith, does.each)))) (does.now c has));
 }
 
 -- Deeds that begin may be the first of more.
@@ -127,7 +127,7 @@ module _ (old new : PlantState) (excepted : Exceptions) (rows : List PairRow) (a
   n = length begins.moments
 
   abbrev Sees : List Deed → Choice → Type 0
-  Sees done c = SeesBehind old excepted rows done c
+  Sees done c = SeesAfter old excepted rows done c
 
   turn : (c : Choice) → Sees (take n a) c ⊎ Sees (with_next n a) c → Sees (take n a) c ⊎ Sees (with_next n (a ++ b)) c
   turn c (inl is) = inl is

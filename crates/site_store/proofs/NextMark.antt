@@ -1,4 +1,4 @@
--- The site behind the next mark, and the table whose rows it tells, by whether a change waits to be logged; over plain states.
+-- The site after the next mark, and the table whose rows it tells, by whether a change waits to be logged; over plain states.
 use Rattle.std.proofs.Common.{◌≡◌, Bool, true, false, cond, List, [], length, replicate, Ok, Err, Result, refl, ap, subst, ◌∙◌}
 use Rattle.std.specs.Prelude.{IsErrOf, OnOk}
 use Rattle.std.specs.List.{list_all}
@@ -9,8 +9,8 @@ use Rattle.pair_table.specs.declared.row.PairRow.{PairRow}
 use Rattle.pair_table.specs.Tables.{Table, with_rows}
 use Rattle.record_rows.specs.Hits.{hit_now, rows_marked}
 use Rattle.site_store.specs.declared.store_error.StoreError.{StoreError}
-use Rattle.site_store.specs.Marking.{MakesMark, behind_next_mark, rows_at_mark, unit_of}
-use Rattle.site_store.specs.Records.{behind_mark}
+use Rattle.site_store.specs.Marking.{MakesMark, after_next_mark, rows_at_mark, unit_of}
+use Rattle.site_store.specs.Records.{after_mark}
 use Rattle.site_store.specs.Sites.{SiteState, next_mark}
 use Rattle.site_store.specs.Standing.{row_has_volume}
 use Rattle.site_store.proofs.MarkRows.{hits_alone}
@@ -18,15 +18,15 @@ use Rattle.site_store.proofs.MarkRows.{hits_alone}
 -- ---- the site
 
 module _ (ended : Bool) (rows : List PairRow) (failed : List Bool) (site : SiteState) where
-  pub behind_level : site.is_ahead ≡ false → behind_next_mark ended rows failed site ≡ behind_mark ended rows failed site
-  behind_level level = λ i. record (behind_mark ended rows failed site) { table = cond (level i) site.table (with_rows site.table rows); is_ahead = level i }
+  pub after_level : site.is_ahead ≡ false → after_next_mark ended rows failed site ≡ after_mark ended rows failed site
+  after_level level = λ i. record (after_mark ended rows failed site) { table = cond (level i) site.table (with_rows site.table rows); is_ahead = level i }
 
-  pub behind_ahead : site.is_ahead ≡ true → behind_next_mark ended rows failed site ≡ record (behind_mark ended rows failed site) { table = site.table; is_ahead = true }
-  behind_ahead ahead = λ i. record (behind_mark ended rows failed site) { table = cond (ahead i) site.table (with_rows site.table rows); is_ahead = ahead i }
+  pub after_ahead : site.is_ahead ≡ true → after_next_mark ended rows failed site ≡ record (after_mark ended rows failed site) { table = site.table; is_ahead = true }
+  after_ahead ahead = λ i. record (after_mark ended rows failed site) { table = cond (ahead i) site.table (with_rows site.table rows); is_ahead = ahead i }
 
 -- The same as a site's fields show it.
 pub marked_view : (view site : SiteState) (ended : Bool) (table : Table) (told rows : List PairRow) (mark : Mark) → view ≡ site → table ≡ cond view.is_ahead view.table (with_rows view.table told) → told ≡ rows → mark ≡ next_mark site ended
-    → record view { table = table; told = told; mark = mark; since = 0; waiting = []; written = replicate (length view.written) false } ≡ behind_next_mark ended rows site.failed site
+    → record view { table = table; told = told; mark = mark; since = 0; waiting = []; written = replicate (length view.written) false } ≡ after_next_mark ended rows site.failed site
 marked_view view site ended table told rows mark is table_is told_is mark_is =
     let table_there : table ≡ cond site.is_ahead site.table (with_rows site.table rows) = table_is ∙ (λ i. cond (is i).is_ahead (is i).table (with_rows (is i).table (told_is i))) in
     λ i. record (is i) { table = table_there i; told = told_is i; mark = mark_is i; since = 0; waiting = []; written = replicate (length (is i).written) false }

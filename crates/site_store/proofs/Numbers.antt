@@ -6,7 +6,7 @@ use Rattle.site_store.specs.declared.placement.Placement.TheVariants.{Here, Swit
 use Rattle.site_store.specs.Placements.{most, record_needs_more, suspension_needs_more}
 use Rattle.site_store.proofs.RowRoom.{NumbersSuffice}
 
--- A record needs no number behind the greatest.
+-- A record needs no number after the greatest.
 pub record_enough : (placement : Placement) (next mark : ℕ) → record_needs_more placement next mark ≡ false → NumbersSuffice placement next
 record_enough Here next mark not = omega (arith, ltb-false most next not)
 record_enough Switched next mark not = omega (arith, leb-false most next not)

@@ -1,4 +1,4 @@
--- The moments of a state and of the mark behind it, over plain states.
+-- The moments of a state and of the mark after it, over plain states.
 use Rattle.std.proofs.Common.{◌≡◌, ◌≢◌, ◌≤◌, inl, inr, ℕ, ◌+◌, List, ◌∷◌, length, drop, slice_index, Ok, sym, ap, subst, ◌∙◌, arith}
 use Rattle.std.proofs.lemmas.List.{get_or-drop}
 use Rattle.crash_plant.specs.declared.device.Device.{Device}

@@ -91,7 +91,7 @@ row_then_any device (r ∷ rows) row is = by_first (is_of device r) (row_then_an
     by_first true more e = refl
     by_first false more e = more e
 
--- behind a row of another device they are pairs still
+-- after a row of another device they are pairs still
 more_among : (r : PairRow) (rows : List PairRow) (items : List Item) → ArePairsAmong rows items → list_any (is_of r.device) rows ≡ false → ArePairsAmong (r ∷ rows) items
 more_among r rows [] among apart = tt
 more_among r rows (Image d x recs ∷ items) among apart = among
@@ -144,11 +144,11 @@ image_fit volumes place (Delta d x kind ∷ images) items rows are fit = absurd 
 image_fit volumes place (Pair row ∷ images) items rows are fit = absurd cc
 image_fit volumes place (Gone d ∷ images) items rows are fit = absurd cc
 
--- Behind images the pairs fit still.
+-- After images the pairs fit still.
 pub formed_fit : (next : NextStates) (plant : PlantState) (images : List Item) (rows : List PairRow) → list_all is_image images ≡ true → AreRowsSound rows → list_all (row_has_volume plant) rows ≡ true → first_unfit plant.volumes 0 rows (images ++ pairs_with_next next rows) ≡ None
 formed_fit next plant images rows are keeps have = image_fit plant.volumes 0 images (pairs_with_next next rows) rows are (λ p. next_pairs_fit next plant.volumes p rows (table_rows plant rows keeps have) keeps.apart)
 
--- ---- the rows behind them
+-- ---- the rows after them
 
 -- A row in another state is on its volume still.
 pub next_have_volumes : (next : NextStates) (plant : PlantState) (rows : List PairRow) → list_all (row_has_volume plant) rows ≡ true → list_all (row_has_volume plant) (rows_in_states next rows) ≡ true

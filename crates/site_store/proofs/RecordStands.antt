@@ -1,4 +1,4 @@
--- The site stands behind a group's record, over plain states.
+-- The site stands after a group's record, over plain states.
 use Rattle.std.proofs.Common.{◌≡◌, ◌⊎◌, inl, inr, ℕ, ◌<◌, ◌++◌, Bool, false, true, List, [], append-nil, refl, sym, ap, subst, ◌∙◌}
 use Rattle.crash_plant.specs.declared.device.Device.TheVariants.{Control, State, Volume}
 use Rattle.crash_plant.specs.Calls.{WorksOn}
@@ -16,7 +16,7 @@ use Rattle.xrc_journal.specs.Items.{Item}
 use Rattle.xrc_journal.specs.Walks.{Logged}
 use Rattle.site_store.specs.declared.placement.Placement.{Placement}
 use Rattle.site_store.specs.declared.placement.Placement.TheVariants.{Here, Switched, Marked}
-use Rattle.site_store.specs.Recording.{RecordIsMeant, walk_behind_record, walk_by}
+use Rattle.site_store.specs.Recording.{RecordIsMeant, walk_after_record, walk_by}
 use Rattle.site_store.specs.Records.{IsJournal}
 use Rattle.site_store.specs.Sites.{SiteState, has_failed, is_written, meant_for}
 use Rattle.site_store.specs.Standing.{AreApplied, SiteStands}
@@ -28,23 +28,23 @@ same_items sets Here g w = refl
 same_items sets Switched g w = refl
 same_items sets Marked g w = refl
 
--- The site behind the record of a group: it means the group more, the group's items wait, and each job that fails meanwhile is told.
-pub record IsBehindGroup (sets : ℕ) (placement : Placement) (g : Logged) (w : Walk) (site next : SiteState) : Type 0 where
+-- The site after the record of a group: it means the group more, the group's items wait, and each job that fails meanwhile is told.
+pub record IsAfterGroup (sets : ℕ) (placement : Placement) (g : Logged) (w : Walk) (site next : SiteState) : Type 0 where
   pub meant_is : with_group g (meant_for site) ≡ meant_for next
   pub mark_is : next.mark ≡ site.mark
-  pub at_is : (walk_behind_record sets placement g w).at ≡ next.at
+  pub at_is : (walk_after_record sets placement g w).at ≡ next.at
   pub time_is : g.time ≡ next.time
   pub waiting_is : next.waiting ≡ g.items
   pub failed : (d : ℕ) → has_failed next d ≡ false → has_failed site d ≡ false
   pub written : (d : ℕ) → is_written next d ≡ is_written site d
 
 module _ (tells : Type 0) (told : tells) (e : Exceptions) (site next : SiteState) (old new : PlantState) (placement : Placement) (g : Logged) (stands : SiteStands e site old) (idle : site.waiting ≡ []) (works : WorksOn tells IsJournal old new)
-    (is : IsBehindGroup old.journals placement g stands.walk site next) where
+    (is : IsAfterGroup old.journals placement g stands.walk site next) where
   abbrev w : Walk
   w = stands.walk
 
   abbrev after : Walk
-  after = walk_behind_record old.journals placement g w
+  after = walk_after_record old.journals placement g w
 
   done_all : stands.done ≡ walk_items w
   done_all = sym (append-nil stands.done) ∙ sym (ap (λ (l : List Item). stands.done ++ l) idle) ∙ sym stands.items
@@ -68,7 +68,7 @@ module _ (tells : Type 0) (told : tells) (e : Exceptions) (site next : SiteState
     | inr excepted ↦ inr excepted
   ]
 
-  -- Once the record was put, the site stands behind it.
+  -- Once the record was put, the site stands after it.
   pub group_stands : RecordIsMeant placement (meant_for site) w g old new → AreDurable new after.entered → SiteStands e next new
   group_stands record_is durable = record {
     walk = after;

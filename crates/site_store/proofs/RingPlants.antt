@@ -1,4 +1,4 @@
--- What is shown at every moment while records are put and marks are made, and meant behind them, over plain states.
+-- What is shown at every moment while records are put and marks are made, and meant after them, over plain states.
 use Rattle.std.proofs.Common.{◌≡◌, ◌⊎◌, inl, inr, ℕ, zero, suc, ◌≤◌, ◌<◌, List, [], ◌∷◌, ◌++◌, length, sym, ap, subst, ◌∙◌, arith}
 use Rattle.std.specs.Prelude.{slice_index_or}
 use Rattle.std.specs.List.{Contains}
@@ -16,7 +16,7 @@ use Rattle.xrc_journal.specs.Appending.{AllPutGroup, AllPutSwitch, GroupIsPut, I
 use Rattle.xrc_journal.specs.Contents.{content_through}
 use Rattle.xrc_journal.specs.Items.{Item}
 use Rattle.xrc_journal.specs.Records.{next_set}
-use Rattle.xrc_journal.specs.RingWalks.{behind_logged}
+use Rattle.xrc_journal.specs.RingWalks.{spot_after_logged}
 use Rattle.xrc_journal.specs.Walks.{Logged}
 use Rattle.xrc_journal.proofs.RingAppends.{journal_is}
 use Rattle.site_means.specs.declared.means.Means.{Means}
@@ -26,8 +26,8 @@ use Rattle.site_means.specs.Meaning.{chosen_in, meaning_in}
 use Rattle.site_means.specs.Sight.{content_in}
 use Rattle.site_means.specs.Walk.{Walk, first_unfit}
 use Rattle.site_means.proofs.Goes.{shape_same}
-use Rattle.site_store.specs.Ring.{FitsBehind, ShowsBehind, ShowsGroup, ShowsSame, ShowsSwitch}
-use Rattle.site_store.specs.RingPlants.{AllMean, AllWalksEnd, AreDurable, EndIsDurable, GroupIsDurable, GroupIsMeant, GroupIsShown, IsMeantBehind, MarkIsMeant, MarkIsShown, RoomIsRead, SetsStayDurable, SwitchIsDurable, SwitchIsMeant, SwitchIsShown, SwitchedGroupIsMeant, SwitchedGroupIsShown, and_switch_for}
+use Rattle.site_store.specs.Ring.{FitsAfter, ShowsAfter, ShowsGroup, ShowsSame, ShowsSwitch}
+use Rattle.site_store.specs.RingPlants.{AllMean, AllWalksEnd, AreDurable, EndIsDurable, GroupIsDurable, GroupIsMeant, GroupIsShown, IsMeantAfter, MarkIsMeant, MarkIsShown, RoomIsRead, SetsStayDurable, SwitchIsDurable, SwitchIsMeant, SwitchIsShown, SwitchedGroupIsMeant, SwitchedGroupIsShown, and_switch_for}
 use Rattle.site_store.proofs.Meant.{end_entered, group_had, group_put, marks_meant, meant_ends, switch_had, switch_put, untouched_shown}
 
 -- ---- where a walk ends
@@ -128,28 +128,28 @@ module _ (tells : Type 0) (old new : PlantState) (w : Walk) where
 pub switch_durable : (tells : Type 0) (old new : PlantState) → SwitchIsDurable tells old new
 switch_durable tells old new from w time told works put all = switch_stays tells old new w from time told works put all
 
--- ---- a switch, and a group behind it
+-- ---- a switch, and a group after it
 
 -- what is shown of images that have the same content as others
-shows_then : (shape : Shape) (items : List Item) (means : Means) (k : Walk) (x y z : Images) → ((d t : ℕ) → content_in shape y d t ≡ content_in shape x d t) → ShowsBehind shape items means k y z → ShowsBehind shape items means k x z
+shows_then : (shape : Shape) (items : List Item) (means : Means) (k : Walk) (x y z : Images) → ((d t : ℕ) → content_in shape y d t ≡ content_in shape x d t) → ShowsAfter shape items means k y z → ShowsAfter shape items means k x z
 shows_then shape items means k x y z same s = record { meant = s.meant; content = λ d t. s.content d t ∙ ap (content_through d t items) (same d t) }
 
-module _ (old mid : PlantState) (means : Means) (w : Walk) (g : Logged) (one : SameSite old mid) (all : AllMean old means w) (f : FitsBehind old.volumes means w g) (switched : SwitchIsPut means.from w.at g.time old mid) where
+module _ (old mid : PlantState) (means : Means) (w : Walk) (g : Logged) (one : SameSite old mid) (all : AllMean old means w) (f : FitsAfter old.volumes means w g) (switched : SwitchIsPut means.from w.at g.time old mid) where
   abbrev v : Walk
   v = and_switch_for old.journals g w
 
-  mid_means : IsMeantBehind (ShowsSwitch (shape_of old) g.time means w) means v old mid
+  mid_means : IsMeantAfter (ShowsSwitch (shape_of old) g.time means w) means v old mid
   mid_means = switch_meant old mid means w g.time one all f.number f.later switched
 
-  mid_fits : FitsBehind mid.volumes means v g
+  mid_fits : FitsAfter mid.volumes means v g
   mid_fits = record { number = f.number; later = omega arith; fits = ap (λ (n : ℕ). first_unfit n 0 means.table.rows g.items) one.volumes ∙ f.fits }
 
-  -- a step behind the switch
-  behind_switch : (x y z : Choice) → ((d t : ℕ) → content_in (shape_of old) y d t ≡ content_in (shape_of old) x d t) → ShowsSame (shape_of mid) means v y z ⊎ ShowsGroup (shape_of mid) g means v y z
+  -- a step after the switch
+  after_switch : (x y z : Choice) → ((d t : ℕ) → content_in (shape_of old) y d t ≡ content_in (shape_of old) x d t) → ShowsSame (shape_of mid) means v y z ⊎ ShowsGroup (shape_of mid) g means v y z
       → ShowsSwitch (shape_of old) g.time means w x z ⊎ ShowsGroup (shape_of old) g means v x z
-  behind_switch x y z same step = elim (subst (λ (s : Shape). ShowsSame s means v y z ⊎ ShowsGroup s g means v y z) (shape_same old mid one) step) [
+  after_switch x y z same step = elim (subst (λ (s : Shape). ShowsSame s means v y z ⊎ ShowsGroup s g means v y z) (shape_same old mid one) step) [
     | inl still ↦ inl (shows_then (shape_of old) [] means v x y z same still)
-    | inr more ↦ inr (shows_then (shape_of old) g.items (with_group g means) (and_group g (behind_logged g v.at) v) x y z same more)
+    | inr more ↦ inr (shows_then (shape_of old) g.items (with_group g means) (and_group g (spot_after_logged g v.at) v) x y z same more)
   ]
 
   same_content : (x y : Choice) → ShowsSame (shape_of old) means w x y ⊎ ShowsSwitch (shape_of old) g.time means w x y → (d t : ℕ) → content_in (shape_of old) y d t ≡ content_in (shape_of old) x d t
@@ -172,13 +172,13 @@ module _ (old mid : PlantState) (means : Means) (w : Walk) (g : Logged) (one : S
         elapses
         (group_shown mid new means v g mid_means.meant mid_fits grouping)
         (λ x y here step. way_first x y step)
-        (λ x y z here there so_far step. inr (behind_switch x y z (same_content x y so_far) step))
+        (λ x y z here there so_far step. inr (after_switch x y z (same_content x y so_far) step))
 
-    way_meant : GroupIsPut means.from v.at g mid new → IsMeantBehind (ShowsGroup (shape_of old) g means v) (with_group g means) (and_group g (behind_logged g v.at) v) old new
+    way_meant : GroupIsPut means.from v.at g mid new → IsMeantAfter (ShowsGroup (shape_of old) g means v) (with_group g means) (and_group g (spot_after_logged g v.at) v) old new
     way_meant put =
         let last = group_meant mid new means v g two mid_means.meant mid_fits put in
         let step : (x y z : Choice) → ShowsSwitch (shape_of old) g.time means w x y → ShowsGroup (shape_of mid) g means v y z → ShowsGroup (shape_of old) g means v x z = λ x y z was now.
-        shows_then (shape_of old) g.items (with_group g means) (and_group g (behind_logged g v.at) v) x y z was.content (subst (λ (s : Shape). ShowsGroup s g means v y z) (shape_same old mid one) now) in
+        shows_then (shape_of old) g.items (with_group g means) (and_group g (spot_after_logged g v.at) v) x y z was.content (subst (λ (s : Shape). ShowsGroup s g means v y z) (shape_same old mid one) now) in
         record {
           follows = λ c is.
               let came = last.follows c is in

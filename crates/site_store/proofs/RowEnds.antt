@@ -1,4 +1,4 @@
--- The answers of calls that log rows: the deeds that they are, and the site behind them, by the record's placement.
+-- The answers of calls that log rows: the deeds that they are, and the site after them, by the record's placement.
 use Rattle.std.proofs.Common.{◌≡◌, ◌≢◌, ℕ, Bool, true, List, [], ◌∷◌, Result, Ok, Err, refl, ap}
 use Rattle.std.specs.Prelude.{OnOk}
 use Rattle.crash_plant.specs.Moments.{PlantState}
@@ -17,12 +17,12 @@ use Rattle.site_store.specs.declared.store_error.StoreError.{StoreError}
 use Rattle.site_store.specs.declared.placement.Placement.{Placement}
 use Rattle.site_store.specs.declared.placement.Placement.TheVariants.{Here, Switched, Marked}
 use Rattle.site_store.specs.Changing.{change_deeds, change_deeds_of, changed_items, suspension_deeds, suspension_deeds_of, with_suspensions}
-use Rattle.site_store.specs.Records.{behind_mark, behind_record}
+use Rattle.site_store.specs.Records.{after_mark, after_record}
 use Rattle.site_store.specs.Sites.{SiteState}
 use Rattle.site_store.specs.Standing.{FitsPlant, Leaves, SiteStands}
 use Rattle.site_store.proofs.RowsLogged.{with_logged_rows}
 
--- ---- what is left behind an answer
+-- ---- what is left after an answer
 
 pub leaves_ok : (tells : Type 0) (site next : SiteState) (old new : PlantState) (result : Result (Unit {0}) StoreError) → FitsPlant next new → (tells → OnOk result ((e : Exceptions) → SiteStands e site old → SiteStands e next new))
     → OnOk result (Leaves tells (λ e. e) site next old new)
@@ -33,23 +33,23 @@ leaves_ok tells site next old new (Err error) fits stands = tt
 pub begin_here : (plant : PlantState) (e : Exceptions) (rows : List PairRow) (deeds : List Deed) → BeginsDeeds e rows deeds plant plant
 begin_here plant e rows deeds = more_follow plant plant e rows [] deeds (have_begun plant plant e rows [] (no_call plant e rows))
 
--- ---- the site behind a record
+-- ---- the site after a record
 
 -- Without a mark before it the site is the one before it, but for the record.
-pub plain_behind : (journals : ℕ) (placement : Placement) (cut : ℕ) (items : List Item) (rows : List PairRow) (site : SiteState) → placement ≢ Marked → with_logged_rows journals placement cut items rows site ≡ behind_record journals placement cut items rows site.failed site
-plain_behind journals Here cut items rows site plain = refl
-plain_behind journals Switched cut items rows site plain = refl
-plain_behind journals Marked cut items rows site plain = absurd (plain refl)
+pub plain_after : (journals : ℕ) (placement : Placement) (cut : ℕ) (items : List Item) (rows : List PairRow) (site : SiteState) → placement ≢ Marked → with_logged_rows journals placement cut items rows site ≡ after_record journals placement cut items rows site.failed site
+plain_after journals Here cut items rows site plain = refl
+plain_after journals Switched cut items rows site plain = refl
+plain_after journals Marked cut items rows site plain = absurd (plain refl)
 
 pub plain_suspensions : (journals : ℕ) (placement : Placement) (cut : ℕ) (items : List Item) (failed : List Bool) (site : SiteState) → placement ≢ Marked
-    → behind_record journals placement cut items (rows_with_hits site.level cut site.failed site.told) site.failed site ≡ with_suspensions journals placement cut items failed site
+    → after_record journals placement cut items (rows_with_hits site.level cut site.failed site.told) site.failed site ≡ with_suspensions journals placement cut items failed site
 plain_suspensions journals Here cut items failed site plain = refl
 plain_suspensions journals Switched cut items failed site plain = refl
 plain_suspensions journals Marked cut items failed site plain = absurd (plain refl)
 
--- the site behind a mark that told these rows, while a change waits
+-- the site after a mark that told these rows, while a change waits
 abbrev pub with_told_mark : List PairRow → (failed : List Bool) → SiteState → SiteState
-with_told_mark marked failed site = record (behind_mark site.mark.ended marked failed site) { table = site.table; is_ahead = true }
+with_told_mark marked failed site = record (after_mark site.mark.ended marked failed site) { table = site.table; is_ahead = true }
 
 -- ---- the deeds
 

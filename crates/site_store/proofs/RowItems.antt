@@ -7,7 +7,7 @@ use Rattle.pair_table.specs.declared.command.Change.TheVariants.{Nothing, Starte
 use Rattle.pair_table.specs.declared.row.PairState.{PairState}
 use Rattle.pair_table.specs.declared.row.PairRow.{PairRow}
 use Rattle.pair_table.specs.Tables.{row_of}
-use Rattle.xrc_journal.specs.Items.{AreItems, Earlier, Form, Item, anywhere, are_items_behind, behind, is_item, none_earlier}
+use Rattle.xrc_journal.specs.Items.{AreItems, Earlier, Form, Item, anywhere, are_items_after, earlier_after, is_item, none_earlier}
 use Rattle.xrc_journal.specs.Items.Item.{Image, Delta, Pair, Gone}
 use Rattle.xrc_journal.specs.Contents.{HasItem, content_by, content_through, is_of_track}
 use Rattle.site_store.specs.Changing.{changed_items, gone_of, pair_item, pairs_of}
@@ -70,7 +70,7 @@ pub content_still : (device track : ℕ) (items : List Item) (old : Option (List
 content_still device track [] old are = refl
 content_still device track (i ∷ items) old are = ap (λ (o : Option (List Rec)). content_through device track items o) (still_by device track old i are.0) ∙ content_still device track items old are.1
 
--- So they do behind others.
+-- So they do after others.
 pub content_before : (device track : ℕ) (first items : List Item) (old : Option (List Rec)) → AreRowItems items → content_through device track (first ++ items) old ≡ content_through device track first old
 content_before device track [] items old are = content_still device track items old are
 content_before device track (i ∷ first) items old are = content_before device track first items (content_by device track old i) are
@@ -98,9 +98,9 @@ same_rule form earlier (Delta d x kind) is = absurd (true≢false (sym is))
 same_rule form earlier (Pair row) is = refl
 same_rule form earlier (Gone d) is = refl
 
-rules_same : (form : Form) (earlier : Earlier) (items : List Item) → AreRowItems items → are_items_behind form earlier items ≡ are_items_behind anywhere earlier items
+rules_same : (form : Form) (earlier : Earlier) (items : List Item) → AreRowItems items → are_items_after form earlier items ≡ are_items_after anywhere earlier items
 rules_same form earlier [] are = refl
-rules_same form earlier (i ∷ items) are = λ n. same_rule form earlier i are.0 n && rules_same form (behind i earlier) items are.1 n
+rules_same form earlier (i ∷ items) are = λ n. same_rule form earlier i are.0 n && rules_same form (earlier_after i earlier) items are.1 n
 
 pub keep_anywhere : (form : Form) (items : List Item) → AreRowItems items → AreItems anywhere items → AreItems form items
 keep_anywhere form items are keep = rules_same form none_earlier items are ∙ keep

@@ -39,7 +39,7 @@ row_at_is (r ∷ rows) (suc i) row all is = row_at_is rows i row (and_parts (is_
 
 -- ---- a body
 
--- The pairs of the first so many rows stand behind the items that were there.
+-- The pairs of the first so many rows stand after the items that were there.
 pub record Puts (next : NextStates) (held now : BodyState) (rows : List PairRow) (i : ℕ) : Type 0 where
   pub items_are : now.items ≡ held.items ++ pairs_with_next next (take i rows)
   pub room : now.room ≡ held.room
@@ -104,11 +104,11 @@ taken_has next [] i row is = absurd cc
 taken_has next (r ∷ rows) zero row is =
     let same : r ≡ row = cc is in
     (λ j. eq-eqb row.device r.device (ap (λ (s : PairRow). s.device) (sym same)) j || list_any (is_of row.device) rows)
-taken_has next (r ∷ rows) (suc i) row is = behind (is_of row.device (row_in r (next r))) (taken_has next rows i row is)
+taken_has next (r ∷ rows) (suc i) row is = after (is_of row.device (row_in r (next r))) (taken_has next rows i row is)
   where
-    behind : (b : Bool) → list_any (is_of row.device) (taken next rows i) ≡ true → (b || list_any (is_of row.device) (taken next rows i)) ≡ true
-    behind true has = refl
-    behind false has = has
+    after : (b : Bool) → list_any (is_of row.device) (taken next rows i) ≡ true → (b || list_any (is_of row.device) (taken next rows i)) ≡ true
+    after true has = refl
+    after false has = has
 
 none_at : (test : PairRow → Bool) (rows : List PairRow) (i : ℕ) (row : PairRow) → list_any test rows ≡ false → slice_get rows i ≡ Some row → test row ≡ false
 none_at test [] i row none is = absurd cc

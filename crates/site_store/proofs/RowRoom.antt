@@ -1,4 +1,4 @@
--- A record of rows has room by its placement, and the site's numbers fit the plant behind it.
+-- A record of rows has room by its placement, and the site's numbers fit the plant after it.
 use Rattle.std.proofs.Common.{◌≡◌, ◌≢◌, inl, inr, ℕ, ◌+◌, ◌*◌, ◌-◌, ◌^◌, ◌≤◌, ◌<◌, ◌==◌, ◌&&◌, Bool, false, true, cond, nat_lt, nat_le, List, [], ◌∷◌, length, Option, Some, None, refl, sym, ap, subst, ◌∙◌, arith}
 use Rattle.std.specs.List.{list_all}
 use Rattle.std.proofs.lemmas.Bool.{and_parts, cases_eq, eqb-true, eq-eqb, leb-true}
@@ -27,11 +27,11 @@ use Rattle.xrc_journal.specs.Records.{next_set}
 use Rattle.xrc_journal.specs.RingWalks.{AllEndThrough}
 use Rattle.site_store.specs.declared.placement.Placement.{Placement}
 use Rattle.site_store.specs.declared.placement.Placement.TheVariants.{Here, Switched, Marked}
-use Rattle.site_store.specs.Recording.{HasRoomBehindSwitch, HasRoomBy, MayPutRecord}
+use Rattle.site_store.specs.Recording.{HasRoomAfterSwitch, HasRoomBy, MayPutRecord}
 use Rattle.site_store.specs.Records.{IsJournal}
 use Rattle.site_store.specs.Sites.{SiteState}
 use Rattle.site_store.specs.Standing.{FitsPlant, HasLengths, row_has_volume}
-use Rattle.site_store.specs.Placements.{record_has_room, spot_behind, placement_from}
+use Rattle.site_store.specs.Placements.{record_has_room, spot_after_record, placement_from}
 use Rattle.site_store.proofs.RowsLogged.{with_logged_rows}
 
 -- ---- what reads give
@@ -53,7 +53,7 @@ some_choice tells plant home read told = (plant.bytes, reads_choice plant home (
 
 -- ---- the placement
 
--- The record would need no number behind the greatest.
+-- The record would need no number after the greatest.
 abbrev pub NumbersSuffice : Placement → (next : ℕ) → Type 0
 NumbersSuffice Here next = next ≤ 2 ^ 64 - 2
 NumbersSuffice Switched next = next + 1 ≤ 2 ^ 64 - 2
@@ -106,15 +106,15 @@ module _ (site : SiteState) (plant : PlantState) (fits : FitsPlant site plant) (
   short_there : (j : ℕ) → j < plant.journals → room_for items ≤ plant.lengths (Journal j)
   short_there j lt = omega (arith, short, fits.lengths.journal j lt)
 
-  behind_switch : next_set plant.journals site.at.set ≢ site.mark.at.set → site.at.number + 1 ≤ 2 ^ 64 - 2 → HasRoomBehindSwitch plant site.mark.at site.at items
-  behind_switch free number = record { free = free; room = short_there (next_set plant.journals site.at.set) (next_there plant.journals site.at.set fits.set); number = number }
+  after_switch : next_set plant.journals site.at.set ≢ site.mark.at.set → site.at.number + 1 ≤ 2 ^ 64 - 2 → HasRoomAfterSwitch plant site.mark.at site.at items
+  after_switch free number = record { free = free; room = short_there (next_set plant.journals site.at.set) (next_there plant.journals site.at.set fits.set); number = number }
 
   pub room_by_placement : (placement : Placement) → HasPlacement plant site.at site.mark.at items placement → (placement ≡ Marked → site.mark.at ≡ site.at) → NumbersSuffice placement site.at.number → HasRoomBy plant placement site.mark.at site.at items
   room_by_placement Here has marked enough = has
-  room_by_placement Switched has marked enough = behind_switch has enough
+  room_by_placement Switched has marked enough = after_switch has enough
   room_by_placement Marked has marked enough =
       let here = marked refl in
-      behind_switch (subst (λ (s : Spot). next_set plant.journals site.at.set ≢ s.set) (sym here) (next_other plant.journals site.at.set fits.lengths.journals.0 fits.set)) enough
+      after_switch (subst (λ (s : Spot). next_set plant.journals site.at.set ≢ s.set) (sym here) (next_other plant.journals site.at.set fits.lengths.journals.0 fits.set)) enough
 
   pub may_put_rows : (tells : Type 0) (placement : Placement) (cut : ℕ) → HasRoomBy plant placement site.mark.at site.at items → NumbersSuffice placement site.at.number → AreItems (form_of plant) items → (tells → AllEndThrough plant site.mark.at site.at cut)
       → MayPutRecord tells placement site.mark.at site.at cut items plant
@@ -125,7 +125,7 @@ module _ (site : SiteState) (plant : PlantState) (fits : FitsPlant site plant) (
     ends = ends;
   }
 
--- ---- the site fits behind it
+-- ---- the site fits after it
 
 all_have : (old new : PlantState) (rows : List PairRow) → SameSite old new → list_all (row_has_volume old) rows ≡ true → list_all (row_has_volume new) rows ≡ true
 all_have old new [] same have = refl
@@ -160,27 +160,27 @@ lengths_still controls old new same lengths = record {
   volumes = omega (arith, lengths.volumes, same.volumes);
 }
 
-spot_there : (sets : ℕ) (placement : Placement) (items : List Item) (at : Spot) → at.set < sets → (spot_behind sets placement items at).set < sets
+spot_there : (sets : ℕ) (placement : Placement) (items : List Item) (at : Spot) → at.set < sets → (spot_after_record sets placement items at).set < sets
 spot_there sets Here items at lt = lt
 spot_there sets Switched items at lt = next_there sets at.set lt
 spot_there sets Marked items at lt = next_there sets at.set lt
 
-spot_room : (plant : PlantState) (placement : Placement) (items : List Item) (from at : Spot) → HasRoomBy plant placement from at items → (spot_behind plant.journals placement items at).place + 24 ≤ plant.lengths (Journal (spot_behind plant.journals placement items at).set)
+spot_room : (plant : PlantState) (placement : Placement) (items : List Item) (from at : Spot) → HasRoomBy plant placement from at items → (spot_after_record plant.journals placement items at).place + 24 ≤ plant.lengths (Journal (spot_after_record plant.journals placement items at).set)
 spot_room plant Here items from at room = omega (arith, room)
 spot_room plant Switched items from at room = omega (arith, room.room)
 spot_room plant Marked items from at room = omega (arith, room.room)
 
-spot_number : (sets : ℕ) (placement : Placement) (items : List Item) (at : Spot) → 1 ≤ (spot_behind sets placement items at).number
+spot_number : (sets : ℕ) (placement : Placement) (items : List Item) (at : Spot) → 1 ≤ (spot_after_record sets placement items at).number
 spot_number sets Here items at = omega arith
 spot_number sets Switched items at = omega arith
 spot_number sets Marked items at = omega arith
 
--- Behind the record the site's numbers fit the plant.
+-- After the record the site's numbers fit the plant.
 pub rows_fit : (tells : Type 0) (site : SiteState) (old new : PlantState) (placement : Placement) (cut : ℕ) (items : List Item) (rows : List PairRow) → FitsPlant site old → WorksOn tells IsJournal old new → HasRoomBy old placement site.mark.at site.at items → site.time ≤ cut → site.waiting ≡ []
     → list_all (row_has_volume old) rows ≡ true → FitsPlant (with_logged_rows old.journals placement cut items rows site) new
 rows_fit tells site old new placement cut items rows fits works room late idle have =
     let same = works.site in
-    let at = spot_behind old.journals placement items site.at in
+    let at = spot_after_record old.journals placement items site.at in
     record {
       home = none_lent_then tells IsJournal old new works fits.home;
       controls = fits.controls;

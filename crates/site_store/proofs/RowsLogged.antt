@@ -1,4 +1,4 @@
--- A record of rows alone, put by its placement: the deed that it is, and the site behind it, over plain states.
+-- A record of rows alone, put by its placement: the deed that it is, and the site after it, over plain states.
 use Rattle.std.proofs.Common.{◌≡◌, inl, inr, ℕ, ◌≤◌, ◌<◌, ◌^◌, ◌++◌, false, List, [], ◌∷◌, length, Result, Ok, Err, append-nil, refl, sym, ap, subst, ◌∙◌, arith}
 use Rattle.std.specs.Prelude.{OnOk}
 use Rattle.ckd_track.specs.SlotPlaces.{slot_track}
@@ -10,7 +10,7 @@ use Rattle.pair_table.specs.declared.row.PairRow.{PairRow}
 use Rattle.pair_table.specs.Tables.{with_rows}
 use Rattle.record_rows.specs.Deeds.Deed.{Changed}
 use Rattle.site_store.specs.RingPlants.{AllMean, AreDurable}
-use Rattle.site_store.specs.Ring.{FitsBehind}
+use Rattle.site_store.specs.Ring.{FitsAfter}
 use Rattle.site_store.specs.Deeds.{with_time_and_rows}
 use Rattle.site_store.specs.DoneDeeds.{BeginsDeeds, DoesDeeds}
 use Rattle.site_store.specs.Exceptions.{Exceptions}
@@ -28,19 +28,19 @@ use Rattle.site_store.specs.declared.store_error.StoreError.{StoreError}
 use Rattle.site_store.specs.declared.placement.Placement.{Placement}
 use Rattle.site_store.specs.declared.placement.Placement.TheVariants.{Here, Switched, Marked}
 use Rattle.site_store.specs.Changing.{Lead}
-use Rattle.site_store.specs.Recording.{RecordIsMeant, RecordIsShown, ShowsRecord, group_with, walk_behind_record, walk_by}
+use Rattle.site_store.specs.Recording.{RecordIsMeant, RecordIsShown, ShowsRecord, group_with, walk_after_record, walk_by}
 use Rattle.site_store.specs.Records.{IsJournal}
 use Rattle.site_store.specs.Sites.{SiteState, has_failed, meant_for}
 use Rattle.site_store.specs.Standing.{AreApplied, SiteStands, none_excepted}
-use Rattle.site_store.specs.Placements.{spot_behind}
+use Rattle.site_store.specs.Placements.{spot_after_record}
 use Rattle.site_store.proofs.Calls.{durable_still}
 use Rattle.site_store.proofs.RecordDeeds.{LeavesContent, record_begins, record_does}
 use Rattle.site_store.proofs.RecordPuts.{on_ok}
 use Rattle.site_store.proofs.RowItems.{AreRowItems, content_before, content_still, item_before}
 
--- the site behind the record of these items, which leaves these rows
+-- the site after the record of these items, which leaves these rows
 abbrev pub with_logged_rows : (journals : ℕ) → Placement → (cut : ℕ) → List Item → List PairRow → SiteState → SiteState
-with_logged_rows journals placement cut items rows site = record site { table = with_rows site.table rows; is_ahead = false; told = rows; time = cut; at = spot_behind journals placement items site.at }
+with_logged_rows journals placement cut items rows site = record site { table = with_rows site.table rows; is_ahead = false; told = rows; time = cut; at = spot_after_record journals placement items site.at }
 
 -- Items of rows alone lead from the rows on the devices to these.
 pub record AreRowsLogged (site : SiteState) (plant : PlantState) (cut : ℕ) (items : List Item) (rows : List PairRow) : Type 0 where
@@ -81,10 +81,10 @@ same_items sets Here g w = refl
 same_items sets Switched g w = refl
 same_items sets Marked g w = refl
 
-behind_at : (sets cut : ℕ) (placement : Placement) (items : List Item) (w : Walk) (at : Spot) → w.at ≡ at → (walk_behind_record sets placement (group_with cut items) w).at ≡ spot_behind sets placement items at
-behind_at sets cut Here items w at is = ap (λ (s : Spot). spot_after s (length (body_spelling items))) is
-behind_at sets cut Switched items w at is = ap (λ (s : Spot). spot_after (spot_in (next_set sets s.set) s) (length (body_spelling items))) is
-behind_at sets cut Marked items w at is = ap (λ (s : Spot). spot_after (spot_in (next_set sets s.set) s) (length (body_spelling items))) is
+after_at : (sets cut : ℕ) (placement : Placement) (items : List Item) (w : Walk) (at : Spot) → w.at ≡ at → (walk_after_record sets placement (group_with cut items) w).at ≡ spot_after_record sets placement items at
+after_at sets cut Here items w at is = ap (λ (s : Spot). spot_after s (length (body_spelling items))) is
+after_at sets cut Switched items w at is = ap (λ (s : Spot). spot_after (spot_in (next_set sets s.set) s) (length (body_spelling items))) is
+after_at sets cut Marked items w at is = ap (λ (s : Spot). spot_after (spot_in (next_set sets s.set) s) (length (body_spelling items))) is
 
 module _ (tells : Type 0) (told : tells) (e : Exceptions) (site : SiteState) (old new : PlantState) (placement : Placement) (cut : ℕ) (items : List Item) (rows : List PairRow) (stands : SiteStands e site old) (is : AreRowsLogged site old cut items rows)
     (low : site.mark.at.number < 2 ^ 64) (works : WorksOn tells IsJournal old new) (result : Result (Unit {0}) StoreError) (shows : ShowsRecord tells placement site.mark.at site.at (group_with cut items) old new result) where
@@ -98,9 +98,9 @@ module _ (tells : Type 0) (told : tells) (e : Exceptions) (site : SiteState) (ol
   w = stands.walk
 
   abbrev after : Walk
-  after = walk_behind_record old.journals placement g w
+  after = walk_after_record old.journals placement g w
 
-  fits : FitsBehind old.volumes means w g
+  fits : FitsAfter old.volumes means w g
   fits = record { number = low; later = omega (arith, is.late, stands.last); fits = is.lead.fit }
 
   shown : RecordIsShown placement means w g old new
@@ -118,17 +118,17 @@ module _ (tells : Type 0) (told : tells) (e : Exceptions) (site : SiteState) (ol
 
   -- what is told of each meaning whose walk ends there
   abbrev IsMeant : Type 0
-  IsMeant = (m : Means) (v : Walk) → m.from ≡ site.mark.at → v.at ≡ site.at → AllMean old m v → FitsBehind old.volumes m v g → RecordIsMeant placement m v g old new
+  IsMeant = (m : Means) (v : Walk) → m.from ≡ site.mark.at → v.at ≡ site.at → AllMean old m v → FitsAfter old.volumes m v g → RecordIsMeant placement m v g old new
 
   abbrev StayDurable : Type 0
-  StayDurable = (v : Walk) → v.at ≡ site.at → AreDurable old v.entered → AreDurable new (walk_behind_record old.journals placement g v).entered
+  StayDurable = (v : Walk) → v.at ≡ site.at → AreDurable old v.entered → AreDurable new (walk_after_record old.journals placement g v).entered
 
   -- Once it was put the change is done.
   pub rows_done : OnOk result (DoesDeeds e site.told (Changed cut rows ∷ []) old new)
   rows_done =
       on_ok result (λ (meant : IsMeant). record_does e site.told (Changed cut rows) means w g old stands.meant same leaves tells told placement new works shown (meant means w refl stands.at stands.meant fits)) (shows.meant told)
 
-  -- ---- the site behind it
+  -- ---- the site after it
 
   abbrev next : SiteState
   next = with_logged_rows old.journals placement cut items rows site
@@ -151,7 +151,7 @@ module _ (tells : Type 0) (told : tells) (e : Exceptions) (site : SiteState) (ol
     walk = after;
     meant = λ c left. record_is.meant c left ∙ ap (λ (m : Means). Meant m after) (sym same);
     chosen = record_is.chosen site.mark stands.chosen;
-    at = behind_at old.journals cut placement items w site.at stands.at;
+    at = after_at old.journals cut placement items w site.at stands.at;
     last = refl;
     control = durable_still tells told IsJournal old new Control works (λ journal. journal) stands.control;
     state = durable_still tells told IsJournal old new State works (λ journal. journal) stands.state;
@@ -162,7 +162,7 @@ module _ (tells : Type 0) (told : tells) (e : Exceptions) (site : SiteState) (ol
     unwritten = λ d lt not x has. stands.unwritten d (subst (λ (n : ℕ). d < n) works.site.volumes lt) not x (item_before d x stands.done items is.are has);
   }
 
-  -- Once it was put the site stands behind it.
+  -- Once it was put the site stands after it.
   pub rows_stand : OnOk result (SiteStands e next new)
   rows_stand =
       on_ok result (λ (both : IsMeant × StayDurable). stands_then (both.0 means w refl stands.at stands.meant fits) (both.1 w stands.at stands.journals)) (both_ok IsMeant StayDurable result (shows.meant told) (shows.durable told))

@@ -8,7 +8,7 @@ use Rattle.crash_plant.specs.Gates.{Shuts}
 use Rattle.crash_plant.specs.declared.device.Device.TheVariants.{Control}
 use Rattle.crash_plant.specs.Calls.{WorksOn}
 use Rattle.crash_plant.specs.Moments.{Follows, IsDurable, SamePast, PlantState, Same, Standing, on}
-use Rattle.crash_plant.proofs.Behind.{same_after, shuts, torn_here}
+use Rattle.crash_plant.proofs.BehindGates.{same_after, shuts, torn_here}
 use Rattle.crash_plant.proofs.Steps.{follows_then, kept_trans, site_trans}
 use Rattle.control_set.specs.declared.value.Mark.{Mark}
 use Rattle.control_set.specs.Places.{keeps, mark_in, u64_at}
@@ -22,7 +22,7 @@ use Rattle.site_store.specs.Formats.{AreHalves, AreZeroed, CountsOrNone, ShutsCo
 
 -- ---- bytes
 
--- the byte in front of what stands behind a place
+-- the byte in front of what stands after a place
 front_byte : (place : ℕ) (control : List ℕ) → slice_index (drop place control) 0 ≡ slice_index control place
 front_byte place control = get_or-drop place control 0 0 ∙ ap (λ (k : ℕ). slice_index control k) (omega arith)
 
@@ -244,8 +244,8 @@ module _ (tells : Type 0) (told : tells) (old one two : PlantState) (first : Wor
   pub reads_durable : one.bytes Control ≡ old.bytes Control → two.bytes Control ≡ one.bytes Control → IsDurable (on old Control) → IsDurable (on two Control)
   reads_durable same more durable = durable_same old two Control both_read both_kept.later (more ∙ same) durable
 
-  pub shut_behind_reads : (new : PlantState) → WorksOn tells (λ d. d ≡ Control) two new → Follows (ShutsControl (lengths_of two)) (on two Control) (on new Control) → Follows (ShutsControl (lengths_of old)) (on old Control) (on new Control)
-  shut_behind_reads new works shuts =
+  pub shut_after_reads : (new : PlantState) → WorksOn tells (λ d. d ≡ Control) two new → Follows (ShutsControl (lengths_of two)) (on two Control) (on new Control) → Follows (ShutsControl (lengths_of old)) (on old Control) (on new Control)
+  shut_after_reads new works shuts =
       control_after (lengths_of old) (on old Control) (on two Control) (on new Control) both_kept both_read ((works.elapses told).kept Control)
       (subst (λ (l : List ℕ). Follows (ShutsControl l) (on two Control) (on new Control)) (same_lengths old two (site_trans old one two first.site second.site)) shuts)
 
@@ -271,7 +271,7 @@ pub other_halves : (p q : ℕ) → AreHalves p q → AreHalves q p
 other_halves p q (false, one, other) = (true, other, one)
 other_halves p q (true, one, other) = (false, other, one)
 
--- The second gate is shut behind the first one.
+-- The second gate is shut after the first one.
 pub none_open : (p q : ℕ) (y z : List ℕ) → AreHalves p q → slice_index y p ≢ 1 → slice_index z q ≢ 1 → Torn q 1 y z → NoGateOpen z
 none_open p q y z halves off last torn = gates_off z halves.0
     (λ on. off (sym (other_stays q p y z (other_halves p q halves) torn) ∙ ap (λ (k : ℕ). slice_index z k) halves.1 ∙ on))

@@ -13,7 +13,7 @@ use Rattle.site_means.specs.Sight.{means_of}
 use Rattle.record_rows.specs.Deeds.{Deed}
 use Rattle.site_store.specs.Exceptions.{Exceptions}
 use Rattle.site_store.specs.DeedLaws.{NoCallDoesNoDeed, OneDeedBegins, OneDeedFollows, OneDeedIsDone, ReadsAndSyncsAreNoDeed, SameContentIsNoDeed, SameSightIsNoDeed}
-use Rattle.site_store.specs.Seeing.{MeansByDeed, MeansTheSame, SeesBehind}
+use Rattle.site_store.specs.Seeing.{MeansByDeed, MeansTheSame, SeesAfter}
 
 -- What each choice now is, it is at each moment from now to now.
 through_now : (plant : PlantState) (is : Choice → Type 0) → AtNow is plant → Throughout (IsChoice plant) plant.clock plant.clock is
@@ -26,7 +26,7 @@ one_is_done old new excepted rows deed site elapses silent every now = record {
   silent = silent;
   moments = new.clock ∷ [];
   each = refl;
-  goes = λ up. let last = through_now new (SeesBehind old excepted rows (deed ∷ [])) now in ((elapses.kept Control).later, every, last, (omega arith, last));
+  goes = λ up. let last = through_now new (SeesAfter old excepted rows (deed ∷ [])) now in ((elapses.kept Control).later, every, last, (omega arith, last));
   now = now;
 }
 
@@ -57,14 +57,14 @@ no_means None = refl
 no_means (Some m) = refl
 
 -- what could be left at the start shows that nothing is done
-sees_itself : (old : PlantState) (excepted : Exceptions) (rows : List PairRow) (c : Choice) → IsChoice old old.clock c → SeesBehind old excepted rows [] c
+sees_itself : (old : PlantState) (excepted : Exceptions) (rows : List PairRow) (c : Choice) → IsChoice old old.clock c → SeesAfter old excepted rows [] c
 sees_itself old excepted rows c is = record { from = c; was = is; means = no_means (means_of old c); content = λ d x within told. (c, is, refl) }
 
 -- a choice that means the same, or what a deed leaves
-sees_same : (old : PlantState) (excepted : Exceptions) (rows : List PairRow) (b c : Choice) → IsChoice old old.clock b → MeansTheSame old excepted b c → SeesBehind old excepted rows [] c
+sees_same : (old : PlantState) (excepted : Exceptions) (rows : List PairRow) (b c : Choice) → IsChoice old old.clock b → MeansTheSame old excepted b c → SeesAfter old excepted rows [] c
 sees_same old excepted rows b c was same = record { from = b; was = was; means = same.means ∙ no_means (means_of old b); content = λ d x within told. (b, was, same.content d x within told) }
 
-sees_deed : (old : PlantState) (excepted : Exceptions) (rows : List PairRow) (deed : Deed) (b c : Choice) → IsChoice old old.clock b → MeansByDeed old excepted rows deed b c → SeesBehind old excepted rows (deed ∷ []) c
+sees_deed : (old : PlantState) (excepted : Exceptions) (rows : List PairRow) (deed : Deed) (b c : Choice) → IsChoice old old.clock b → MeansByDeed old excepted rows deed b c → SeesAfter old excepted rows (deed ∷ []) c
 sees_deed old excepted rows deed b c was by = record { from = b; was = was; means = by.means; content = by.content }
 
 pub same_content : (old new : PlantState) → SameContentIsNoDeed old new
@@ -74,11 +74,11 @@ pub one_follows : (old new : PlantState) → OneDeedFollows old new
 one_follows old new excepted rows deed site elapses silent follows =
     (one_begins old new excepted rows deed site elapses silent every, λ now. one_is_done old new excepted rows deed site elapses silent every (λ c is. let start = now c is in sees_deed old excepted rows deed start.0 c start.1 start.2))
   where
-    by_step : (b c : Choice) → IsChoice old old.clock b → MeansTheSame old excepted b c ⊎ MeansByDeed old excepted rows deed b c → SeesBehind old excepted rows [] c ⊎ SeesBehind old excepted rows (deed ∷ []) c
+    by_step : (b c : Choice) → IsChoice old old.clock b → MeansTheSame old excepted b c ⊎ MeansByDeed old excepted rows deed b c → SeesAfter old excepted rows [] c ⊎ SeesAfter old excepted rows (deed ∷ []) c
     by_step b c was (inl same) = inl (sees_same old excepted rows b c was same)
     by_step b c was (inr by) = inr (sees_deed old excepted rows deed b c was by)
 
-    every : AtEveryMoment (λ c. SeesBehind old excepted rows [] c ⊎ SeesBehind old excepted rows (deed ∷ []) c) old new
+    every : AtEveryMoment (λ c. SeesAfter old excepted rows [] c ⊎ SeesAfter old excepted rows (deed ∷ []) c) old new
     every t from to c is = let start = follows t from to c is in by_step start.0 c start.1 start.2
 
 pub reads_and_syncs : (old new : PlantState) → ReadsAndSyncsAreNoDeed old new

@@ -10,7 +10,7 @@ use Rattle.xrc_journal.specs.RingWalks.{AllEndThrough}
 use Rattle.xrc_journal.specs.Walks.{Logged}
 use Rattle.site_means.specs.Images.{shape_of}
 use Rattle.site_means.specs.Walk.{Walk, first_unfit}
-use Rattle.site_store.specs.Ring.{FitsBehind}
+use Rattle.site_store.specs.Ring.{FitsAfter}
 use Rattle.site_store.proofs.Meant.{end_entered, meant_low}
 use Rattle.site_store.proofs.RingPlants.{all_end, room_read}
 use Rattle.site_store.specs.Exceptions.{Exceptions}
@@ -46,6 +46,6 @@ module _ (e : Exceptions) (site : SiteState) (plant : PlantState) (stands : Site
       subst (λ (s : Spot). AllEndThrough plant site.mark.at s cut) stands.at
       (all_end plant (meant_for site) w cut stands.meant from_low (omega (arith, late, stands.last)) (room_read plant w set_there durable_there (room_there size)))
 
-  -- A group whose items fit the rows on the devices may come behind the walk.
-  pub fits_behind : (g : Logged) → site.time ≤ g.time → first_unfit plant.volumes 0 site.told g.items ≡ None → FitsBehind plant.volumes (meant_for site) w g
-  fits_behind g late fit = record { number = from_low; later = omega (arith, late, stands.last); fits = fit }
+  -- A group whose items fit the rows on the devices may come after the walk.
+  pub fits_after : (g : Logged) → site.time ≤ g.time → first_unfit plant.volumes 0 site.told g.items ≡ None → FitsAfter plant.volumes (meant_for site) w g
+  fits_after g late fit = record { number = from_low; later = omega (arith, late, stands.last); fits = fit }

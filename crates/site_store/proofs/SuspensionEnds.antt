@@ -14,7 +14,7 @@ use Rattle.site_store.specs.DoneDeeds.{BeginsDeeds, DoesDeeds}
 use Rattle.site_store.specs.Exceptions.{Exceptions}
 use Rattle.site_store.proofs.Single.{no_call}
 use Rattle.state_set.specs.Slots.{are_rows}
-use Rattle.state_set.proofs.Behind.{rows_from}
+use Rattle.state_set.proofs.After.{rows_from}
 use Rattle.xrc_journal.specs.declared.job.VolumeJob.{VolumeJob}
 use Rattle.xrc_journal.specs.Bodies.{BodyState}
 use Rattle.xrc_journal.specs.Items.{Item, body_spelling, form_of, none_earlier}
@@ -29,7 +29,7 @@ use Rattle.site_store.specs.Hits.{AreHits, are_some, pairs_with_next, with_hits}
 use Rattle.site_store.specs.Jobs.{has_job_failed}
 use Rattle.site_store.specs.Marking.{MakesMark}
 use Rattle.site_store.specs.Recording.{HasRoomBy, MayPutRecord, ShowsRecord, group_with}
-use Rattle.site_store.specs.Records.{IsJournal, behind_mark, behind_record}
+use Rattle.site_store.specs.Records.{IsJournal, after_mark, after_record}
 use Rattle.site_store.specs.Sites.{SiteState}
 use Rattle.site_store.specs.Standing.{FitsPlant, Leaves, MayRecord, SiteStands, none_excepted}
 use Rattle.site_store.specs.Placements.{is_suspension_spent, placement_of}
@@ -191,10 +191,10 @@ module _ (tells : Type 0) (cut : Stamp) (site : SiteState) (old : PlantState) (h
       logged = λ more. next_is;
     }
 
-    pub record_suspends : placement ≢ Marked → OnOk result (next ≡ behind_record old.journals placement cut.0 items rows site.failed site) → Suspends cut.0 site next old was is result
-    record_suspends plain next_is = suspends (on_ok result (λ (same : next ≡ behind_record old.journals placement cut.0 items rows site.failed site). same ∙ plain_suspensions old.journals placement cut.0 items next.failed site plain) next_is)
+    pub record_suspends : placement ≢ Marked → OnOk result (next ≡ after_record old.journals placement cut.0 items rows site.failed site) → Suspends cut.0 site next old was is result
+    record_suspends plain next_is = suspends (on_ok result (λ (same : next ≡ after_record old.journals placement cut.0 items rows site.failed site). same ∙ plain_suspensions old.journals placement cut.0 items next.failed site plain) next_is)
 
-    pub mark_suspends : placement ≡ Marked → OnOk result (next ≡ behind_mark site.mark.ended (rows_with_hits site.level site.time next.failed site.told) next.failed site) → Suspends cut.0 site next old was is result
+    pub mark_suspends : placement ≡ Marked → OnOk result (next ≡ after_mark site.mark.ended (rows_with_hits site.level site.time next.failed site.told) next.failed site) → Suspends cut.0 site next old was is result
     mark_suspends marked next_is = suspends (subst (λ (w : Placement). OnOk result (next ≡ with_suspensions old.journals w cut.0 items next.failed site)) (sym marked) next_is)
 
   -- ---- the record
@@ -221,7 +221,7 @@ module _ (tells : Type 0) (cut : Stamp) (site : SiteState) (old : PlantState) (h
           (change_stands tells [] site site old old new (nothing_first tells site old) placement cut.0 items rows (λ told e stands. logged) low works result shows)
 
       -- The jobs that have failed are those before it.
-      pub record_does : (then : SiteState) → then.failed ≡ site.failed → OnOk result (then ≡ behind_record old.journals placement cut.0 items rows site.failed site) → DoesSuspend tells cut.0 site then old new result
+      pub record_does : (then : SiteState) → then.failed ≡ site.failed → OnOk result (then ≡ after_record old.journals placement cut.0 items rows site.failed site) → DoesSuspend tells cut.0 site then old new result
       record_does then same then_is =
           let deeds_are : Changed cut.0 rows ∷ [] ≡ suspension_deeds_of placement site cut.0 then.failed =
           sym (suspension_is site cut.0 then.failed placement some ∙ suspension_plain site cut.0 then.failed placement plain ∙ ap (λ (failed : List Bool). Changed cut.0 (rows_with_hits site.level cut.0 failed site.told) ∷ []) same) in
@@ -229,7 +229,7 @@ module _ (tells : Type 0) (cut : Stamp) (site : SiteState) (old : PlantState) (h
             placement = placement;
             items = items;
             is_placement = hit_placement placement placement_is;
-            left = λ more. on_ok result (λ (is : then ≡ behind_record old.journals placement cut.0 items rows site.failed site). is ∙ plain_suspensions old.journals placement cut.0 items then.failed site plain) then_is;
+            left = λ more. on_ok result (λ (is : then ≡ after_record old.journals placement cut.0 items rows site.failed site). is ∙ plain_suspensions old.journals placement cut.0 items then.failed site plain) then_is;
             begins = λ told e stands. subst (λ (deeds : List Deed). BeginsDeeds e site.told deeds old new) deeds_are (change_begins tells [] site site old old new (nothing_first tells site old) placement cut.0 items rows (λ told e stands. logged) low works result shows told e stands);
             does = λ told. subst (λ (deeds : List Deed). OnOk result ((e : Exceptions) → SiteStands e site old → DoesDeeds e site.told deeds old new)) deeds_are
                 (change_done tells [] site site old old new (nothing_first tells site old) placement cut.0 items rows (λ told e stands. logged) low works result shows told);
@@ -238,7 +238,7 @@ module _ (tells : Type 0) (cut : Stamp) (site : SiteState) (old : PlantState) (h
   -- ---- the mark
 
   pub mark_does : (placement : Placement) → placement ≡ placement_of old site items → placement ≡ Marked → (then : SiteState) (new : PlantState) (result : Result (Unit {0}) StoreError) → MakesMark tells site.mark.ended (rows_with_hits site.level site.time then.failed site.told) site then old new result
-      → OnOk result (then ≡ behind_mark site.mark.ended (rows_with_hits site.level site.time then.failed site.told) then.failed site) → DoesSuspend tells cut.0 site then old new result
+      → OnOk result (then ≡ after_mark site.mark.ended (rows_with_hits site.level site.time then.failed site.told) then.failed site) → DoesSuspend tells cut.0 site then old new result
   mark_does placement placement_is marked then new result makes then_is =
       let told_rows = rows_with_hits site.level site.time then.failed site.told in
       let deeds_are : MarkedDeed site.at site.mark.ended told_rows ∷ [] ≡ suspension_deeds_of Marked site cut.0 then.failed = sym (suspension_is site cut.0 then.failed Marked some) in

@@ -1,4 +1,4 @@
--- A site once volumes were synced before a mark, and the mark behind these syncs, over plain states.
+-- A site once volumes were synced before a mark, and the mark after these syncs, over plain states.
 use Rattle.std.proofs.Common.{◌≡◌, inl, inr, ℕ, zero, suc, ◌-◌, ◌^◌, ◌≤◌, ◌<◌, Bool, true, false, List, [], ◌∷◌, length, map, Result, refl, sym, ap, subst, ◌∙◌, arith}
 use Rattle.std.specs.Prelude.{slice_index_or}
 use Rattle.std.specs.List.{Contains}
@@ -17,7 +17,7 @@ use Rattle.pair_table.specs.declared.row.PairState.TheVariants.{Duplex}
 use Rattle.record_rows.specs.Deeds.Deed.{Marked}
 use Rattle.site_store.specs.DoneDeeds.{DoesDeeds}
 use Rattle.site_store.specs.Exceptions.{Exceptions}
-use Rattle.site_store.proofs.Composing.{begin_behind, go_on}
+use Rattle.site_store.proofs.Composing.{begin_after, go_on}
 use Rattle.site_store.proofs.Single.{reads_and_syncs}
 use Rattle.site_means.specs.Images.{Shape}
 use Rattle.site_means.specs.Meaning.{chosen_in, meaning_in}
@@ -28,7 +28,7 @@ use Rattle.xrc_journal.specs.declared.job.VolumeJob.{VolumeJob}
 use Rattle.site_store.specs.declared.store_error.StoreError.{StoreError}
 use Rattle.site_store.specs.Causes.{FailByCounts, HasStoreCause}
 use Rattle.site_store.specs.Jobs.{has_device, has_job_failed}
-use Rattle.site_store.specs.Marking.{IsAmong, IsMarked, MakesMark, MayPutMark, Syncs, behind_next_mark, excepted_with_waiting, rows_at_mark}
+use Rattle.site_store.specs.Marking.{IsAmong, IsMarked, MakesMark, MayPutMark, Syncs, after_next_mark, excepted_with_waiting, rows_at_mark}
 use Rattle.site_store.specs.Records.{IsOfMark, IsStore}
 use Rattle.site_store.specs.Sites.{SiteState, is_written}
 use Rattle.site_store.specs.Standing.{AreApplied, Leaves, SiteStands, StandsFast}
@@ -118,17 +118,17 @@ module _ (tells : Type 0) (site : SiteState) (failed : List Bool) (old mid : Pla
   seen_may view is may = subst (λ (s : SiteState). MayPutMark tells (record s { failed = failed }) mid) (sym is) may
 
   module _ (ended : Bool) (rows : List PairRow) (next : SiteState) (new : PlantState) where
-    -- A mark that is made then is made behind the syncs.
-    pub makes_behind : (result : Result (Unit {0}) StoreError) → WorksOn tells IsMarked mid new → MakesMark tells ended rows after next mid new result → MakesMark tells ended rows site next old new result
-    makes_behind result marks makes = record {
-      begins = λ told e stands. begin_behind old mid new (excepted_with_waiting site e) site.told [] (Marked site.at ended rows ∷ []) (no_deed told (excepted_with_waiting site e) site.told) (makes.begins told e (synced_stands told e stands));
+    -- A mark that is made then is made after the syncs.
+    pub makes_after : (result : Result (Unit {0}) StoreError) → WorksOn tells IsMarked mid new → MakesMark tells ended rows after next mid new result → MakesMark tells ended rows site next old new result
+    makes_after result marks makes = record {
+      begins = λ told e stands. begin_after old mid new (excepted_with_waiting site e) site.told [] (Marked site.at ended rows ∷ []) (no_deed told (excepted_with_waiting site e) site.told) (makes.begins told e (synced_stands told e stands));
       does = λ told. on_ok result (λ does e stands. go_on old mid new (excepted_with_waiting site e) site.told [] (Marked site.at ended rows ∷ []) (no_deed told (excepted_with_waiting site e) site.told) (does e (synced_stands told e stands))) (makes.does told);
       volumes = stay_then tells old mid new synced.works.elapses marks.elapses (record { bytes = λ told d. synced.bytes told (Volume d); images = λ told d. synced.moments told (Volume d) }) makes.volumes;
       durable = makes.durable;
     }
 
-    pub leaves_behind : (now : Exceptions → Exceptions) → Leaves tells now after next mid new → Leaves tells now site next old new
-    leaves_behind now leaves = record { fits = leaves.fits; stands = λ told e stands. leaves.stands told e (synced_stands told e stands) }
+    pub leaves_after : (now : Exceptions → Exceptions) → Leaves tells now after next mid new → Leaves tells now site next old new
+    leaves_after now leaves = record { fits = leaves.fits; stands = λ told e stands. leaves.stands told e (synced_stands told e stands) }
 
   -- ---- why it fails, and on what it works
 
@@ -138,8 +138,8 @@ module _ (tells : Type 0) (site : SiteState) (failed : List Bool) (old mid : Pla
   of_store (Journal j) store among = among
   of_store (Volume v) store among = store
 
-  pub cause_behind : (new : PlantState) (result : Result (Unit {0}) StoreError) → HasStoreCause mid.faults new.faults result → HasStoreCause old.faults new.faults result
-  cause_behind new result cause = record {
+  pub cause_after : (new : PlantState) (result : Result (Unit {0}) StoreError) → HasStoreCause mid.faults new.faults result → HasStoreCause old.faults new.faults result
+  cause_after new result cause = record {
     counts = record {
       fault = λ d named.
           let came = cause.counts.fault d named in
@@ -150,8 +150,8 @@ module _ (tells : Type 0) (site : SiteState) (failed : List Bool) (old mid : Pla
   }
 
   -- No job fails by the mark itself.
-  pub fails_behind : (new : PlantState) → WorksOn tells IsMarked mid new → FailByCounts site.failed failed old.faults new.faults
-  fails_behind new marks = record {
+  pub fails_after : (new : PlantState) → WorksOn tells IsMarked mid new → FailByCounts site.failed failed old.faults new.faults
+  fails_after new marks = record {
     size = synced.fails.size;
     alone = λ d lt was. let came = synced.fails.alone d lt was in (came.0, marks.others_faults (Volume d) (λ no. no) ∙ came.1);
     by_count = λ d lt was. subst (λ (n : ℕ). FailsByCount (slice_index_or failed d false) (old.faults (Volume d)) n) (sym (marks.others_faults (Volume d) (λ no. no))) (synced.fails.by_count d lt was);
@@ -162,19 +162,19 @@ module _ (tells : Type 0) (site : SiteState) (failed : List Bool) (old mid : Pla
   module _ (view next : SiteState) (new : PlantState) (put ended : Bool) (reached reach : Level) (is : view ≡ site) (ends : put ≡ ended) (reaches : reached ≡ reach) (same : next.failed ≡ failed) (marks : WorksOn tells IsMarked mid new) where
     pub seen_makes : (result : Result (Unit {0}) StoreError) → MakesMark tells put (rows_at_mark reached (record view { failed = failed }) failed) (record view { failed = failed }) next mid new result → MakesMark tells ended (rows_at_mark reach site next.failed) site next old new result
     seen_makes result makes =
-        makes_behind ended (rows_at_mark reach site next.failed) next new result marks
+        makes_after ended (rows_at_mark reach site next.failed) next new result marks
         (subst (λ (x : Type 0). x) (λ i. MakesMark tells (ends i) (rows_at_mark (reaches i) (record (is i) { failed = failed }) (sym same i)) (record (is i) { failed = failed }) next mid new result) makes)
 
     pub seen_leaves : (now : Exceptions → Exceptions) → Leaves tells now (record view { failed = failed }) next mid new → Leaves tells now site next old new
-    seen_leaves now leaves = leaves_behind ended (rows_at_mark reach site next.failed) next new now (subst (λ (x : Type 0). x) (λ i. Leaves tells now (record (is i) { failed = failed }) next mid new) leaves)
+    seen_leaves now leaves = leaves_after ended (rows_at_mark reach site next.failed) next new now (subst (λ (x : Type 0). x) (λ i. Leaves tells now (record (is i) { failed = failed }) next mid new) leaves)
 
-    pub seen_next : next ≡ behind_next_mark put (rows_at_mark reached (record view { failed = failed }) failed) failed (record view { failed = failed }) → next ≡ behind_next_mark ended (rows_at_mark reach site next.failed) next.failed site
-    seen_next behind =
-        behind ∙ (λ i. behind_next_mark (ends i) (rows_at_mark (reaches i) (record (is i) { failed = failed }) failed) failed (record (is i) { failed = failed }))
-        ∙ ap (λ (l : List Bool). behind_next_mark ended (rows_at_mark reach site l) l site) (sym same)
+    pub seen_next : next ≡ after_next_mark put (rows_at_mark reached (record view { failed = failed }) failed) failed (record view { failed = failed }) → next ≡ after_next_mark ended (rows_at_mark reach site next.failed) next.failed site
+    seen_next after =
+        after ∙ (λ i. after_next_mark (ends i) (rows_at_mark (reaches i) (record (is i) { failed = failed }) failed) failed (record (is i) { failed = failed }))
+        ∙ ap (λ (l : List Bool). after_next_mark ended (rows_at_mark reach site l) l site) (sym same)
 
     pub seen_fails : FailByCounts site.failed next.failed old.faults new.faults
-    seen_fails = subst (λ (l : List Bool). FailByCounts site.failed l old.faults new.faults) (sym same) (fails_behind new marks)
+    seen_fails = subst (λ (l : List Bool). FailByCounts site.failed l old.faults new.faults) (sym same) (fails_after new marks)
 
 among_mark : (site : SiteState) (d : Device) → IsAmong site.written d → IsOfMark site d
 among_mark site Control among = absurd among

@@ -3,29 +3,29 @@ use Rattle.std.proofs.Common.{◌≡◌, ℕ, List, [], ◌∷◌, ◌++◌, Opt
 use Rattle.ckd_track.specs.declared.rec.Rec.{Rec}
 use Rattle.pair_table.specs.declared.row.PairRow.{PairRow}
 use Rattle.site_means.specs.declared.means.Means.{Means}
-use Rattle.record_rows.specs.Deeds.{Deed, rows_behind, rows_by_deed, time_by_deed, time_meant_behind}
-use Rattle.site_store.specs.Deeds.{content_behind, content_by_deed, means_behind, means_by_deed, from_mark, with_time_and_rows}
+use Rattle.record_rows.specs.Deeds.{Deed, rows_after_deeds, rows_by_deed, time_by_deed, time_meant_after}
+use Rattle.site_store.specs.Deeds.{content_after, content_by_deed, means_after, means_by_deed, from_mark, with_time_and_rows}
 use Rattle.record_rows.specs.Deeds.Deed.{Logged, Changed, Marked}
-use Rattle.site_store.specs.Exceptions.{Exceptions, excepted_behind, excepted_by_deed}
-use Rattle.site_store.specs.DeedLaws.{DeedsLeaveInTurn, IsSameMark, MarksAreMeant, MeansAreBehind}
+use Rattle.site_store.specs.Exceptions.{Exceptions, excepted_after, excepted_by_deed}
+use Rattle.site_store.specs.DeedLaws.{DeedsLeaveInTurn, IsSameMark, MarksAreMeant, MeansAreAfter}
 
-rows_in_turn : (a b : List Deed) (rows : List PairRow) → rows_behind (a ++ b) rows ≡ rows_behind b (rows_behind a rows)
+rows_in_turn : (a b : List Deed) (rows : List PairRow) → rows_after_deeds (a ++ b) rows ≡ rows_after_deeds b (rows_after_deeds a rows)
 rows_in_turn [] b rows = refl
 rows_in_turn (deed ∷ a) b rows = rows_in_turn a b (rows_by_deed deed)
 
-time_in_turn : (a b : List Deed) (time : ℕ) → time_meant_behind (a ++ b) time ≡ time_meant_behind b (time_meant_behind a time)
+time_in_turn : (a b : List Deed) (time : ℕ) → time_meant_after (a ++ b) time ≡ time_meant_after b (time_meant_after a time)
 time_in_turn [] b time = refl
 time_in_turn (deed ∷ a) b time = time_in_turn a b (time_by_deed time deed)
 
-pub means_in_turn : (a b : List Deed) (means : Means) → means_behind (a ++ b) means ≡ means_behind b (means_behind a means)
+pub means_in_turn : (a b : List Deed) (means : Means) → means_after (a ++ b) means ≡ means_after b (means_after a means)
 means_in_turn [] b means = refl
 means_in_turn (deed ∷ a) b means = means_in_turn a b (means_by_deed means deed)
 
-pub content_in_turn : (d x : ℕ) (rows : List PairRow) (a b : List Deed) (old : Option (List Rec)) → content_behind d x rows (a ++ b) old ≡ content_behind d x (rows_behind a rows) b (content_behind d x rows a old)
+pub content_in_turn : (d x : ℕ) (rows : List PairRow) (a b : List Deed) (old : Option (List Rec)) → content_after d x rows (a ++ b) old ≡ content_after d x (rows_after_deeds a rows) b (content_after d x rows a old)
 content_in_turn d x rows [] b old = refl
 content_in_turn d x rows (deed ∷ a) b old = content_in_turn d x (rows_by_deed deed) a b (content_by_deed d x rows deed old)
 
-pub exceptions_in_turn : (rows : List PairRow) (a b : List Deed) (excepted : Exceptions) → excepted_behind rows (a ++ b) excepted ≡ excepted_behind (rows_behind a rows) b (excepted_behind rows a excepted)
+pub exceptions_in_turn : (rows : List PairRow) (a b : List Deed) (excepted : Exceptions) → excepted_after rows (a ++ b) excepted ≡ excepted_after (rows_after_deeds a rows) b (excepted_after rows a excepted)
 exceptions_in_turn rows [] b excepted = refl
 exceptions_in_turn rows (deed ∷ a) b excepted = exceptions_in_turn (rows_by_deed deed) a b (excepted_by_deed rows deed excepted)
 
@@ -38,17 +38,17 @@ leave_in_turn a b excepted rows = record {
   exceptions = exceptions_in_turn rows a b excepted;
 }
 
-pub means_are : MeansAreBehind
+pub means_are : MeansAreAfter
 means_are [] means = record { time = refl; rows = refl; session = refl; level = refl }
 means_are (Logged cut entries rows ∷ deeds) means = let are = means_are deeds (with_time_and_rows cut rows means) in record { time = are.time; rows = are.rows; session = are.session; level = are.level }
 means_are (Changed time rows ∷ deeds) means = let are = means_are deeds (with_time_and_rows time rows means) in record { time = are.time; rows = are.rows; session = are.session; level = are.level }
 means_are (Marked spot ended rows ∷ deeds) means = let are = means_are deeds (from_mark spot ended rows means) in record { time = are.time; rows = are.rows; session = are.session; level = are.level }
 
--- A deed behind others is what is meant last.
-last_means : (deeds : List Deed) (deed : Deed) (means : Means) → means_behind (deeds ++ deed ∷ []) means ≡ means_by_deed (means_behind deeds means) deed
+-- A deed after others is what is meant last.
+last_means : (deeds : List Deed) (deed : Deed) (means : Means) → means_after (deeds ++ deed ∷ []) means ≡ means_by_deed (means_after deeds means) deed
 last_means deeds deed means = means_in_turn deeds (deed ∷ []) means
 
-same_mark : (deeds : List Deed) (deed : Deed) (means : Means) → IsSameMark (means_behind deeds means) (means_by_deed (means_behind deeds means) deed) → IsSameMark (means_behind deeds means) (means_behind (deeds ++ deed ∷ []) means)
+same_mark : (deeds : List Deed) (deed : Deed) (means : Means) → IsSameMark (means_after deeds means) (means_by_deed (means_after deeds means) deed) → IsSameMark (means_after deeds means) (means_after (deeds ++ deed ∷ []) means)
 same_mark deeds deed means same = (ap (λ (m : Means). m.from) (last_means deeds deed means) ∙ same.0, ap (λ (m : Means). m.ended) (last_means deeds deed means) ∙ same.1)
 
 pub marks_are_meant : MarksAreMeant

@@ -19,7 +19,7 @@ use Rattle.site_store.specs.Jobs.{AreJobsSound, has_job_failed}
 use Rattle.site_store.specs.Recording.{MayPutRecord, ShowsRecord, group_with}
 use Rattle.site_store.specs.Sites.{SiteState}
 use Rattle.site_store.specs.Standing.{FitsPlant, StandsFast}
-use Rattle.site_store.specs.Placements.{spot_behind}
+use Rattle.site_store.specs.Placements.{spot_after_record}
 use Rattle.site_store.proofs.Below.{below_volumes}
 use Rattle.site_store.proofs.RowsLogged.{with_logged_rows}
 use Rattle.site_store.proofs.StandsEnd.{stands_end}
@@ -37,13 +37,13 @@ idle_site view site is idle =
     let none : view.waiting ≡ [] = ap (λ (s : SiteState). s.waiting) is ∙ idle in
     (λ i. record view { waiting = sym none i }) ∙ is
 
--- The site behind a record of rows, which its fields show.
+-- The site after a record of rows, which its fields show.
 pub logged_view : (view site : SiteState) (journals : ℕ) (placement : Placement) (cut : ℕ) (held items : List Item) (rows other : List PairRow) (table : Table) (ahead : Bool) (at : Spot) → view ≡ site → site.waiting ≡ [] → table ≡ with_rows view.table rows → ahead ≡ false
-    → at ≡ spot_behind journals placement held view.at → held ≡ items → record view { table = table; is_ahead = ahead; told = cond ahead other table.rows; time = cut; at = at; waiting = [] } ≡ with_logged_rows journals placement cut items rows site
+    → at ≡ spot_after_record journals placement held view.at → held ≡ items → record view { table = table; is_ahead = ahead; told = cond ahead other table.rows; time = cut; at = at; waiting = [] } ≡ with_logged_rows journals placement cut items rows site
 logged_view view site journals placement cut held items rows other table ahead at is idle table_is level at_is held_is =
     let none : view.waiting ≡ [] = ap (λ (s : SiteState). s.waiting) is ∙ idle in
     let told : cond ahead other table.rows ≡ rows = ap (λ (b : Bool). cond b other table.rows) level ∙ ap (λ (t : Table). t.rows) table_is in
-    let there : at ≡ spot_behind journals placement items view.at = at_is ∙ ap (λ (l : List Item). spot_behind journals placement l view.at) held_is in
+    let there : at ≡ spot_after_record journals placement items view.at = at_is ∙ ap (λ (l : List Item). spot_after_record journals placement l view.at) held_is in
     (λ i. record view { table = table_is i; is_ahead = level i; told = told i; time = cut; at = there i; waiting = sym none i }) ∙ ap (with_logged_rows journals placement cut items rows) is
 
 -- the rows with the hits of a site's table
@@ -51,11 +51,11 @@ abbrev pub rows_taken : (cut : ℕ) → SiteState → List PairRow
 rows_taken cut site = rows_with_hits site.level cut site.failed site.table.rows
 
 -- The same of a site that took the rows with the hits.
-pub taken_view : (view site : SiteState) (journals : ℕ) (placement : Placement) (cut : ℕ) (held items : List Item) (at : Spot) → view ≡ site → site.waiting ≡ [] → at ≡ spot_behind journals placement held view.at → held ≡ items
+pub taken_view : (view site : SiteState) (journals : ℕ) (placement : Placement) (cut : ℕ) (held items : List Item) (at : Spot) → view ≡ site → site.waiting ≡ [] → at ≡ spot_after_record journals placement held view.at → held ≡ items
     → record view { table = with_rows view.table (rows_taken cut view); is_ahead = false; told = rows_taken cut view; time = cut; at = at; waiting = [] } ≡ with_logged_rows journals placement cut items (rows_taken cut site) site
 taken_view view site journals placement cut held items at is idle at_is held_is =
     let none : view.waiting ≡ [] = ap (λ (s : SiteState). s.waiting) is ∙ idle in
-    let there : at ≡ spot_behind journals placement items view.at = at_is ∙ ap (λ (l : List Item). spot_behind journals placement l view.at) held_is in
+    let there : at ≡ spot_after_record journals placement items view.at = at_is ∙ ap (λ (l : List Item). spot_after_record journals placement l view.at) held_is in
     (λ i. record view { table = with_rows view.table (rows_taken cut view); is_ahead = false; told = rows_taken cut view; time = cut; at = there i; waiting = sym none i })
     ∙ ap (λ (s : SiteState). with_logged_rows journals placement cut items (rows_taken cut s) s) is
 

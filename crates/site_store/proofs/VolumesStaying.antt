@@ -41,8 +41,8 @@ pub stay_logged : (tells : Type 0) (read : Device → Type 0) (old mid new : Pla
 stay_logged tells read old mid new reads works put = stay_then tells old mid new works.elapses put.elapses (stay_read tells old mid reads) (stay_put tells mid new put)
 
 -- A mark was made, volumes were read, and a record was put.
-pub stay_behind : (tells : Type 0) (marks read : Device → Type 0) (old marked mid new : PlantState) → VolumesStay tells old marked → WorksOn tells marks old marked
+pub stay_after : (tells : Type 0) (marks read : Device → Type 0) (old marked mid new : PlantState) → VolumesStay tells old marked → WorksOn tells marks old marked
     → OnlyReads tells marked mid → WorksOnLent tells read marked mid → WorksOn tells IsJournal mid new → VolumesStay tells old new
-stay_behind tells marks read old marked mid new stay works reads lends put =
+stay_after tells marks read old marked mid new stay works reads lends put =
     stay_then tells old mid new (λ told. elapses_trans Control old marked mid (works.elapses told) (lends.elapses told)) put.elapses
     (stay_then tells old marked mid works.elapses lends.elapses stay (stay_read tells marked mid reads)) (stay_put tells mid new put)

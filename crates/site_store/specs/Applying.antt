@@ -67,6 +67,6 @@ pub record DoesApply (site : SiteState) (old new : PlantState) : Type 0 where
   pub same : AllFollow (SeesTheSame old) old new
   pub does : DoesDeeds none_excepted site.told [] old new
 
--- A track of which an image waited isn't excepted behind it.
+-- A track of which an image waited isn't excepted after it.
 abbrev pub excepted_by_apply : SiteState → Exceptions → Exceptions
 excepted_by_apply site excepted d x = excepted d x && not (have_image site.waiting d x)

@@ -1,4 +1,4 @@
--- A command's change and suspensions as records of rows, the site behind them, and the deeds that these are.
+-- A command's change and suspensions as records of rows, the site after them, and the deeds that these are.
 use Rattle.std.specs.Prelude.{◌≡◌, ◌≢◌, ◌↔◌, ℕ, ◌+◌, ◌*◌, ◌≤◌, List, [], ◌∷◌, ◌++◌, length, map, Bool, true, false, Option, Some, None, Result, OnOk, IsOk, IsErrOf}
 use Rattle.std.specs.List.{flat_map}
 use Rattle.xrc_journal.specs.declared.layout.TheConstants.{ROW_ITEM}
@@ -30,7 +30,7 @@ use Rattle.record_rows.specs.Deeds.Deed.{Changed, Marked}
 use Rattle.site_store.specs.declared.hits.Hits.{Hits}
 use Rattle.site_store.specs.Hits.{AreHits, pairs_with_next, with_hits}
 use Rattle.site_store.specs.Placements.{is_spent, is_suspension_spent, placement_of}
-use Rattle.site_store.specs.Records.{behind_mark, behind_record}
+use Rattle.site_store.specs.Records.{after_mark, after_record}
 
 -- ---- the items
 
@@ -67,7 +67,7 @@ named_devices (GoneRows devices) = length devices
 named_devices (Suspended devices) = length devices
 named_devices Ended = 0
 
--- the rows with the hits of jobs that have failed, behind the command's rows and behind those on the devices
+-- the rows with the hits of jobs that have failed, after the command's rows and after those on the devices
 abbrev pub table_with_hits : (cut : ℕ) → (failed : List Bool) → SiteState → List PairRow
 table_with_hits cut failed site = rows_with_hits site.level cut failed site.table.rows
 
@@ -100,7 +100,7 @@ pub record AreChangeItems (cut : ℕ) (change : Change) (failed : List Bool) (si
   pub parts : items ≡ changed_items change site.table.rows ++ hits
   pub lead : Lead plant.volumes items site.told (rows_with_hits site.level cut failed site.table.rows)
 
--- The record of a change as it is formed: the rows that it names, and behind them those of the hits at its cut.
+-- The record of a change as it is formed: the rows that it names, and after them those of the hits at its cut.
 pub record FormsChange (level : Level) (cut : Stamp) (failed : List Bool) (change : Change) (rows : List PairRow) (held now : BodyState) : Type 0 where
   pub hits : Hits
   pub are : AreHits level cut failed [] rows hits
@@ -115,18 +115,18 @@ pub record IsPlacementOfChange (cut : ℕ) (change : Change) (site : SiteState) 
   pub formed : AreChangeItems cut change site.failed site plant first
   pub placement_is : placement ≡ placement_of plant site first
 
--- The site behind a change's record that was placed so.
-pub record IsBehindChange (cut : ℕ) (change : Change) (placement : Placement) (site next : SiteState) (old : PlantState) : Type 0 where
+-- The site after a change's record that was placed so.
+pub record IsAfterChange (cut : ℕ) (change : Change) (placement : Placement) (site next : SiteState) (old : PlantState) : Type 0 where
   pub items : List Item
   pub are : AreChangeItems cut change next.failed site old items
-  pub next_is : next ≡ behind_record old.journals placement cut items (table_with_hits cut next.failed site) next.failed site
+  pub next_is : next ≡ after_record old.journals placement cut items (table_with_hits cut next.failed site) next.failed site
 
--- A change is logged with the hits behind it. The numbers by its placement decide whether it is logged at all.
+-- A change is logged with the hits after it. The numbers by its placement decide whether it is logged at all.
 pub record LogsRows (cut : ℕ) (change : Change) (site next : SiteState) (old : PlantState) (result : Result (Unit {0}) StoreError) : Type 0 where
   pub placement : Placement
   pub is_placement : IsPlacementOfChange cut change site old placement
   pub spent : IsErrOf result Spent ↔ (is_spent placement site ≡ true)
-  pub behind : OnOk result (IsBehindChange cut change placement site next old)
+  pub after : OnOk result (IsAfterChange cut change placement site next old)
 
 -- Where there is nothing to log, nothing is called.
 pub record LogsChange {P : Type 0} (cut : ℕ) (change : Change) (site next : SiteState) (old : PlantState) (was is : P)
@@ -170,11 +170,11 @@ pub record IsPlacementOfHits (cut : ℕ) (site : SiteState) (plant : PlantState)
   pub are : AreHitItems cut site plant items
   pub placement_is : placement ≡ placement_of plant site items
 
--- The site behind suspensions: behind their record, or behind a mark that was made in its place.
+-- The site after suspensions: after their record, or after a mark that was made in its place.
 abbrev pub with_suspensions : (journals : ℕ) → Placement → (cut : ℕ) → List Item → (failed : List Bool) → SiteState → SiteState
-with_suspensions journals Here cut items failed site = behind_record journals Here cut items (told_with_hits cut site.failed site) site.failed site
-with_suspensions journals Switched cut items failed site = behind_record journals Switched cut items (told_with_hits cut site.failed site) site.failed site
-with_suspensions journals MarkedFirst cut items failed site = behind_mark site.mark.ended (told_with_hits site.time failed site) failed site
+with_suspensions journals Here cut items failed site = after_record journals Here cut items (told_with_hits cut site.failed site) site.failed site
+with_suspensions journals Switched cut items failed site = after_record journals Switched cut items (told_with_hits cut site.failed site) site.failed site
+with_suspensions journals MarkedFirst cut items failed site = after_mark site.mark.ended (told_with_hits site.time failed site) failed site
 
 -- Suspensions that failed jobs call for are logged; where a mark has to be made first, it tells them, and no record follows. Where no
 -- job failed anew, nothing is called.

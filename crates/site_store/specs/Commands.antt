@@ -1,4 +1,4 @@
--- Commands on a site's pairs: the site behind a change of the table.
+-- Commands on a site's pairs: the site after a change of the table.
 use Rattle.std.specs.Prelude.{◌≡◌, ◌≢◌, ℕ, length, nat_lt, nat_le, IsTrue, ◌+◌, ◌*◌, ◌<◌, ◌≤◌, ◌==◌, ◌&&◌, ◌||◌, List, [], ◌∷◌, Bool, true, false, Option, Some, None, Ok, if◌then◌else◌}
 use Rattle.std.specs.List.{list_all}
 use Rattle.ckd_track.specs.declared.layout.TheConstants.{CYLINDER_LENGTH, FIRST_SLOT}
@@ -72,7 +72,7 @@ alters Ended = false
 abbrev pub ahead_of : Table → SiteState → SiteState
 ahead_of table site = record site { table = table; is_ahead = true }
 
--- The same behind a command's change: the job of an added pair's device may be used again.
+-- The same after a command's change: the job of an added pair's device may be used again.
 abbrev pub with_change : Table → Change → SiteState → SiteState
 with_change table change site =
     record site { table = table; is_ahead = site.is_ahead || alters change; failed = without_flag 0 change site.failed }
@@ -83,7 +83,7 @@ excepted_by_change change site excepted d x = excepted d x || (has_failed site d
 
 -- ---- what comes next
 
--- A change is to be logged behind a site: it names few devices, and its items lead from the rows on the devices to those of the table.
+-- A change is to be logged after a site: it names few devices, and its items lead from the rows on the devices to those of the table.
 pub record IsToLog (change : Change) (site : SiteState) : Type 0 where
   pub few : named_devices change ≤ MOST_SITE_VOLUMES
   pub ahead : changed_items change site.table.rows ≢ [] → site.is_ahead ≡ true
@@ -97,24 +97,24 @@ label_has_volume plant label =
 abbrev pub LabelsFit : PlantState → Naming → Type 0
 LabelsFit plant names = IsTrue (list_all (label_has_volume plant) names.labels)
 
--- the site behind a command that was answered with a change
-abbrev pub behind_command : Naming → (session : List ℕ) → Command → (at : ℕ) → Change → SiteState → SiteState
-behind_command names session command at change site = with_change (table_after names site.table session command at) change site
+-- the site after a command that was answered with a change
+abbrev pub after_command : Naming → (session : List ℕ) → Command → (at : ℕ) → Change → SiteState → SiteState
+after_command names session command at change site = with_change (table_after names site.table session command at) change site
 
--- A command calls no device: what stood stands behind it, but that tracks of an added pair's device may be excepted.
+-- A command calls no device: what stood stands after it, but that tracks of an added pair's device may be excepted.
 abbrev pub CommandsLeaveSites : (tells : Type 0) → PlantState → Type 0
 CommandsLeaveSites tells plant = (names : Naming) (site : SiteState) (session : List ℕ) (command : Command) (at : ℕ) (change : Change)
     → LabelsFit plant names → answer names site.table session command ≡ Ok change → FitsPlant site plant
-    → Leaves tells (excepted_by_change change site) site (behind_command names session command at change site) plant plant
+    → Leaves tells (excepted_by_change change site) site (after_command names session command at change site) plant plant
 
 -- the site with a row that was put
-abbrev pub behind_put : PairRow → SiteState → SiteState
-behind_put row site = ahead_of (with_rows site.table (with_row row site.table.rows)) site
+abbrev pub after_put : PairRow → SiteState → SiteState
+after_put row site = ahead_of (with_rows site.table (with_row row site.table.rows)) site
 
 -- The same of a row that is put, whose device is a volume that has the slots of the row's cylinders.
 abbrev pub PutRowsLeaveSites : (tells : Type 0) → PlantState → Type 0
 PutRowsLeaveSites tells plant = (row : PairRow) (site : SiteState) → IsTrue (row_has_volume plant row) → FitsPlant site plant
-    → Leaves tells (λ e. e) site (behind_put row site) plant plant
+    → Leaves tells (λ e. e) site (after_put row site) plant plant
 
 -- A change that is to be logged may be logged where the site stands, no item waits, and the cut isn't below the site's time.
 abbrev pub ChangesMayBeLogged : (tells : Type 0) → PlantState → Type 0

@@ -38,10 +38,10 @@ content_by_deed device track rows (Marked spot ended next) old = old
 
 -- ---- deeds one after another
 
-abbrev pub means_behind : List Deed → Means → Means
-means_behind [] means = means
-means_behind (deed ∷ deeds) means = means_behind deeds (means_by_deed means deed)
+abbrev pub means_after : List Deed → Means → Means
+means_after [] means = means
+means_after (deed ∷ deeds) means = means_after deeds (means_by_deed means deed)
 
-abbrev pub content_behind : (device track : ℕ) → List PairRow → List Deed → Option (List Rec) → Option (List Rec)
-content_behind device track rows [] old = old
-content_behind device track rows (deed ∷ deeds) old = content_behind device track (rows_by_deed deed) deeds (content_by_deed device track rows deed old)
+abbrev pub content_after : (device track : ℕ) → List PairRow → List Deed → Option (List Rec) → Option (List Rec)
+content_after device track rows [] old = old
+content_after device track rows (deed ∷ deeds) old = content_after device track (rows_by_deed deed) deeds (content_by_deed device track rows deed old)

@@ -7,7 +7,7 @@ use Rattle.pair_table.specs.declared.row.PairRow.{PairRow}
 use Rattle.passages.specs.Points.{GoesThrough, Passed}
 use Rattle.record_rows.specs.Deeds.{Deed}
 use Rattle.site_store.specs.Exceptions.{Exceptions}
-use Rattle.site_store.specs.Seeing.{SeesBehind}
+use Rattle.site_store.specs.Seeing.{SeesAfter}
 
 -- the point at which a deed is done: the deeds that are done by then, of which it is the last
 abbrev pub PassedDeed : Type 0
@@ -25,7 +25,7 @@ points_of done (t ∷ moments) (deed ∷ deeds) = deed_passed t done deed ∷ po
 -- From one moment of a plant to another each choice shows how many of the deeds are done: between two of them it shows the one or the
 -- other number, and at its own moment each is shown by all.
 abbrev pub GoesThroughDeeds : (old new : PlantState) → Exceptions → List PairRow → (moments : List ℕ) → List Deed → (on_its_way : Option (List Deed)) → Type 0
-GoesThroughDeeds old new excepted rows moments deeds next = GoesThrough (IsChoice new) (SeesBehind old excepted rows) old.clock [] (points_of [] moments deeds) new.clock next
+GoesThroughDeeds old new excepted rows moments deeds next = GoesThrough (IsChoice new) (SeesAfter old excepted rows) old.clock [] (points_of [] moments deeds) new.clock next
 
 -- the deeds that are done once the next one is, where so many are
 abbrev pub with_next : (done : ℕ) → List Deed → List Deed
@@ -39,7 +39,7 @@ pub record DoesDeeds (excepted : Exceptions) (rows : List PairRow) (deeds : List
   pub moments : List ℕ
   pub each : length moments ≡ length deeds
   pub goes : 0 < old.clock → GoesThroughDeeds old new excepted rows moments deeds None
-  pub now : AtNow (SeesBehind old excepted rows deeds) new
+  pub now : AtNow (SeesAfter old excepted rows deeds) new
 
 -- Calls do deeds as far as they come: some first ones are done, and the next one may be on its way.
 pub record BeginsDeeds (excepted : Exceptions) (rows : List PairRow) (deeds : List Deed) (old new : PlantState) : Type 0 where
@@ -49,4 +49,4 @@ pub record BeginsDeeds (excepted : Exceptions) (rows : List PairRow) (deeds : Li
   pub moments : List ℕ
   pub few : length moments ≤ length deeds
   pub goes : 0 < old.clock → GoesThroughDeeds old new excepted rows moments deeds (Some (with_next (length moments) deeds))
-  pub now : AtNow (λ c. SeesBehind old excepted rows (take (length moments) deeds) c ⊎ SeesBehind old excepted rows (with_next (length moments) deeds) c) new
+  pub now : AtNow (λ c. SeesAfter old excepted rows (take (length moments) deeds) c ⊎ SeesAfter old excepted rows (with_next (length moments) deeds) c) new

@@ -8,7 +8,7 @@ use Rattle.image_former.specs.Entries.{is_entry_on}
 use Rattle.pair_table.specs.States.{is_device_suspended}
 use Rattle.record_rows.specs.Deeds.{Deed, entries_by_deed, rows_by_deed}
 
--- A track is excepted where an item of it was logged before its device's job last failed, and wasn't applied. Once a mark counts behind
+-- A track is excepted where an item of it was logged before its device's job last failed, and wasn't applied. Once a mark counts after
 -- that item, the slot may hold anything.
 abbrev pub Exceptions : Type 0
 Exceptions = (device track : ℕ) → Bool
@@ -22,10 +22,10 @@ is_kept device rows = list_any (λ r. is_of device r && not (is_device_suspended
 abbrev pub is_whole_on : List PairRow → (device track : ℕ) → WaitingEntry → Bool
 is_whole_on rows device track entry = is_entry_on rows device track entry && is_whole entry.kind
 
--- The exceptions behind a deed: each track of a device that its rows don't keep, and those before it of which it logs no whole image.
+-- The exceptions after a deed: each track of a device that its rows don't keep, and those before it of which it logs no whole image.
 abbrev pub excepted_by_deed : List PairRow → Deed → Exceptions → Exceptions
 excepted_by_deed rows deed excepted = λ d x. not (is_kept d (rows_by_deed deed)) || (excepted d x && not (list_any (is_whole_on rows d x) (entries_by_deed deed)))
 
-abbrev pub excepted_behind : List PairRow → List Deed → Exceptions → Exceptions
-excepted_behind rows [] excepted = excepted
-excepted_behind rows (deed ∷ deeds) excepted = excepted_behind (rows_by_deed deed) deeds (excepted_by_deed rows deed excepted)
+abbrev pub excepted_after : List PairRow → List Deed → Exceptions → Exceptions
+excepted_after rows [] excepted = excepted
+excepted_after rows (deed ∷ deeds) excepted = excepted_after (rows_by_deed deed) deeds (excepted_by_deed rows deed excepted)

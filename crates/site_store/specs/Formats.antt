@@ -84,7 +84,7 @@ pub record IsShut (plant : PlantState) : Type 0 where
   pub control : IsDurable (on plant Control)
   pub journal : IsDurable (on plant (Journal 0))
 
--- Behind a start the gates that it shut have the byte 0: that of the first record, and that of the control's second slot if it read 1. The
+-- After a start the gates that it shut have the byte 0: that of the first record, and that of the controller's second slot if it read 1. The
 -- first mark stands in the first slot.
 pub record HasZeroedGates (old new : PlantState) : Type 0 where
   pub second : slice_index (old.bytes Control) second_slot ≡ 1 → slice_index (new.bytes Control) second_slot ≡ 0

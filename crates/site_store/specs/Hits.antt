@@ -1,4 +1,4 @@
--- What a record changes of rows: what the group makes of them, and behind that the hits of failed volumes.
+-- What a record changes of rows: what the group makes of them, and after that the hits of failed volumes.
 use Rattle.std.specs.Prelude.{◌≡◌, ℕ, ◌<◌, ◌||◌, List, [], ◌∷◌, Bool, true, false, Option, Some, None, slice_index_or, if◌then◌else◌}
 use Rattle.std.specs.List.{flat_map}
 use Rattle.xrc_edge.specs.declared.limits.TheConstants.{MOST_SITE_VOLUMES}
@@ -76,12 +76,12 @@ pub record AreDevices (devices : List ℕ) (hit : HitDevices) : Type 0 where
   pub flags : (d : ℕ) → d < MOST_SITE_VOLUMES → slice_index_or hit.are d false ≡ is_among d devices
   pub any_is : hit.any ≡ are_some devices
 
--- The flags say of each device whether the hits of a mark or those behind it reach its row.
+-- The flags say of each device whether the hits of a mark or those after it reach its row.
 abbrev pub AreReached : Level → (marked hit : List ℕ) → (flags : List Bool) → Type 0
 AreReached level marked hit flags =
     (rows : List PairRow) (r : PairRow) → r.device < MOST_SITE_VOLUMES → slice_index_or flags r.device false ≡ (is_reached (reach_of level rows) marked r || is_reached (reach_of level rows) hit r)
 
--- The hits of these rows once these jobs have failed, at a time, behind a mark in which these devices were hit.
+-- The hits of these rows once these jobs have failed, at a time, after a mark in which these devices were hit.
 pub record AreHits (level : Level) (time : Stamp) (failed : List Bool) (marked : List ℕ) (rows : List PairRow) (hits : Hits) : Type 0 where
   pub devices : (d : ℕ) → d < MOST_SITE_VOLUMES → is_hit_by hits d ≡ is_among d (hit_now failed rows)
   pub reached : AreReached level marked (hit_now failed rows) hits.reached
@@ -93,6 +93,6 @@ abbrev pub state_or : PairState → Option PairState → PairState
 state_or state (Some next) = next
 state_or state None = state
 
--- What the group makes of a row, and hits behind it.
+-- What the group makes of a row, and hits after it.
 abbrev pub with_group_and_hits : FormedGroup → Hits → NextStates
 with_group_and_hits group hits row = let grouped = state_with_group group row in later_state (next_by_hits hits row.device (state_or row.state grouped)) grouped

@@ -15,7 +15,7 @@ abbrev pub are_home_from : {V : Type 0} → (first : ℕ) → List (VolumeJob V)
 are_home_from first [] = true
 are_home_from first (job ∷ jobs) = job.device == first && is_none job.disk && are_home_from (suc first) jobs
 
--- the most bytes of a record's body in a site of so many controls: what its journals need, but for a record's header, its gate and a
+-- the most bytes of a record's body in a site of so many controllers: what its journals need, but for a record's header, its gate and a
 -- switch
 abbrev pub body_room : (controls : ℕ) → ℕ
 body_room controls = 8146 + controls * OF_CONTROL

@@ -1,4 +1,4 @@
--- A formed group as a record: its items, the site behind it, and the deeds that this is.
+-- A formed group as a record: its items, the site after it, and the deeds that this is.
 use Rattle.std.specs.Prelude.{◌≡◌, ◌≢◌, ◌≤◌, ◌⊎◌, ◌↔◌, ℕ, ◌+◌, ◌*◌, ◌<◌, ◌&&◌, List, [], ◌∷◌, ◌++◌, length, Bool, true, false, None, Result, OnOk, IsErrOf, IsSomeAnd, IsTrue, slice_index_or, not}
 use Rattle.std.specs.List.{All, list_any, list_all}
 use Rattle.xrc_journal.specs.declared.layout.TheConstants.{ROW_ITEM}
@@ -24,7 +24,7 @@ use Rattle.image_former.specs.Entries.{HasEntry, entry_device, entry_row, is_dev
 use Rattle.image_former.specs.Forms.{AreItemsWhereAllowed, is_image}
 use Rattle.record_rows.specs.ChangedRows.{rows_in_states}
 use Rattle.record_rows.specs.Hits.{hit_now, is_down, rows_marked}
-use Rattle.record_rows.specs.Records.{rows_behind_mark, rows_with_record}
+use Rattle.record_rows.specs.Records.{rows_after_mark, rows_with_record}
 use Rattle.site_means.specs.Walk.{first_unfit, rows_through}
 use Rattle.site_store.specs.declared.store_error.StoreError.{StoreError}
 use Rattle.site_store.specs.declared.store_error.StoreError.TheVariants.{Spent}
@@ -41,7 +41,7 @@ use Rattle.site_store.specs.declared.hits.Hits.{Hits}
 use Rattle.site_store.specs.Hits.{NextStates, pairs_with_next, with_group_and_hits}
 use Rattle.site_store.specs.Jobs.{are_home_from, has_device}
 use Rattle.site_store.specs.Placements.{is_spent, placement_of}
-use Rattle.site_store.specs.Records.{IsOfRecord, behind_record, behind_placement, one_more}
+use Rattle.site_store.specs.Records.{IsOfRecord, after_record, after_placement, one_more}
 
 -- ---- the entries
 
@@ -119,11 +119,11 @@ is_wanted_live wanted failed device = slice_index_or wanted device false && not 
 abbrev pub is_formed : List PairRow → List WaitingEntry → (failed : List Bool) → (device : ℕ) → Bool
 is_formed rows entries failed device = list_any (is_entry_of_device rows device) entries && not (slice_index_or failed device false)
 
--- a body with the pairs of rows that change behind its items
+-- a body with the pairs of rows that change after its items
 abbrev pub with_pairs : NextStates → List PairRow → BodyState → BodyState
 with_pairs next rows held = record { items = held.items ++ pairs_with_next next rows; room = held.room }
 
--- One image of each track that has an entry, but for the tracks of failed volumes, and behind them pairs that lead from the rows before
+-- One image of each track that has an entry, but for the tracks of failed volumes, and after them pairs that lead from the rows before
 -- the record to those after it. From what reads give, the images make of their tracks what the entries make of them.
 pub record AreItemsOf (tells : Type 0) (group : FormedGroup) (failed : List Bool) (before after : List PairRow) (plant : PlantState)
     (items : List Item) : Type 0 where
@@ -154,7 +154,7 @@ pub record FormsRecord (tells : Type 0) (group : FormedGroup) (rows : List PairR
 -- A job that failed stays failed: these jobs had failed between two moments.
 pub record FailedBetween (first between last : List Bool) : Type 0 where
   pub before : (d : ℕ) → IsTrue (is_down first d) → IsTrue (is_down between d)
-  pub behind : (d : ℕ) → IsTrue (is_down between d) → IsTrue (is_down last d)
+  pub after : (d : ℕ) → IsTrue (is_down between d) → IsTrue (is_down last d)
 
 -- The rows before the record: those of the site, or of the mark that was made first, once these jobs had failed.
 abbrev pub rows_before : Placement → SiteState → (early : List Bool) → List PairRow
@@ -162,11 +162,11 @@ rows_before Here site early = site.told
 rows_before Switched site early = site.told
 rows_before MarkedFirst site early = rows_marked site.time (hit_now early site.told) site.told
 
--- The rows behind it. `early` are the jobs that have failed by the mark, `failed` those by the record.
+-- The rows after it. `early` are the jobs that have failed by the mark, `failed` those by the record.
 abbrev pub rows_logged : Placement → SiteState → FormedGroup → (early failed : List Bool) → List PairRow
 rows_logged Here site group early failed = rows_with_record site.level group failed site.told
 rows_logged Switched site group early failed = rows_with_record site.level group failed site.told
-rows_logged MarkedFirst site group early failed = rows_behind_mark site.level (hit_now early site.told) group failed (rows_before MarkedFirst site early)
+rows_logged MarkedFirst site group early failed = rows_after_mark site.level (hit_now early site.told) group failed (rows_before MarkedFirst site early)
 
 -- The jobs that had failed before the record that is logged was formed: those of the site, or those at the mark that was made first.
 abbrev pub failed_before : Placement → SiteState → (early : List Bool) → List Bool
@@ -202,23 +202,23 @@ pub record DoesLog (tells : Type 0) (group : FormedGroup) (placement : Placement
   pub begins : tells → (e : Exceptions) → SiteStands e site old → BeginsDeeds e site.told (log_deeds placement site group early next.failed) old new
   pub does : tells → OnOk result ((e : Exceptions) → SiteStands e site old → DoesDeeds e site.told (log_deeds placement site group early next.failed) old new)
 
--- the site behind the record of a group with these items, once these jobs have failed
-abbrev pub behind_group : (journals : ℕ) → Placement → FormedGroup → List Item → (early failed : List Bool) → SiteState → SiteState
-behind_group journals placement group items early failed site =
+-- the site after the record of a group with these items, once these jobs have failed
+abbrev pub after_group : (journals : ℕ) → Placement → FormedGroup → List Item → (early failed : List Bool) → SiteState → SiteState
+after_group journals placement group items early failed site =
     let rows = rows_logged placement site group early failed in
-    record (behind_record journals placement group.cut.0 items rows failed site) { since = one_more (behind_placement placement site).since; waiting = items }
+    record (after_record journals placement group.cut.0 items rows failed site) { since = one_more (after_placement placement site).since; waiting = items }
 
--- The group is logged by a placement: behind a switch where it doesn't fit, and behind a mark where this would lead into a set that isn't marked
+-- The group is logged by a placement: after a switch where it doesn't fit, and after a mark where this would lead into a set that isn't marked
 -- yet.
 pub record LogsBy (tells : Type 0) (group : FormedGroup) (placement : Placement) (site next : SiteState) (old new : PlantState)
     (result : Result (Unit {0}) StoreError) : Type 0 where
   -- the jobs that had failed by the mark that was made first
   pub early : List Bool
   pub early_failed : FailedBetween site.failed early next.failed
-  -- Behind the mark, too, volumes without an entry aren't read.
+  -- After the mark, too, volumes without an entry aren't read.
   pub by_entries : FailByEntries site.table.rows group.entries (failed_before placement site early) next.failed
   pub items : OnOk result (AreItemsOf tells group next.failed (rows_before placement site early) next.told old next.waiting)
-  pub next_is : OnOk result (next ≡ behind_group old.journals placement group next.waiting early next.failed site)
+  pub next_is : OnOk result (next ≡ after_group old.journals placement group next.waiting early next.failed site)
   pub does : DoesLog tells group placement early site next old new result
 
 -- Its numbers decide whether it is logged at all, and the record as it was formed first decides the placement.

@@ -1,4 +1,4 @@
--- A mark: the site behind it, the deed that it is, and what is written for it.
+-- A mark: the site after it, the deed that it is, and what is written for it.
 use Rattle.std.specs.Prelude.{◌≡◌, ◌≢◌, ◌<◌, ◌-◌, ◌^◌, ◌≤◌, ◌⊎◌, ◌↔◌, ℕ, ◌||◌, cond, List, [], ◌∷◌, Bool, true, false, Some, Ok, Err, Result, OnOk, IsErrOf, IsTrue, slice_index_or}
 use Rattle.std.specs.List.{Contains, list_any}
 use Rattle.crash_plant.specs.declared.layout.TheConstants.{CONTROL_LENGTH, STATE_LENGTH}
@@ -24,7 +24,7 @@ use Rattle.site_store.specs.Standing.{SiteStands, StandsFast}
 use Rattle.site_store.specs.DoneDeeds.{BeginsDeeds, DoesDeeds}
 use Rattle.site_store.specs.Exceptions.{Exceptions}
 use Rattle.record_rows.specs.Deeds.Deed.{Marked}
-use Rattle.site_store.specs.Records.{VolumesStay, behind_mark}
+use Rattle.site_store.specs.Records.{VolumesStay, after_mark}
 use Rattle.record_rows.specs.Records.{rows_with_hits}
 use Rattle.site_store.specs.Placements.{is_mark_spent}
 
@@ -42,9 +42,9 @@ excepted_with_waiting site excepted d x = excepted d x || list_any (is_of_track 
 abbrev pub rows_at_mark : (reach : Level) → SiteState → (failed : List Bool) → List PairRow
 rows_at_mark reach site failed = rows_with_hits reach site.time failed site.told
 
--- the site behind the next mark with these rows: a change that waits to be logged waits on, and its table stays ahead of them
-abbrev pub behind_next_mark : (ended : Bool) → (rows : List PairRow) → (failed : List Bool) → SiteState → SiteState
-behind_next_mark ended rows failed site = record (behind_mark ended rows failed site) { table = cond site.is_ahead site.table (with_rows site.table rows); is_ahead = site.is_ahead }
+-- the site after the next mark with these rows: a change that waits to be logged waits on, and its table stays ahead of them
+abbrev pub after_next_mark : (ended : Bool) → (rows : List PairRow) → (failed : List Bool) → SiteState → SiteState
+after_next_mark ended rows failed site = record (after_mark ended rows failed site) { table = cond site.is_ahead site.table (with_rows site.table rows); is_ahead = site.is_ahead }
 
 -- A mark with these rows is the next deed.
 pub record MakesMark (tells : Type 0) (ended : Bool) (rows : List PairRow) (site next : SiteState) (old new : PlantState) (result : Result (Unit {0}) StoreError) : Type 0 where
@@ -63,7 +63,7 @@ DoesMark tells site next ended old new result = MakesMark tells ended (rows_at_m
 -- After Ok the mark counts, and its rows tell the hits of all jobs that have failed by then, those of its own syncs among them. The
 -- numbers are spent where the mark that counts has the last one; nothing is called then.
 pub record Marks {P : Type 0} (site next : SiteState) (ended : Bool) (was is : P) (result : Result (Unit {0}) StoreError) : Type 0 where
-  pub next_is : OnOk result (next ≡ behind_mark ended (rows_at_mark site.level site next.failed) next.failed site)
+  pub next_is : OnOk result (next ≡ after_mark ended (rows_at_mark site.level site next.failed) next.failed site)
   pub spent : IsErrOf result Spent ↔ (is_mark_spent site ≡ true)
   pub nothing : IsErrOf result Spent → (next ≡ site) × (is ≡ was)
 
@@ -74,7 +74,7 @@ pub record MayPutMark (tells : Type 0) (site : SiteState) (plant : PlantState) :
   pub number : site.mark.number < 2 ^ 64 - 2
   pub synced : tells → (d : ℕ) → is_written site d ≡ true → has_failed site d ≡ false → IsDurable (on plant (Volume d))
 
--- A mark may be written behind its state with these rows, which it names by their session.
+-- A mark may be written after its state with these rows, which it names by their session.
 pub record MayWriteMark (tells : Type 0) (mark : Mark) (table : Table) (plant : PlantState) : Type 0 where
   pub control : CONTROL_LENGTH ≤ plant.lengths Control
   pub state : STATE_LENGTH ≤ plant.lengths State
@@ -93,7 +93,7 @@ IsMarked State = Unit {0}
 IsMarked (Journal j) = ⊥
 IsMarked (Volume v) = ⊥
 
--- While a mark is put behind its state, the chosen mark is as it was, or is the new one and its slot of the state holds what was put
+-- While a mark is put after its state, the chosen mark is as it was, or is the new one and its slot of the state holds what was put
 -- there. The other slot of the state, and all other devices, are as they were.
 pub record PutsMark (lengths : List ℕ) (volumes : ℕ) (mark : Mark) (stored : Stored) (b c : Choice) : Type 0 where
   pub chosen : (chosen_mark lengths (c Control) ≡ chosen_mark lengths (b Control)) ⊎ ((chosen_mark lengths (c Control) ≡ Ok (Some mark)) × (state_of volumes mark.session mark.state_slot (c State) ≡ Ok stored))

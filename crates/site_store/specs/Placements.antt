@@ -1,4 +1,4 @@
--- Where a record is placed: at the journal's end, behind a switch to the next data set, or behind a mark and a switch.
+-- Where a record is placed: at the journal's end, after a switch to the next data set, or after a mark and a switch.
 use Rattle.std.specs.Prelude.{ℕ, ◌+◌, ◌-◌, ◌^◌, ◌==◌, ◌||◌, List, length, Bool, nat_le, nat_lt, if◌then◌else◌}
 use Rattle.crash_plant.specs.declared.layout.TheConstants.{FRONT, SWITCH}
 use Rattle.crash_plant.specs.declared.device.Device.TheVariants.{Journal}
@@ -10,7 +10,7 @@ use Rattle.site_store.specs.declared.placement.Placement.{Placement}
 use Rattle.site_store.specs.declared.placement.Placement.TheVariants.{Here, Switched, Marked}
 use Rattle.site_store.specs.Sites.{SiteState}
 
--- A group fits at a spot, with its header before the items and room for a switch behind them.
+-- A group fits at a spot, with its header before the items and room for a switch after them.
 abbrev pub record_has_room : PlantState → Spot → List Item → Bool
 record_has_room plant at items = nat_le (at.place + FRONT + length (body_spelling items) + SWITCH) (plant.lengths (Journal at.set))
 
@@ -27,7 +27,7 @@ placement_of plant site items = placement_from plant site.at site.mark.at items
 abbrev pub most : ℕ
 most = 2 ^ 64 - 2
 
--- A record that is placed so would need a number behind the greatest, or the mark before it would: these are the next record's and the
+-- A record that is placed so would need a number after the greatest, or the mark before it would: these are the next record's and the
 -- last mark's numbers.
 abbrev pub record_needs_more : Placement → (next mark : ℕ) → Bool
 record_needs_more Here next mark = nat_lt most next
@@ -52,12 +52,12 @@ is_mark_spent site = site.mark.number == most
 
 -- ---- spots
 
--- the spot of the record, behind a switch where one is made
+-- the spot of the record, after a switch where one is made
 abbrev pub spot_by : (journals : ℕ) → Placement → Spot → Spot
 spot_by journals Here at = at
 spot_by journals Switched at = spot_in (next_set journals at.set) at
 spot_by journals Marked at = spot_in (next_set journals at.set) at
 
--- the spot behind the record of these items
-abbrev pub spot_behind : (journals : ℕ) → Placement → List Item → Spot → Spot
-spot_behind journals placement items at = spot_after (spot_by journals placement at) (length (body_spelling items))
+-- the spot after the record of these items
+abbrev pub spot_after_record : (journals : ℕ) → Placement → List Item → Spot → Spot
+spot_after_record journals placement items at = spot_after (spot_by journals placement at) (length (body_spelling items))

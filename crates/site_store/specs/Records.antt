@@ -1,4 +1,4 @@
--- The site behind a record and behind a mark, and the devices on which these work.
+-- The site after a record and after a mark, and the devices on which these work.
 use Rattle.std.specs.Prelude.{◌≡◌, ◌⊎◌, ℕ, ◌+◌, ◌-◌, ◌^◌, ◌==◌, List, [], length, replicate, Bool, true, false, if◌then◌else◌}
 use Rattle.crash_plant.specs.declared.device.Device.{Device}
 use Rattle.crash_plant.specs.declared.device.Device.TheVariants.{Control, State, Journal, Volume}
@@ -9,15 +9,15 @@ use Rattle.xrc_journal.specs.Items.{Item}
 use Rattle.site_store.specs.declared.placement.Placement.{Placement}
 use Rattle.site_store.specs.declared.placement.Placement.TheVariants.{Here, Switched, Marked}
 use Rattle.site_store.specs.Sites.{SiteState, next_mark, is_written}
-use Rattle.site_store.specs.Placements.{spot_behind}
+use Rattle.site_store.specs.Placements.{spot_after_record}
 
 -- one call more, as far as 32 bits count
 abbrev pub one_more : (since : ℕ) → ℕ
 one_more since = if since == 2 ^ 32 - 1 then since else since + 1
 
--- the site behind a mark with these rows, once these jobs have failed; nothing waits and no volume was written since
-abbrev pub behind_mark : (ended : Bool) → (rows : List PairRow) → (failed : List Bool) → SiteState → SiteState
-behind_mark ended rows failed site = record site {
+-- the site after a mark with these rows, once these jobs have failed; nothing waits and no volume was written since
+abbrev pub after_mark : (ended : Bool) → (rows : List PairRow) → (failed : List Bool) → SiteState → SiteState
+after_mark ended rows failed site = record site {
   table = with_rows site.table rows;
   is_ahead = false;
   told = rows;
@@ -28,20 +28,20 @@ behind_mark ended rows failed site = record site {
   written = replicate (length site.written) false;
 }
 
--- the site behind the mark that is made before a record, where one is
-abbrev pub behind_placement : Placement → SiteState → SiteState
-behind_placement Here site = site
-behind_placement Switched site = site
-behind_placement Marked site = behind_mark site.mark.ended site.told site.failed site
+-- the site after the mark that is made before a record, where one is
+abbrev pub after_placement : Placement → SiteState → SiteState
+after_placement Here site = site
+after_placement Switched site = site
+after_placement Marked site = after_mark site.mark.ended site.told site.failed site
 
--- the site behind a record of these items, which was placed so and leaves these rows
-abbrev pub behind_record : (journals : ℕ) → Placement → (cut : ℕ) → List Item → (rows : List PairRow) → (failed : List Bool) → SiteState → SiteState
-behind_record journals placement cut items rows failed site = record (behind_placement placement site) {
+-- the site after a record of these items, which was placed so and leaves these rows
+abbrev pub after_record : (journals : ℕ) → Placement → (cut : ℕ) → List Item → (rows : List PairRow) → (failed : List Bool) → SiteState → SiteState
+after_record journals placement cut items rows failed site = record (after_placement placement site) {
   table = with_rows site.table rows;
   is_ahead = false;
   told = rows;
   time = cut;
-  at = spot_behind journals placement items site.at;
+  at = spot_after_record journals placement items site.at;
   failed = failed;
 }
 

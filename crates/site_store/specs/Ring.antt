@@ -1,4 +1,4 @@
--- A site's walk as one through the ring of data sets, and what images show behind a record at its end.
+-- A site's walk as one through the ring of data sets, and what images show after a record at its end.
 use Rattle.std.specs.Prelude.{◌≡◌, ℕ, ◌++◌, ◌<◌, ◌≤◌, ◌^◌, List, [], ◌∷◌, None}
 use Rattle.std.specs.List.{flat_map}
 use Rattle.crash_plant.specs.declared.spot.Spot.{Spot}
@@ -7,7 +7,7 @@ use Rattle.xrc_journal.specs.Contents.{content_through}
 use Rattle.xrc_journal.specs.Items.{Item}
 use Rattle.xrc_journal.specs.Records.{next_set, spot_in}
 use Rattle.xrc_journal.specs.Walks.{Logged}
-use Rattle.xrc_journal.specs.RingWalks.{WalkPlace, WalkRecord, WalksThrough, behind_logged, journal_images, walk_at}
+use Rattle.xrc_journal.specs.RingWalks.{WalkPlace, WalkRecord, WalksThrough, journal_images, spot_after_logged, walk_at}
 use Rattle.xrc_journal.specs.RingWalks.WalkRecord.{OfGroup, OfSwitch}
 use Rattle.site_means.specs.declared.means.Means.{Means}
 use Rattle.site_means.specs.Images.{Images, Shape}
@@ -49,29 +49,29 @@ pub record IsThrough (shape : Shape) (images : Images) (rows : List PairRow) (fr
 abbrev pub and_switch : (time : ℕ) → (after : Spot) → Walk → Walk
 and_switch time after w = record { groups = w.groups; rows = w.rows; entered = w.entered ++ after.set ∷ []; at = after; last = time; bad = None }
 
--- the spot behind a switch at a walk's end
+-- the spot after a switch at a walk's end
 abbrev pub switched_from : (sets : ℕ) → Walk → Spot
 switched_from sets w = spot_in (next_set sets w.at.set) w.at
 
 -- Images mean this by this walk, and each track has the content that these items leave of what it has in other images.
-pub record ShowsBehind (shape : Shape) (items : List Item) (means : Means) (w : Walk) (old new : Images) : Type 0 where
+pub record ShowsAfter (shape : Shape) (items : List Item) (means : Means) (w : Walk) (old new : Images) : Type 0 where
   pub meant : meaning_in shape new ≡ Meant means w
   pub content : (d x : ℕ) → content_in shape new d x ≡ content_through d x items (content_in shape old d x)
 
 -- They show what was meant by this walk.
 abbrev pub ShowsSame : Shape → Means → Walk → (old new : Images) → Type 0
-ShowsSame shape means w old new = ShowsBehind shape [] means w old new
+ShowsSame shape means w old new = ShowsAfter shape [] means w old new
 
 -- They show a group more: its time, the rows changed by its items, and the content that these leave.
 abbrev pub ShowsGroup : Shape → Logged → Means → Walk → (old new : Images) → Type 0
-ShowsGroup shape g means w old new = ShowsBehind shape g.items (with_group g means) (and_group g (behind_logged g w.at) w) old new
+ShowsGroup shape g means w old new = ShowsAfter shape g.items (with_group g means) (and_group g (spot_after_logged g w.at) w) old new
 
 -- They show a switch more: the same is meant, by the walk with it.
 abbrev pub ShowsSwitch : Shape → (time : ℕ) → Means → Walk → (old new : Images) → Type 0
-ShowsSwitch shape time means w old new = ShowsBehind shape [] means (and_switch time (switched_from shape.sets w) w) old new
+ShowsSwitch shape time means w old new = ShowsAfter shape [] means (and_switch time (switched_from shape.sets w) w) old new
 
--- The group may come behind the walk: its time isn't below that of the walk's last record, and its items fit the rows.
-pub record FitsBehind (volumes : ℕ) (means : Means) (w : Walk) (g : Logged) : Type 0 where
+-- The group may come after the walk: its time isn't below that of the walk's last record, and its items fit the rows.
+pub record FitsAfter (volumes : ℕ) (means : Means) (w : Walk) (g : Logged) : Type 0 where
   pub number : means.from.number < 2 ^ 64
   pub later : w.last ≤ g.time
   pub fits : first_unfit volumes 0 means.table.rows g.items ≡ None

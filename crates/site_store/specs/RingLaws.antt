@@ -10,7 +10,7 @@ use Rattle.pair_table.specs.Tables.{with_rows}
 use Rattle.state_set.specs.Slots.{state_of}
 use Rattle.xrc_journal.specs.Records.{next_set}
 use Rattle.xrc_journal.specs.Walks.{Logged}
-use Rattle.xrc_journal.specs.RingWalks.{AddsThrough, EndsThrough, HasGroup, HasSwitch, KeepsThrough, PutsGroup, PutsSwitch, WalkPlace, WalkRecord, WalksThrough, behind_logged, journal_images, walk_start}
+use Rattle.xrc_journal.specs.RingWalks.{AddsThrough, EndsThrough, HasGroup, HasSwitch, KeepsThrough, PutsGroup, PutsSwitch, WalkPlace, WalkRecord, WalksThrough, journal_images, spot_after_logged, walk_start}
 use Rattle.xrc_journal.specs.RingWalks.WalkRecord.{OfGroup, OfSwitch}
 use Rattle.site_means.specs.declared.means.Means.{Means}
 use Rattle.site_means.specs.Images.{Images, Shape}
@@ -19,7 +19,7 @@ use Rattle.site_means.specs.Meaning.{chosen_in, meaning_in, stored_in}
 use Rattle.site_means.specs.Meaning.Meaning.{Meant}
 use Rattle.site_means.specs.Sight.{content_in}
 use Rattle.site_means.specs.Walk.{Walk, walk_in}
-use Rattle.site_store.specs.Ring.{FitsBehind, IsThrough, ShowsGroup, ShowsSame, ShowsSwitch, and_switch, groups_among, switched_from, walk_with}
+use Rattle.site_store.specs.Ring.{FitsAfter, IsThrough, ShowsGroup, ShowsSame, ShowsSwitch, and_switch, groups_among, switched_from, walk_with}
 
 -- ---- walks
 
@@ -58,8 +58,8 @@ KeptRingsMeanTheSame = (shape : Shape) (a b : Images) (means : Means) (w : Walk)
 
 -- Where a group is added to it, the meaning has its time, and its rows changed by its items.
 abbrev pub AddedGroupsAreMeant : Type 0
-AddedGroupsAreMeant = (shape : Shape) (a b : Images) (means : Means) (w : Walk) (g : Logged) → meaning_in shape a ≡ Meant means w → AgreeOnMark shape a b → FitsBehind shape.volumes means w g
-    → AddsThrough shape.form shape.sets means.from w.at (OfGroup g) (behind_logged g w.at) (journal_images a) (journal_images b) → meaning_in shape b ≡ Meant (with_group g means) (and_group g (behind_logged g w.at) w)
+AddedGroupsAreMeant = (shape : Shape) (a b : Images) (means : Means) (w : Walk) (g : Logged) → meaning_in shape a ≡ Meant means w → AgreeOnMark shape a b → FitsAfter shape.volumes means w g
+    → AddsThrough shape.form shape.sets means.from w.at (OfGroup g) (spot_after_logged g w.at) (journal_images a) (journal_images b) → meaning_in shape b ≡ Meant (with_group g means) (and_group g (spot_after_logged g w.at) w)
 
 -- Where a switch is added to it, the same is meant: its time doesn't count. The walk ends at the front of the next data set.
 abbrev pub AddedSwitchesMeanTheSame : Type 0
@@ -80,11 +80,11 @@ UntouchedShowTheSame = (shape : Shape) (a b : Images) (means : Means) (w : Walk)
 
 -- While a group is put, images show what those before it showed, or the group more. Once it was put, they show it.
 abbrev pub GroupsPutAreShown : Type 0
-GroupsPutAreShown = (shape : Shape) (a b : Images) (means : Means) (w : Walk) (g : Logged) → meaning_in shape a ≡ Meant means w → FitsBehind shape.volumes means w g
+GroupsPutAreShown = (shape : Shape) (a b : Images) (means : Means) (w : Walk) (g : Logged) → meaning_in shape a ≡ Meant means w → FitsAfter shape.volumes means w g
     → PutsGroup shape.form shape.sets means.from w.at g a b → ShowsSame shape means w a b ⊎ ShowsGroup shape g means w a b
 
 abbrev pub GroupsHadAreShown : Type 0
-GroupsHadAreShown = (shape : Shape) (a b : Images) (means : Means) (w : Walk) (g : Logged) → meaning_in shape a ≡ Meant means w → FitsBehind shape.volumes means w g
+GroupsHadAreShown = (shape : Shape) (a b : Images) (means : Means) (w : Walk) (g : Logged) → meaning_in shape a ≡ Meant means w → FitsAfter shape.volumes means w g
     → HasGroup shape.form shape.sets means.from w.at g a b → ShowsGroup shape g means w a b
 
 -- So it is with a switch.

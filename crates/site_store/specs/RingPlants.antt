@@ -11,7 +11,7 @@ use Rattle.crash_plant.specs.Moments.{IsDurable, PlantState, Stays, on}
 use Rattle.control_set.specs.declared.value.Mark.{Mark}
 use Rattle.pair_table.specs.declared.row.PairRow.{PairRow}
 use Rattle.xrc_journal.specs.Walks.{Logged}
-use Rattle.xrc_journal.specs.RingWalks.{AllEndThrough, behind_logged}
+use Rattle.xrc_journal.specs.RingWalks.{AllEndThrough, spot_after_logged}
 use Rattle.xrc_journal.specs.Appending.{AllPutGroup, AllPutSwitch, GroupIsPut, IsOfSwitch, NowFollow, SwitchIsPut}
 use Rattle.site_means.specs.declared.means.Means.{Means}
 use Rattle.site_means.specs.Images.{shape_of}
@@ -21,7 +21,7 @@ use Rattle.site_means.specs.Meaning.Meaning.{Meant}
 use Rattle.site_means.specs.Sight.{content_of}
 use Rattle.site_means.specs.Walk.{Walk}
 use Rattle.site_store.specs.RingLaws.{IsMarkedAtEnd, IsUntouched, MeansFromMark, fresh_walk, means_from_mark}
-use Rattle.site_store.specs.Ring.{FitsBehind, ShowsGroup, ShowsSame, ShowsSwitch, and_switch, switched_from}
+use Rattle.site_store.specs.Ring.{FitsAfter, ShowsGroup, ShowsSame, ShowsSwitch, and_switch, switched_from}
 
 -- ---- what all choices are
 
@@ -41,8 +41,8 @@ AllHaveRoom plant w = AtNow (λ c. w.at.place + SWITCH ≤ length (c (Journal w.
 abbrev pub AreDurable : PlantState → (sets : List ℕ) → Type 0
 AreDurable plant sets = (j : ℕ) → Contains sets j → IsDurable (on plant (Journal j))
 
--- Each choice comes by this step from one before calls. Behind them all means this by this walk, and the mark that counted does.
-pub record IsMeantBehind (step : Choice → Choice → Type 0) (means : Means) (w : Walk) (old new : PlantState) : Type 0 where
+-- Each choice comes by this step from one before calls. After them all means this by this walk, and the mark that counted does.
+pub record IsMeantAfter (step : Choice → Choice → Type 0) (means : Means) (w : Walk) (old new : PlantState) : Type 0 where
   pub follows : NowFollow step old new
   pub meant : AllMean new means w
   pub chosen : (m : Mark) → AllChoose old m → AllChoose new m
@@ -65,18 +65,18 @@ EndIsDurable plant = (means : Means) (w : Walk) (rows : List PairRow) (c : Choic
 
 -- At every moment while a group is put, what was shown before is shown, or the group more.
 abbrev pub GroupIsShown : (old new : PlantState) → Type 0
-GroupIsShown old new = (means : Means) (w : Walk) (g : Logged) → AllMean old means w → FitsBehind old.volumes means w g → AllPutGroup means.from w.at g old new
+GroupIsShown old new = (means : Means) (w : Walk) (g : Logged) → AllMean old means w → FitsAfter old.volumes means w g → AllPutGroup means.from w.at g old new
     → AllFollow (λ b c. ShowsSame (shape_of old) means w b c ⊎ ShowsGroup (shape_of old) g means w b c) old new
 
 -- Once it was put, all shows it.
 abbrev pub GroupIsMeant : (old new : PlantState) → Type 0
-GroupIsMeant old new = (means : Means) (w : Walk) (g : Logged) → SameSite old new → AllMean old means w → FitsBehind old.volumes means w g → GroupIsPut means.from w.at g old new
-    → IsMeantBehind (ShowsGroup (shape_of old) g means w) (with_group g means) (and_group g (behind_logged g w.at) w) old new
+GroupIsMeant old new = (means : Means) (w : Walk) (g : Logged) → SameSite old new → AllMean old means w → FitsAfter old.volumes means w g → GroupIsPut means.from w.at g old new
+    → IsMeantAfter (ShowsGroup (shape_of old) g means w) (with_group g means) (and_group g (spot_after_logged g w.at) w) old new
 
 -- The data sets of the walk stay durable.
 abbrev pub GroupIsDurable : (tells : Type 0) → (old new : PlantState) → Type 0
 GroupIsDurable tells old new = (from : Spot) (w : Walk) (g : Logged) → tells → WorksOn tells (λ d. d ≡ Journal w.at.set) old new → GroupIsPut from w.at g old new → AreDurable old w.entered
-    → AreDurable new (and_group g (behind_logged g w.at) w).entered
+    → AreDurable new (and_group g (spot_after_logged g w.at) w).entered
 
 -- ---- a switch
 
@@ -88,14 +88,14 @@ SwitchIsShown old new = (means : Means) (w : Walk) (time : ℕ) → AllMean old 
 -- Once it was put, it is shown by the walk with the switch.
 abbrev pub SwitchIsMeant : (old new : PlantState) → Type 0
 SwitchIsMeant old new = (means : Means) (w : Walk) (time : ℕ) → SameSite old new → AllMean old means w → means.from.number < 2 ^ 64 → w.last ≤ time → SwitchIsPut means.from w.at time old new
-    → IsMeantBehind (ShowsSwitch (shape_of old) time means w) means (and_switch time (switched_from old.journals w) w) old new
+    → IsMeantAfter (ShowsSwitch (shape_of old) time means w) means (and_switch time (switched_from old.journals w) w) old new
 
 -- The data sets of the walk stay durable, and the next one is so.
 abbrev pub SwitchIsDurable : (tells : Type 0) → (old new : PlantState) → Type 0
 SwitchIsDurable tells old new = (from : Spot) (w : Walk) (time : ℕ) → tells → WorksOn tells (IsOfSwitch old.journals w.at) old new → SwitchIsPut from w.at time old new → AreDurable old w.entered
     → AreDurable new (and_switch time (switched_from old.journals w) w).entered
 
--- ---- a switch, and a group behind it
+-- ---- a switch, and a group after it
 
 -- the walk with the switch that comes before a group
 abbrev pub and_switch_for : (sets : ℕ) → Logged → Walk → Walk
@@ -103,15 +103,15 @@ and_switch_for sets g w = and_switch g.time (switched_from sets w) w
 
 -- At every moment what was shown before is shown, by the one or the other walk, or the group more.
 abbrev pub SwitchedGroupIsShown : (old mid new : PlantState) → Type 0
-SwitchedGroupIsShown old mid new = (means : Means) (w : Walk) (g : Logged) → SameSite old mid → old.clock ≤ mid.clock → SameSite mid new → Elapses mid new → AllMean old means w → FitsBehind old.volumes means w g
+SwitchedGroupIsShown old mid new = (means : Means) (w : Walk) (g : Logged) → SameSite old mid → old.clock ≤ mid.clock → SameSite mid new → Elapses mid new → AllMean old means w → FitsAfter old.volumes means w g
     → AllPutSwitch means.from w.at g.time old mid → SwitchIsPut means.from w.at g.time old mid → AllPutGroup means.from (switched_from old.journals w) g mid new
     → AllFollow (λ b c. ShowsSame (shape_of old) means w b c ⊎ (ShowsSwitch (shape_of old) g.time means w b c ⊎ ShowsGroup (shape_of old) g means (and_switch_for old.journals g w) b c)) old new
 
 -- Once both were put, all shows the group.
 abbrev pub SwitchedGroupIsMeant : (old mid new : PlantState) → Type 0
-SwitchedGroupIsMeant old mid new = (means : Means) (w : Walk) (g : Logged) → SameSite old mid → SameSite mid new → AllMean old means w → FitsBehind old.volumes means w g
+SwitchedGroupIsMeant old mid new = (means : Means) (w : Walk) (g : Logged) → SameSite old mid → SameSite mid new → AllMean old means w → FitsAfter old.volumes means w g
     → SwitchIsPut means.from w.at g.time old mid → GroupIsPut means.from (switched_from old.journals w) g mid new
-    → IsMeantBehind (ShowsGroup (shape_of old) g means (and_switch_for old.journals g w)) (with_group g means) (and_group g (behind_logged g (switched_from old.journals w)) (and_switch_for old.journals g w)) old new
+    → IsMeantAfter (ShowsGroup (shape_of old) g means (and_switch_for old.journals g w)) (with_group g means) (and_group g (spot_after_logged g (switched_from old.journals w)) (and_switch_for old.journals g w)) old new
 
 -- ---- a mark
 

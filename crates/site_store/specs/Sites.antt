@@ -12,7 +12,7 @@ use Rattle.site_means.specs.declared.means.Means.{Means}
 
 -- what a site is to its callers
 pub record SiteState : Type 0 where
-  -- the number of controls that it was made for
+  -- the number of controllers that it was made for
   pub controls : ℕ
   pub level : Level
   -- the session's pairs, in memory

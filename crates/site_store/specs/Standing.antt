@@ -25,7 +25,7 @@ use Rattle.site_store.specs.Sites.{SiteState, has_failed, is_written, meant_for}
 -- ---- the plant
 
 -- The lengths and numbers of a site's devices: control and state, 2 to 16 journals that hold the largest record of so many
--- controls, and up to 64 volumes.
+-- controllers, and up to 64 volumes.
 pub record HasLengths (controls : ℕ) (plant : PlantState) : Type 0 where
   pub control : CONTROL_LENGTH ≤ plant.lengths Control
   pub state : STATE_LENGTH ≤ plant.lengths State
@@ -96,7 +96,7 @@ pub record MayRecord (tells : Type 0) (site : SiteState) (plant : PlantState) : 
   pub level : site.is_ahead ≡ false
   pub idle : site.waiting ≡ []
 
--- What a call leaves for the next one. `now` gives the tracks that are excepted behind it, by those before.
+-- What a call leaves for the next one. `now` gives the tracks that are excepted after it, by those before.
 pub record Leaves (tells : Type 0) (now : Exceptions → Exceptions) (site next : SiteState) (old new : PlantState) : Type 0 where
   pub fits : FitsPlant next new
   pub stands : tells → (excepted : Exceptions) → SiteStands excepted site old → SiteStands (now excepted) next new

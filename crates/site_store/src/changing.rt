@@ -10,7 +10,7 @@ ghost use Rattle.xrc_journal.specs.Items.{body_spelling};
 ghost use Rattle.site_store.specs.declared.store_error.StoreError.TheVariants.{Spent};
 ghost use Rattle.site_store.specs.declared.placement.Placement.TheVariants.{Marked};
 ghost use Rattle.site_store.specs.Causes.{FailByCounts, HasStoreCause};
-ghost use Rattle.site_store.specs.Changing.{DoesChange, DoesRows, FormsChange, IsBehindChange, LogsChange, MayChange, changed_items, gone_of, named_devices, pairs_of};
+ghost use Rattle.site_store.specs.Changing.{DoesChange, DoesRows, FormsChange, IsAfterChange, LogsChange, MayChange, changed_items, gone_of, named_devices, pairs_of};
 ghost use Rattle.pair_table.specs.Tables.{AreRowsSound, are_below, with_rows};
 ghost use Rattle.record_rows.specs.Records.{rows_with_hits};
 ghost use Rattle.site_store.specs.Jobs.{has_job_failed};
@@ -68,7 +68,7 @@ fn take_change(body: &mut Body, table: &PairTable, change: &Change)
     }
 }
 
-/// Forms the record of a change: the rows that it names as they stand in the table, and behind them those that failed jobs
+/// Forms the record of a change: the rows that it names as they stand in the table, and after them those that failed jobs
 /// suspend. Of a change that alters no row there is none. Tells whether there is one.
 fn form_change<V>(
     body: &mut Body,
@@ -109,9 +109,9 @@ impl<V> Site<V> {
         self.time = cut;
     }
 
-    /// Makes the mark that comes before a change's record, and logs the change behind it. The record is formed again, with the hits of
+    /// Makes the mark that comes before a change's record, and logs the change after it. The record is formed again, with the hits of
     /// the volumes that have failed by then.
-    fn log_behind_mark<P: Plant<Volume = V>>(
+    fn log_after_mark<P: Plant<Volume = V>>(
         &mut self,
         plant: &mut P,
         cut: Stamp,
@@ -120,7 +120,7 @@ impl<V> Site<V> {
         requires may { MayChange P.tells cut.0 change.now self.old (P.state plant.old) }
         requires some { changed_items change.now self.old.table.rows ≢ [] }
         requires numbers { is_spent Marked self.old ≡ false }
-        ensures ok { OnOk result (IsBehindChange cut.0 change.now Marked self.old self.new (P.state plant.old)) }
+        ensures ok { OnOk result (IsAfterChange cut.0 change.now Marked self.old self.new (P.state plant.old)) }
         ensures leaves { OnOk result (Leaves P.tells (λ e. e) self.old self.new (P.state plant.old) (P.state plant.new)) }
         ensures moments { DoesRows P.tells Marked cut.0 self.old self.new (P.state plant.old) (P.state plant.new) result }
         ensures only { WorksOn P.tells (IsOfRecord self.old) (P.state plant.old) (P.state plant.new) }
@@ -130,7 +130,7 @@ impl<V> Site<V> {
         ensures failed { FailByCounts self.old.failed self.new.failed (P.state plant.old).faults (P.state plant.new).faults }
     {
         self.mark_first(plant, Level::Volume)?;
-        // No item waits behind a mark.
+        // No item waits after a mark.
         self.waits = false;
         let level = self.level;
         form_change(&mut self.body, &self.table, &self.jobs, level, cut, change);
@@ -140,7 +140,7 @@ impl<V> Site<V> {
     }
 
     /// Logs a command's change by one record of the rows that it names, as they stand in the table, and of the devices whose rows
-    /// go. The rows of volumes that have failed and aren't told yet are suspended behind them, since the cut, and under level
+    /// go. The rows of volumes that have failed and aren't told yet are suspended after them, since the cut, and under level
     /// SESSION every other row that isn't suspended. For a change that alters no row nothing is called.
     ///
     /// Where the record doesn't fit the rest of the data set, a switch comes first. Where the next data set holds the spot of the
@@ -179,7 +179,7 @@ impl<V> Site<V> {
             return Err(StoreError::Spent);
         }
         if placement == Placement::Marked {
-            return self.log_behind_mark(plant, cut, change);
+            return self.log_after_mark(plant, cut, change);
         }
         put_record(&mut self.journal, plant, cut, &self.body, placement)?;
         self.take_logged(cut);

@@ -7,7 +7,7 @@ ghost use Rattle.pair_table.specs.declared.command.Change.TheVariants.{Added as 
 ghost use Rattle.pair_table.specs.declared.command.Refusal.{Refusal};
 ghost use Rattle.pair_table.specs.declared.command.CommandError.TheVariants.{Refused, NoMemory as Memory};
 ghost use Rattle.pair_table.specs.Tables.{AreRowsSound, MayPut, with_rows};
-ghost use Rattle.site_store.specs.Commands.{AddsBelow, AreOnVolumes, ChangesMayBeLogged, CommandsLeaveSites, IsToLog, MayDo, PutRowsLeaveSites, added_device, alters, behind_command, behind_put, without_flag};
+ghost use Rattle.site_store.specs.Commands.{AddsBelow, AreOnVolumes, ChangesMayBeLogged, CommandsLeaveSites, IsToLog, MayDo, PutRowsLeaveSites, added_device, after_command, after_put, alters, without_flag};
 
 use crate::Site;
 use crate::hits::either;
@@ -121,7 +121,7 @@ impl<V> Site<V> {
         at: Stamp,
     ) -> Result<Change, CommandError>
         requires may { MayDo names.now self.old }
-        ensures ok { IfOk result (λ change. self.new ≡ behind_command names.now session command.now at.0 change self.old) }
+        ensures ok { IfOk result (λ change. self.new ≡ after_command names.now session command.now at.0 change self.old) }
         ensures answer { IfOk result (λ change. answer names.now self.old.table session command.now ≡ Ok change) }
         ensures refused { (why : Refusal) → (result ≡ Err (Refused why)) → (refusal names.now self.old.table session command.now ≡ Some why) }
         ensures accepted { OnOk result (refusal names.now self.old.table session command.now ≡ None) }
@@ -139,11 +139,11 @@ impl<V> Site<V> {
         Ok(change)
     }
 
-    /// Puts a row in the place of its device's row, or behind all rows where the device has none. It is on the devices once the
+    /// Puts a row in the place of its device's row, or after all rows where the device has none. It is on the devices once the
     /// change that names it is logged. After an error the site is as before.
     pub fn put_row(&mut self, alloc: Global, row: PairRow) -> Result<(), NoMemory>
         requires may { MayPut row self.old.table.rows }
-        ensures ok { OnOk result (self.new ≡ behind_put row self.old) }
+        ensures ok { OnOk result (self.new ≡ after_put row self.old) }
         ensures err { OnErr result (self.new ≡ self.old) }
         // It may be logged next as an added pair's row, if no change waited before it.
         ensures to_log { OnOk result (self.old.is_ahead ≡ false → AreOnVolumes self.new → IsToLog (AddedPair row.device) self.new) }

@@ -1,13 +1,13 @@
 //! The laws of deeds.
 
-ghost use Rattle.site_store.specs.DeedLaws.{DeedsAreChanges, DeedsBeginBehind, DeedsGoOn, DeedsLeaveInTurn, DeedsNeverGoBack, DoneDeedsAreMeant, DoneDeedsHaveBegun, DoneDeedsLeaveContent, EachDeedHasItsMoment, EntriesChangeTheirTracks, EntriesGoByRowsBefore};
-ghost use Rattle.site_store.specs.DeedLaws.{FirstDeedsAreSeen, MarksAreMeant, MeansAreBehind, MoreDeedsMayFollow, MoreMayBeExcepted, NoCallDoesNoDeed, OneDeedBegins, OneDeedFollows, OneDeedIsDone, OnlyEntriesChangeContent, PointsAreFirstDeeds, ReadsAndSyncsAreNoDeed, SameContentIsNoDeed, SameSightIsNoDeed, SightsCompose, TimesNeverFall, WholeImagesEndExceptions};
+ghost use Rattle.site_store.specs.DeedLaws.{DeedsAreChanges, DeedsBeginAfter, DeedsGoOn, DeedsLeaveInTurn, DeedsNeverGoBack, DoneDeedsAreMeant, DoneDeedsHaveBegun, DoneDeedsLeaveContent, EachDeedHasItsMoment, EntriesChangeTheirTracks, EntriesGoByRowsBefore};
+ghost use Rattle.site_store.specs.DeedLaws.{FirstDeedsAreSeen, MarksAreMeant, MeansAreAfter, MoreDeedsMayFollow, MoreMayBeExcepted, NoCallDoesNoDeed, OneDeedBegins, OneDeedFollows, OneDeedIsDone, OnlyEntriesChangeContent, PointsAreFirstDeeds, ReadsAndSyncsAreNoDeed, SameContentIsNoDeed, SameSightIsNoDeed, SightsCompose, TimesNeverFall, WholeImagesEndExceptions};
 
 use crash_plant::Plant;
 
 /// What deeds leave of a meaning, of tracks and of exceptions, deed by deed.
 pub fn deeds_leave_in_turn()
-    ensures means { MeansAreBehind }
+    ensures means { MeansAreAfter }
     ensures mark { MarksAreMeant }
     ensures turn { DeedsLeaveInTurn }
 {}
@@ -25,7 +25,7 @@ pub fn times_never_fall()
     ensures { TimesNeverFall }
 {}
 
-/// Rows behind deeds come by their timed changes in turn.
+/// Rows after deeds come by their timed changes in turn.
 pub fn deeds_are_changes()
     ensures { DeedsAreChanges }
 {}
@@ -40,7 +40,7 @@ pub fn deeds_are_meant<P: Plant>(old: &P, new: &P)
 pub fn deeds_go_on<P: Plant>(old: &P, mid: &P, new: &P)
     ensures sights { SightsCompose (P.state old.now) (P.state mid.now) }
     ensures done { DeedsGoOn (P.state old.now) (P.state mid.now) (P.state new.now) }
-    ensures begun { DeedsBeginBehind (P.state old.now) (P.state mid.now) (P.state new.now) }
+    ensures begun { DeedsBeginAfter (P.state old.now) (P.state mid.now) (P.state new.now) }
 {}
 
 /// Calls that show what was before them do no deed.

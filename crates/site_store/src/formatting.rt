@@ -93,9 +93,9 @@ fn made<V: Drop>(
 }
 
 impl<V: Drop> Site<V> {
-    /// Starts a session on a plant at a time, at least 1, with 1 to 16 controls. Its table is a started one without rows. All
+    /// Starts a session on a plant at a time, at least 1, with 1 to 16 controllers. Its table is a started one without rows. All
     /// memory is taken before anything is written; then the gates of the control are shut, first the one that doesn't count, each
-    /// with a sync of its own; then the gate of the first record in journal 0; and the first mark is put behind its state. No
+    /// with a sync of its own; then the gate of the first record in journal 0; and the first mark is put after its state. No
     /// volume and no other journal is worked on.
     pub fn format<P: Plant<Volume = V>>(
         alloc: Global,

@@ -19,7 +19,7 @@ use pending_queue::Formed;
 use tod_stamp::Stamp;
 use xrc_journal::Body;
 
-/// The time of a control's break that a group reports, if it reports one.
+/// The time of a controller's break that a group reports, if it reports one.
 fn break_time(formed: &Formed, control: u16) -> Option<Stamp>
     ensures { result ≡ shown_break control formed.now.breaks }
 {
@@ -41,7 +41,7 @@ fn is_done(formed: &Formed, row: &PairRow) -> bool
         .any(|plan| plan.0 == row.control && plan.1 == row.volume)
 }
 
-/// The state to which a state whose control doesn't break changes, if it does.
+/// The state to which a state whose controller doesn't break changes, if it does.
 fn matured_state(done: bool, state: PairState) -> Option<PairState>
     ensures state { result ≡ matured_state done state }
     ensures valid { IfSome result (λ after. IsTrue (is_state after)) }
@@ -79,7 +79,7 @@ fn next_state(formed: &Formed, row: &PairRow) -> Option<PairState>
     }
 }
 
-/// The state to which a record of a group changes a row, if it does: what the group makes of it, and hits behind that.
+/// The state to which a record of a group changes a row, if it does: what the group makes of it, and hits after that.
 fn record_state(formed: &Formed, hits: &Hits, row: &PairRow) -> Option<PairState>
     requires { row.now.device < MOST_SITE_VOLUMES }
     ensures state { result ≡ with_group_and_hits formed.now hits.now row.now }

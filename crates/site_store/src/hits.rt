@@ -128,7 +128,7 @@ fn reaches(level: Level, hit: &HitDevices, device: usize) -> bool
     reaches_others(level) && hit.any && !hit.are[device]
 }
 
-/// Of each device, whether the hits of a mark or those behind it reach its row.
+/// Of each device, whether the hits of a mark or those after it reach its row.
 fn reached_devices(level: Level, marked: &HitDevices, hit: &HitDevices) -> [bool; MOST_SITE_VOLUMES]
     ensures { (was now : List ℕ) → AreDevices was marked.now → AreDevices now hit.now → AreReached level was now result }
 {
@@ -141,8 +141,8 @@ fn reached_devices(level: Level, marked: &HitDevices, hit: &HitDevices) -> [bool
     reached
 }
 
-/// The hits of a table's rows at a time, behind a mark in which these devices were hit.
-pub(crate) fn hits_behind_mark<V>(
+/// The hits of a table's rows at a time, after a mark in which these devices were hit.
+pub(crate) fn hits_after_mark<V>(
     jobs: &[VolumeJob<V>],
     table: &PairTable,
     level: Level,
@@ -176,7 +176,7 @@ pub(crate) fn hits_at<V>(
     ensures rules { AreRowsSound table.now.rows }
 {
     let none = no_devices();
-    hits_behind_mark(jobs, table, level, time, &none)
+    hits_after_mark(jobs, table, level, time, &none)
 }
 
 impl Hits {

@@ -16,7 +16,7 @@ ghost use Rattle.site_store.specs.Standing.{MayRecord, Leaves};
 
 use crate::forming::form_group;
 use crate::group_rows::{put_changed, take_changed};
-use crate::hits::{HitReach, Hits, hits_behind_mark, no_devices};
+use crate::hits::{HitReach, Hits, hits_after_mark, no_devices};
 use crate::placement::{Placement, placement_from, record_needs_more};
 use crate::recording::put_record;
 use crate::{Site, StoreError};
@@ -25,7 +25,7 @@ use pair_table::{Level, PairTable};
 use pending_queue::Formed;
 use xrc_journal::{Body, VolumeJob};
 
-/// Forms the record of a group: the images of its tracks, and behind them the rows that change with it. Volumes whose reads
+/// Forms the record of a group: the images of its tracks, and after them the rows that change with it. Volumes whose reads
 /// fail are left out, and are hit with the record; so are the rows that they reach, and those that are due since a mark. Tells
 /// for which volumes there are items.
 fn form_record<P: Plant>(
@@ -49,16 +49,16 @@ fn form_record<P: Plant>(
     ensures only { WorksOnLent P.tells (IsOfEntries table.now.rows formed.now.entries) (P.state plant.old) (P.state plant.new) }
 {
     form_group(plant, jobs, table, formed, body, due);
-    let hits = hits_behind_mark(jobs, table, reach.level, formed.cut(), &reach.marked);
+    let hits = hits_after_mark(jobs, table, reach.level, formed.cut(), &reach.marked);
     put_changed(body, table, formed, &hits);
     hits
 }
 
 impl<V> Site<V> {
-    /// Logs a formed group behind a mark that is made first, by a record behind a switch. The mark syncs the volumes that were
+    /// Logs a formed group after a mark that is made first, by a record after a switch. The mark syncs the volumes that were
     /// written one after another, and its rows tell the volumes that have failed by then, since the site's time. The rows that
     /// these failures reach come with the record.
-    fn log_group_behind_mark<P: Plant<Volume = V>>(
+    fn log_group_after_mark<P: Plant<Volume = V>>(
         &mut self,
         plant: &mut P,
         formed: &Formed,
@@ -76,7 +76,7 @@ impl<V> Site<V> {
         ensures volumes { VolumesStay P.tells (P.state plant.old) (P.state plant.new) }
         ensures failed { FailByCounts self.old.failed self.new.failed (P.state plant.old).faults (P.state plant.new).faults }
     {
-        // The body has room for groups of so many controls.
+        // The body has room for groups of so many controllers.
         prove!(formed.controls() <= self.controls);
         let hit = self.mark_first(plant, Level::Volume)?;
         let reach = HitReach {
@@ -100,13 +100,13 @@ impl<V> Site<V> {
     }
 
     /// Logs a formed group by one record: an image of each track that has an entry, as the entries leave it, and the rows that
-    /// change with the group. A row whose control breaks is suspended since the break's time; else one whose plan is done becomes
+    /// change with the group. A row whose controller breaks is suspended since the break's time; else one whose plan is done becomes
     /// duplex, and one that waited is copied. Volumes that have failed by then have no image, and their rows are suspended since
     /// the cut; under level SESSION every other row that isn't suspended is suspended with them.
     ///
     /// Where the record doesn't fit the rest of the data set, a switch comes first. Where the next data set holds the spot of the
     /// mark that counts, a mark comes before the switch: it syncs the volumes that were written one after another, its rows tell
-    /// the volumes that have failed by then, since the site's time, and the record is formed again behind it. The rows that these
+    /// the volumes that have failed by then, since the site's time, and the record is formed again after it. The rows that these
     /// failures reach then come with the record. It takes no memory.
     ///
     /// `Spent` comes exactly where a record or a mark would need the number 2^64 - 1; nothing is written then. A `Fault` names a
@@ -127,7 +127,7 @@ impl<V> Site<V> {
         ensures cause { HasStoreCause (P.state plant.old).faults (P.state plant.new).faults result }
         ensures failed { FailByCounts self.old.failed self.new.failed (P.state plant.old).faults (P.state plant.new).faults }
     {
-        // The body has room for groups of so many controls.
+        // The body has room for groups of so many controllers.
         prove!(formed.controls() <= self.controls);
         // No item waits by what the call requires.
         self.waits = false;
@@ -143,7 +143,7 @@ impl<V> Site<V> {
             return Err(StoreError::Spent);
         }
         match placement {
-            Placement::Marked => return self.log_group_behind_mark(plant, formed),
+            Placement::Marked => return self.log_group_after_mark(plant, formed),
             Placement::Here | Placement::Switched => {}
         }
         put_record(

@@ -11,7 +11,7 @@ ghost use Rattle.site_store.specs.declared.store_error.StoreError.TheVariants.{S
 ghost use Rattle.site_store.specs.Causes.{FailByCounts, HasStoreCause};
 ghost use Rattle.site_store.specs.Hits.{AreDevices};
 ghost use Rattle.site_store.specs.Jobs.{has_job_failed};
-ghost use Rattle.site_store.specs.Marking.{AllPutMark, DoesMark, IsMarked, MakesMark, MarkIsPut, Marks, MayMark, MayPutMark, MayWriteMark, behind_next_mark, rows_at_mark, unit_of};
+ghost use Rattle.site_store.specs.Marking.{AllPutMark, DoesMark, IsMarked, MakesMark, MarkIsPut, Marks, MayMark, MayPutMark, MayWriteMark, after_next_mark, rows_at_mark, unit_of};
 ghost use Rattle.site_store.specs.Records.{IsOfMark};
 ghost use Rattle.site_store.specs.Sites.{next_mark};
 ghost use Rattle.site_store.specs.Standing.{Leaves, StandsFast, none_excepted};
@@ -28,7 +28,7 @@ use std::thread::Threads;
 use xrc_journal::VolumeJob;
 
 /// Suspends the rows of volumes that have failed, and the rows that these reach under the level `reach`, since the mark's time;
-/// and writes the mark behind its state.
+/// and writes the mark after its state.
 fn put_rows<V, P: Plant>(
     plant: &mut P,
     jobs: &[VolumeJob<V>],
@@ -119,7 +119,7 @@ impl<V> Site<V> {
         reach: Level,
     ) -> Result<(), StoreError>
         requires may { MayPutMark P.tells self.old (P.state plant.old) }
-        ensures ok { OnOk result (self.new ≡ behind_next_mark ended (rows_at_mark reach self.old self.old.failed) self.old.failed self.old) }
+        ensures ok { OnOk result (self.new ≡ after_next_mark ended (rows_at_mark reach self.old self.old.failed) self.old.failed self.old) }
         ensures failed { self.new.failed ≡ self.old.failed }
         ensures leaves { OnOk result (Leaves P.tells (λ e. none_excepted) self.old self.new (P.state plant.old) (P.state plant.new)) }
         ensures makes { MakesMark P.tells ended (rows_at_mark reach self.old self.old.failed) self.old self.new (P.state plant.old) (P.state plant.new) result }
@@ -153,7 +153,7 @@ impl<V> Site<V> {
         requires fast { StandsFast P.tells self.old (P.state plant.old) }
         requires idle { self.old.waiting ≡ [] }
         requires number { self.old.mark.number < 2 ^ 64 - 2 }
-        ensures ok { OnOk result (self.new ≡ behind_next_mark self.old.mark.ended (rows_at_mark reach self.old self.new.failed) self.new.failed self.old) }
+        ensures ok { OnOk result (self.new ≡ after_next_mark self.old.mark.ended (rows_at_mark reach self.old self.new.failed) self.new.failed self.old) }
         ensures marked { IfOk result (λ marked. AreDevices (hit_now self.new.failed self.old.table.rows) marked) }
         ensures leaves { OnOk result (Leaves P.tells (λ e. none_excepted) self.old self.new (P.state plant.old) (P.state plant.new)) }
         ensures makes { MakesMark P.tells self.old.mark.ended (rows_at_mark reach self.old self.new.failed) self.old self.new (P.state plant.old) (P.state plant.new) (unit_of result) }

@@ -23,7 +23,7 @@ pub(crate) enum Placement {
     Marked,
 }
 
-/// The data set behind one.
+/// The data set after one.
 pub(crate) fn next_set(sets: u16, set: u16) -> u16
     requires { set < sets }
     ensures next { result ≡ next_set sets set }
@@ -48,7 +48,7 @@ pub(crate) fn placement_from<P: Plant>(plant: &P, at: Spot, marked: Spot, body: 
     }
 }
 
-/// Whether a record of the number `next` that is placed so would need a number behind the greatest, or the mark before it.
+/// Whether a record of the number `next` that is placed so would need a number after the greatest, or the mark before it.
 pub(crate) fn record_needs_more(placement: Placement, next: u64, mark: u64) -> bool
     ensures { result ≡ record_needs_more placement next mark }
 {

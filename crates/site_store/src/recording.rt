@@ -1,4 +1,4 @@
-//! A record put at the journal's end, behind a switch where it doesn't fit.
+//! A record put at the journal's end, after a switch where it doesn't fit.
 
 ghost use Rattle.std.specs.Prelude.{◌≡◌, ◌≢◌, length, OnOk, IsErrOf};
 ghost use Rattle.crash_plant.specs.declared.device.Device.TheVariants.{Journal as JournalDevice};
@@ -12,7 +12,7 @@ ghost use Rattle.site_store.specs.declared.placement.Placement.TheVariants.{Here
 ghost use Rattle.site_store.specs.Causes.{HasStoreCause};
 ghost use Rattle.site_store.specs.Recording.{MayPutRecord, ShowsRecord, group_in};
 ghost use Rattle.site_store.specs.Records.{IsJournal};
-ghost use Rattle.site_store.specs.Placements.{spot_behind};
+ghost use Rattle.site_store.specs.Placements.{spot_after_record};
 
 use crate::StoreError;
 use crate::placement::Placement;
@@ -73,7 +73,7 @@ fn put_switched<P: Plant>(
 ) -> Result<(), StoreError>
     requires may { MayPutRecord P.tells Switched journal.old.marked journal.old.at cut.0 body.now.items (P.state plant.old) }
     ensures shows { ShowsRecord P.tells Switched journal.old.marked journal.old.at (group_in cut body.now) (P.state plant.old) (P.state plant.new) result }
-    ensures at { OnOk result (journal.new.at ≡ spot_behind (P.state plant.old).journals Switched body.now.items journal.old.at) }
+    ensures at { OnOk result (journal.new.at ≡ spot_after_record (P.state plant.old).journals Switched body.now.items journal.old.at) }
     ensures marked { journal.new.marked ≡ journal.old.marked }
     ensures only { WorksOn P.tells IsJournal (P.state plant.old) (P.state plant.new) }
     ensures cause { HasStoreCause (P.state plant.old).faults (P.state plant.new).faults result }
@@ -94,7 +94,7 @@ pub(crate) fn put_record<P: Plant>(
 ) -> Result<(), StoreError>
     requires may { MayPutRecord P.tells placement journal.old.marked journal.old.at cut.0 body.now.items (P.state plant.old) }
     ensures shows { ShowsRecord P.tells placement journal.old.marked journal.old.at (group_in cut body.now) (P.state plant.old) (P.state plant.new) result }
-    ensures at { OnOk result (journal.new.at ≡ spot_behind (P.state plant.old).journals placement body.now.items journal.old.at) }
+    ensures at { OnOk result (journal.new.at ≡ spot_after_record (P.state plant.old).journals placement body.now.items journal.old.at) }
     ensures marked { journal.new.marked ≡ journal.old.marked }
     ensures only { WorksOn P.tells IsJournal (P.state plant.old) (P.state plant.new) }
     ensures cause { HasStoreCause (P.state plant.old).faults (P.state plant.new).faults result }

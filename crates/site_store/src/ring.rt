@@ -64,7 +64,7 @@ pub fn switches_mean_the_same<P: Plant>(old: &P, new: &P)
     ensures durable { SwitchIsDurable P.tells (P.state old.now) (P.state new.now) }
 {}
 
-/// So it is with a switch, and a group behind it.
+/// So it is with a switch, and a group after it.
 pub fn switched_groups_are_meant<P: Plant>(old: &P, mid: &P, new: &P)
     ensures shown { SwitchedGroupIsShown (P.state old.now) (P.state mid.now) (P.state new.now) }
     ensures meant { SwitchedGroupIsMeant (P.state old.now) (P.state mid.now) (P.state new.now) }

@@ -19,7 +19,7 @@ use control_set::Mark;
 use crash_plant::{Device, Plant};
 use pair_table::{Level, PairTable};
 
-/// Writes the level and the rows into a mark's slot of the state, and the mark behind them.
+/// Writes the level and the rows into a mark's slot of the state, and the mark after them.
 pub(crate) fn put_mark<P: Plant>(
     plant: &mut P,
     level: Level,

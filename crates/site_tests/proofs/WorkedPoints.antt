@@ -149,7 +149,7 @@ marked_row = record {
 }
 
 pub resumed_mark : ResumedMarkIsWorked
-resumed_mark = record { asked = refl; asked_behind = refl }
+resumed_mark = record { asked = refl; asked_after = refl }
 
 pub ended_row : EndedRowIsWorked
 ended_row = record {
@@ -184,7 +184,7 @@ ended_row = record {
       ),
     ),
   );
-  none_behind = λ way. true≢false way.0.not_ending;
+  none_after = λ way. true≢false way.0.not_ending;
   none_before = λ way. absurd (omega (arith, way.0.last));
 }
 

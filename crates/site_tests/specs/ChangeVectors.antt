@@ -5,7 +5,7 @@ use Rattle.pair_table.specs.declared.row.PairState.{PairState}
 use Rattle.site_tests.specs.PairVectors.{first_row}
 use Rattle.row_changes.specs.Changes.{RowChange, Timed}
 
--- two pairs of two controls, and a change at a time
+-- two pairs of two controllers, and a change at a time
 abbrev pub second_row : PairState → PairRow
 second_row state = record { primary = codes "PRIM02"; secondary = codes "SEC002"; control = 1; volume = 0; device = 1; cylinders = 1; state = state }
 
@@ -15,7 +15,7 @@ two_rows one two = first_row one ∷ second_row two ∷ []
 abbrev pub at_time : ℕ → RowChange → Timed
 at_time time change = record { time = time; change = change }
 
--- two controls of which none breaks
+-- two controllers of which none breaks
 abbrev pub no_breaks : List (Option ℕ)
 no_breaks = None ∷ None ∷ []
 

@@ -33,6 +33,6 @@ group_bytes = hex (codes "01 01 0000000000000001 0000000000000080 0000000F") ++ 
 abbrev pub switch_bytes : List ℕ
 switch_bytes = hex (codes "01 02 0000000000000002 0000000000000080 00000002 0001")
 
--- with as many zeros behind it as a switch has bytes
+-- with as many zeros after it as a switch has bytes
 abbrev pub and_zeros : List ℕ → List ℕ
 and_zeros bytes = bytes ++ replicate 23 0

@@ -8,7 +8,7 @@ use Rattle.pair_table.specs.declared.row.PairRow.{PairRow}
 use Rattle.pair_table.specs.Naming.{Naming}
 use Rattle.pair_table.specs.Tables.{Table, new_table}
 
--- PRIM01 and SEC001, the first volume of the first control and the first device, of one cylinder
+-- PRIM01 and SEC001, the first volume of the first controller and the first device, of one cylinder
 abbrev pub first_row : PairState → PairRow
 first_row state = record { primary = codes "PRIM01"; secondary = codes "SEC001"; control = 0; volume = 0; device = 0; cylinders = 1; state = state }
 

@@ -27,7 +27,7 @@ use Rattle.consistency.specs.Answering.{points_before}
 use Rattle.consistency.specs.Ways.{ComesBy, ComesNext, Leg, PassedPoint, Way, hits_of_leg, hits_stand, leg_after, leg_by}
 use Rattle.consistency.specs.Ways.Way.{Commanded, Ending, MarkedFor, OnTheWay}
 
--- ---- two controls, each with one volume of one cylinder, and two devices
+-- ---- two controllers, each with one volume of one cylinder, and two devices
 
 abbrev pub worked_row : PairState → PairRow
 worked_row state = record { primary = codes "PRIM01"; secondary = codes "SEC001"; control = 0; volume = 0; device = 0; cylinders = 1; state = state }
@@ -59,13 +59,13 @@ timed_change time change = record { time = time; change = change }
 abbrev pub line_asking : (time : ℕ) → Command → Line
 line_asking time command = record { time = record { 0 = time }; session = codes "ABC"; command = command }
 
--- a leg that begins at a point, behind so many lines, before any device was hit
+-- a leg that begins at a point, after so many lines, before any device was hit
 abbrev pub worked_leg : (answered : ℕ) → Point → Leg
 worked_leg answered p = record { point = p; replied = p.time; changes = []; marked = []; answered = answered; hit_before = λ device. 0 }
 
 -- ---- a pair that is suspended and added again
 
--- writes on track 3 before the pair's suspension and behind it
+-- writes on track 3 before the pair's suspension and after it
 abbrev pub resumed_run : ScriptRun
 resumed_run = worked_session VolumeLevel (one_volume_trace (codes "PRIM01")
     (Written (record { volume = 0; track = 3; stamp = record { 0 = 0x64 }; kind = Whole [] }) ∷ Written (record { volume = 0; track = 3; stamp = record { 0 = 0x110 }; kind = Update 1 [] })
@@ -89,7 +89,7 @@ resumed_points =
     ∷ passed 6 0x100 (worked_row (since ByCommand 0x100) ∷ []) (Commanded 2 [])
     ∷ passed 7 0x200 (worked_row (since ByCommand 0x100) ∷ []) (OnTheWay []) ∷ []
 
--- They come one from another, and the pair that is added again asks for the one track that was written behind its suspension.
+-- They come one from another, and the pair that is added again asks for the one track that was written after its suspension.
 pub record ResumedRowIsWorked : Type 0 where
   pub linked : AreLinked (ComesNext resumed_run resumed_asked) leg_after (worked_leg 1 resumed_first) resumed_points
   pub asked : tracks_asked resumed_run resumed_first resumed_points (worked_row (since ByCommand 0x100) ∷ []) (codes "PRIM01") 0x200 ≡ 1
@@ -125,7 +125,7 @@ pub record FailingRowIsWorked : Type 0 where
 
 -- ---- a volume that fails in a mark for a command's record
 
--- a point behind a mark in which the first device was hit, where the others are due
+-- a point after a mark in which the first device was hit, where the others are due
 abbrev pub marked_point : (moment time : ℕ) → (line : ℕ) → List PairRow → PassedPoint
 marked_point moment time line rows = record {
   moment = moment;
@@ -148,7 +148,7 @@ gone_points =
     marked_point 2 0x80 3 (worked_row (since ByDevice 0x80) ∷ other_worked_row Duplex ∷ [])
     ∷ passed 3 0x80 (other_worked_row Duplex ∷ []) (Commanded 3 []) ∷ []
 
--- The hit stands behind the command, and leaves nothing due; without it there the points don't come one from another. It is counted once,
+-- The hit stands after the command, and leaves nothing due; without it there the points don't come one from another. It is counted once,
 -- also if the pair is gone.
 pub record MarkedRowIsWorked : Type 0 where
   pub linked : AreLinked (ComesNext failing_run (λ line. Some (line_asking 0x80 (Suspend (One (codes "PRIM02") (codes "SEC002")))))) leg_after (worked_leg 3 marked_first) marked_points
@@ -163,10 +163,10 @@ resumed_marked =
     marked_point 8 0x200 3 (worked_row (since ByDevice 0x200) ∷ [])
     ∷ passed 9 0x200 (worked_row (since ByDevice 0x200) ∷ []) (Commanded 3 (timed_change 0x200 (Hit (0 ∷ [])) ∷ [])) ∷ []
 
--- Its reply tells the tracks that it owed before.
+-- Its reply says the tracks that it owed before.
 pub record ResumedMarkIsWorked : Type 0 where
   pub asked : tracks_asked resumed_run resumed_first (points_before 3 (resumed_points ++ resumed_marked)) (worked_row (since ByCommand 0x100) ∷ []) (codes "PRIM01") 0x200 ≡ 1
-  pub asked_behind : tracks_asked resumed_run resumed_first (resumed_points ++ resumed_marked) (worked_row (since ByCommand 0x100) ∷ []) (codes "PRIM01") 0x200 ≡ 15
+  pub asked_after : tracks_asked resumed_run resumed_first (resumed_points ++ resumed_marked) (worked_row (since ByCommand 0x100) ∷ []) (codes "PRIM01") 0x200 ≡ 15
 
 -- ---- the end
 
@@ -176,29 +176,29 @@ ending_asked line = if nat_lt line 3 then None else Some (line_asking 0x80 End)
 abbrev pub ended_point : Point
 ended_point = record { time = 0x80; rows = worked_row (since ByDevice 0x80) ∷ other_worked_row (since BySession 0x80) ∷ []; due = NoneDue; is_ended = true }
 
--- a volume that fails in the mark that ends the session, and a line behind it
+-- a volume that fails in the mark that ends the session, and a line after it
 abbrev pub ending_points : List PassedPoint
 ending_points =
     passed 2 0x80 (worked_row Duplex ∷ other_worked_row Duplex ∷ []) (Commanded 3 [])
     ∷ record { moment = 3; point = ended_point; way = Ending 3 (timed_change 0x80 (Hit (0 ∷ [])) ∷ []) }
     ∷ record { moment = 3; point = ended_point; way = Commanded 4 [] } ∷ []
 
--- They come one from another. No change comes behind the accepted end's command, and no end without it.
+-- They come one from another. No change comes after the accepted end's command, and no end without it.
 pub record EndedRowIsWorked : Type 0 where
   pub linked : AreLinked (ComesNext failing_run ending_asked) leg_after (worked_leg 3 marked_first) ending_points
-  pub none_behind : ¬ ComesBy failing_run ending_asked (leg_by (worked_leg 3 marked_first) marked_first (Commanded 3 [])) marked_first (OnTheWay [])
+  pub none_after : ¬ ComesBy failing_run ending_asked (leg_by (worked_leg 3 marked_first) marked_first (Commanded 3 [])) marked_first (OnTheWay [])
   pub none_before : ¬ ComesBy failing_run ending_asked (worked_leg 3 marked_first) ended_point (Ending 3 (timed_change 0x80 (Hit (0 ∷ [])) ∷ []))
 
 -- ---- a cut trace
 
--- the second control's trace is cut behind a write at [60], so that it breaks at [5F]
+-- the second controller's trace is cut after a write at [60], so that it breaks at [5F]
 abbrev pub cut_run : ScriptRun
 cut_run = worked_session VolumeLevel (one_volume_trace (codes "PRIM01") [] Ended ∷ one_volume_trace (codes "PRIM02") (Written (record { volume = 0; track = 0; stamp = record { 0 = 0x60 }; kind = Whole [] }) ∷ []) (BadTrace 41) ∷ [])
 
 abbrev pub cut_rows : List PairRow
 cut_rows = worked_row Duplex ∷ other_worked_row (since ByControl 0x5F) ∷ []
 
--- A control that broke at a point breaks no more behind it.
+-- A controller that broke at a point breaks no more after it.
 pub record CutRowIsWorked : Type 0 where
   pub linked : AreLinked (ComesNext cut_run (λ line. Some (line_asking 0x70 Query))) leg_after (worked_leg 3 (point_of_rows 0x58 (worked_row Duplex ∷ other_worked_row Duplex ∷ [])))
       (passed 2 0x5F cut_rows (OnTheWay (timed_change 0x5F (Break 1) ∷ [])) ∷ passed 3 0x70 cut_rows (OnTheWay []) ∷ passed 4 0x70 cut_rows (Commanded 3 []) ∷ [])

@@ -1,4 +1,4 @@
--- What worked records and marks name: two pairs of one control, and groups.
+-- What worked records and marks name: two pairs of one controller, and groups.
 use Rattle.std.specs.Prelude.{ℕ, List, [], ◌∷◌, true, false, Bool, codes}
 use Rattle.tod_stamp.specs.declared.stamp.Stamp.{Stamp}
 use Rattle.ckd_track.specs.declared.write.Cause.TheVariants.{ReadFault}
@@ -10,7 +10,7 @@ use Rattle.pending_queue.specs.Groups.{FormedGroup, empty_group, with_break, wit
 use Rattle.row_changes.specs.Changes.{since}
 use Rattle.site_tests.specs.PairVectors.{first_row}
 
--- the second volume of the first control, with the second device
+-- the second volume of the first controller, with the second device
 abbrev pub beside_row : PairState → PairRow
 beside_row state = record { primary = codes "PRIM02"; secondary = codes "SEC002"; control = 0; volume = 1; device = 1; cylinders = 1; state = state }
 
@@ -31,7 +31,7 @@ stamp_at time = record { 0 = time }
 abbrev pub group_cut_at : (cut : ℕ) → FormedGroup
 group_cut_at cut = empty_group 1 (stamp_at cut)
 
--- the group of [5F], the break time of the first control
+-- the group of [5F], the break time of the first controller
 abbrev pub broken_group : FormedGroup
 broken_group = with_break (group_cut_at 0x5F) 0 (stamp_at 0x5F) ReadFault
 

@@ -28,7 +28,7 @@ pub fn marked_hits()
     ensures past_the_record { may_all_come Session no_breaks true NoneDue 0x60 0x80 (two_rows Duplex Duplex) (at_time 0x70 (MarkedHit (1 ∷ [])) ∷ []) ≡ false }
     ensures left_out { may_all_come Session no_breaks true NoneDue 0x60 0x6D (two_rows Pending Duplex) (at_time 0x60 (MarkedHit (1 ∷ [])) ∷ at_time 0x6D (Mature 0 Duplex) ∷ []) ≡ false }
     ensures with_the_record { may_all_come Session no_breaks true NoneDue 0x60 0x6D (two_rows Pending Duplex) (at_time 0x60 (MarkedHit (1 ∷ [])) ∷ at_time 0x6D (Mature 0 Duplex) ∷ at_time 0x6D (Reached (1 ∷ [])) ∷ []) ≡ true }
-    ensures behind_the_record { may_all_come Session no_breaks true NoneDue 0x60 0x70 (two_rows Pending Duplex) (at_time 0x60 (MarkedHit (1 ∷ [])) ∷ at_time 0x6D (Mature 0 Duplex) ∷ at_time 0x70 (Reached (1 ∷ [])) ∷ []) ≡ false }
+    ensures after_the_record { may_all_come Session no_breaks true NoneDue 0x60 0x70 (two_rows Pending Duplex) (at_time 0x60 (MarkedHit (1 ∷ [])) ∷ at_time 0x6D (Mature 0 Duplex) ∷ at_time 0x70 (Reached (1 ∷ [])) ∷ []) ≡ false }
     ensures of_another_hit { may_all_come Session no_breaks false NoneDue 0x60 0x6D (two_rows Duplex Duplex) (at_time 0x60 (MarkedHit (1 ∷ [])) ∷ at_time 0x6D (Reached (0 ∷ [])) ∷ []) ≡ false }
     ensures hit_in_the_record { may_all_come Session no_breaks false NoneDue 0x60 0x6D (two_rows Duplex Duplex) (at_time 0x60 (MarkedHit (1 ∷ [])) ∷ at_time 0x6D (Hit (0 ∷ [])) ∷ []) ≡ false }
     ensures reached_before { may_all_come Session no_breaks false NoneDue 0x60 0x6D (two_rows Duplex Duplex) (at_time 0x60 (MarkedHit (1 ∷ [])) ∷ at_time 0x6D (Reached (1 ∷ [])) ∷ at_time 0x6D (Hit (0 ∷ [])) ∷ []) ≡ true }
@@ -37,7 +37,7 @@ pub fn marked_hits()
     ensures after_a_command { is_hit_at 0x80 (at_time 0x80 (MarkedHit (1 ∷ []))) ≡ false }
 {}
 
-/// A break suspends the rows of its control since its break time, and must have come by a later time.
+/// A break suspends the rows of its controller since its break time, and must have come by a later time.
 pub fn breaks()
     ensures suspended { after_changes Volume (at_time 0x5F (Break 1) ∷ []) (two_rows Duplex Duplex) ≡ two_rows Duplex (since ByControl 0x5F) }
     ensures may_come { may_all_come Volume (None ∷ Some 0x5F ∷ []) false NoneDue 0x58 0x70 (two_rows Duplex Duplex) (at_time 0x5F (Break 1) ∷ []) ≡ true }

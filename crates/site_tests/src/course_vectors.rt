@@ -30,8 +30,8 @@ pub fn lines()
     ensures many { later_line 100000 0x50 (Some (query_at 0x60)) ≡ None }
 {}
 
-/// Behind the session's end replies have its time, and the time of the last line goes on.
-pub fn behind_the_end()
+/// After the session's end replies have its time, and the time of the last line goes on.
+pub fn after_the_end()
     ensures replied { (stage_at run_of_none lines_past_end 2).replied ≡ 0x90 }
     ensures last { last_line_time lines_past_end 2 ≡ 0x99 }
 {}
@@ -49,7 +49,7 @@ pub fn replies()
     ensures nothing { (accepted : Bool) (line : Line) → IsReply accepted line [] → ⊥ }
 {}
 
-/// Behind the replies to a run's lines a status may be said, but no reply to another line. Nothing asks nothing.
+/// After the replies to a run's lines a status may be said, but no reply to another line. Nothing asks nothing.
 pub fn standing()
     ensures status { StandsAt [] [] status_18 }
     ensures reply { StandsAt [] [] start_reply → ⊥ }

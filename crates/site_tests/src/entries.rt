@@ -29,7 +29,7 @@ fn rec(rt: &impl Abort, alloc: Global, content: &[u8; 2]) -> Rec {
     }
 }
 
-/// Record 1 behind the track's start.
+/// Record 1 after the track's start.
 pub(crate) fn format(rt: &impl Abort, alloc: Global, content: &[u8; 2]) -> Kind {
     let mut recs = RecList::make(alloc);
     recs.push(alloc, rec(rt, alloc, content))
@@ -46,7 +46,7 @@ pub(crate) fn whole(rt: &impl Abort, alloc: Global, content: &[u8; 2]) -> Kind {
     Kind::Whole { track }
 }
 
-/// Adds the entry of a write to a track of a volume of control 0, which is popped from a queue with room for one.
+/// Adds the entry of a write to a track of a volume of controller 0, which is popped from a queue with room for one.
 pub(crate) fn add(
     rt: &impl Abort,
     alloc: Global,

@@ -8,7 +8,7 @@ use std::fmt::Debug;
 use std::process::Abort;
 use tod_stamp::{Serial, Session};
 
-/// The length that a journal needs for one control.
+/// The length that a journal needs for one controller.
 pub(crate) const JOURNAL: u64 = 1_826_816;
 
 /// What was found is what was expected. The message names the case.
@@ -29,7 +29,7 @@ pub(crate) fn serial(rt: &impl Abort, name: &[u8]) -> Serial {
     Serial::read(name).expect(rt, "a name")
 }
 
-/// The row of PRIM01 and SEC001: of a volume of control 0, on device 0, with one cylinder, duplex.
+/// The row of PRIM01 and SEC001: of a volume of controller 0, on device 0, with one cylinder, duplex.
 pub(crate) fn first_row(rt: &impl Abort, volume: u16) -> PairRow
     ensures device { result.device ≡ 0 }
     ensures cylinders { result.cylinders ≡ 1 }
@@ -45,7 +45,7 @@ pub(crate) fn first_row(rt: &impl Abort, volume: u16) -> PairRow
     }
 }
 
-/// The row of PRIM02 and SEC002, of a volume of control 0.
+/// The row of PRIM02 and SEC002, of a volume of controller 0.
 pub(crate) fn second_row(
     rt: &impl Abort,
     volume: u16,

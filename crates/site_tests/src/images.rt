@@ -26,7 +26,7 @@ const ROOM: u32 = 600_000;
 /// The length of a volume that ends with the slot of track 3.
 const FOUR_TRACKS: u64 = 229_888;
 
-/// Volume 7 of control 0 has its secondary on device 0, and volume 5 on device 1.
+/// Volume 7 of controller 0 has its secondary on device 0, and volume 5 on device 1.
 fn worked_table(rt: &impl Abort, alloc: Global) -> PairTable {
     let mut table = PairTable::make(alloc, session(rt)).expect(rt, "memory");
     put_row(rt, alloc, &mut table, first_row(rt, 7));

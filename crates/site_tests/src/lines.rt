@@ -19,7 +19,7 @@ fn one(rt: &impl Abort, primary: &[u8], secondary: &[u8]) -> Choice {
     }
 }
 
-/// This command of ABC is read where its text stands behind the time AB.
+/// This command of ABC is read where its text stands after the time AB.
 fn assert_read(rt: &impl Abort, text: &[u8], command: Command) {
     let line = Line {
         time: Stamp(0xAB),

@@ -11,7 +11,7 @@ use test_fixtures::zeros;
 use tod_stamp::Stamp;
 use xrc_command::Line;
 
-/// The line of this number, behind one at 50, is heard as this.
+/// The line of this number, after one at 50, is heard as this.
 fn assert_next(rt: &impl Abort, alloc: Global, number: u32, script: &[u8], next: Next)
     requires { 1 ≤ number }
 {

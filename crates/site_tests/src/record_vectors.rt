@@ -1,4 +1,4 @@
-//! Worked rows behind records and marks: what the definitions give for them.
+//! Worked rows after records and marks: what the definitions give for them.
 
 ghost use Rattle.std.specs.Prelude.{◌≡◌, ◌∷◌, [], true, false, Some};
 ghost use Rattle.pair_table.specs.declared.level.Level.TheVariants.{Session, Volume};
@@ -10,7 +10,7 @@ ghost use Rattle.row_changes.specs.Changes.{may_all_come, reach_of, since};
 ghost use Rattle.record_rows.specs.ChangedRows.{changed_rows, state_with_record};
 ghost use Rattle.record_rows.specs.GroupRows.{rows_with_group};
 ghost use Rattle.record_rows.specs.Hits.{hit_now, rows_marked};
-ghost use Rattle.record_rows.specs.Records.{changes_behind_mark, record_changes, rows_behind_mark, rows_with_hits, rows_with_record};
+ghost use Rattle.record_rows.specs.Records.{changes_after_mark, record_changes, rows_after_mark, rows_with_hits, rows_with_record};
 ghost use Rattle.site_tests.specs.ChangeVectors.{at_time, no_breaks};
 ghost use Rattle.site_tests.specs.RecordVectors.{beside_row, both_failed, broken_group, done_group, duplex_rows, group_cut_at, rows_beside, second_failed, second_out};
 
@@ -31,12 +31,12 @@ pub fn failing_volume()
 /// It fails in a mark at [70] that is made before the record of [80]. The other pair waits for the record.
 pub fn failing_in_mark()
     ensures mark { rows_marked 0x70 (hit_now second_failed duplex_rows) duplex_rows ≡ second_out 0x70 }
-    ensures alone { rows_behind_mark Volume (1 ∷ []) (group_cut_at 0x80) second_failed (second_out 0x70) ≡ second_out 0x70 }
-    ensures all { rows_behind_mark Session (1 ∷ []) (group_cut_at 0x80) second_failed (second_out 0x70) ≡ rows_beside (since BySession 0x80) (since ByDevice 0x70) }
-    ensures none_reached { changes_behind_mark Volume (1 ∷ []) (group_cut_at 0x80) second_failed (second_out 0x70) ≡ [] }
-    ensures reached { changes_behind_mark Session (1 ∷ []) (group_cut_at 0x80) second_failed (second_out 0x70) ≡ at_time 0x80 (Reached (1 ∷ [])) ∷ [] }
-    ensures both { rows_behind_mark Session (1 ∷ []) (group_cut_at 0x80) both_failed (second_out 0x70) ≡ rows_beside (since ByDevice 0x80) (since ByDevice 0x70) }
-    ensures hit { changes_behind_mark Session (1 ∷ []) (group_cut_at 0x80) both_failed (second_out 0x70) ≡ at_time 0x80 (Reached (1 ∷ [])) ∷ at_time 0x80 (Hit (0 ∷ [])) ∷ [] }
+    ensures alone { rows_after_mark Volume (1 ∷ []) (group_cut_at 0x80) second_failed (second_out 0x70) ≡ second_out 0x70 }
+    ensures all { rows_after_mark Session (1 ∷ []) (group_cut_at 0x80) second_failed (second_out 0x70) ≡ rows_beside (since BySession 0x80) (since ByDevice 0x70) }
+    ensures none_reached { changes_after_mark Volume (1 ∷ []) (group_cut_at 0x80) second_failed (second_out 0x70) ≡ [] }
+    ensures reached { changes_after_mark Session (1 ∷ []) (group_cut_at 0x80) second_failed (second_out 0x70) ≡ at_time 0x80 (Reached (1 ∷ [])) ∷ [] }
+    ensures both { rows_after_mark Session (1 ∷ []) (group_cut_at 0x80) both_failed (second_out 0x70) ≡ rows_beside (since ByDevice 0x80) (since ByDevice 0x70) }
+    ensures hit { changes_after_mark Session (1 ∷ []) (group_cut_at 0x80) both_failed (second_out 0x70) ≡ at_time 0x80 (Reached (1 ∷ [])) ∷ at_time 0x80 (Hit (0 ∷ [])) ∷ [] }
     ensures no_record { rows_with_hits Session 0x70 second_failed duplex_rows ≡ rows_beside (since BySession 0x70) (since ByDevice 0x70) }
 {}
 

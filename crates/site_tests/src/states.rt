@@ -1,4 +1,4 @@
-//! A state of 64 rows at level SESSION in its second slot, behind a mark by which the session has ended.
+//! A state of 64 rows at level SESSION in its second slot, after a mark by which the session has ended.
 
 ghost use Rattle.crash_plant.specs.Calls.{NoneLent};
 
@@ -26,7 +26,7 @@ const FROM: Spot = Spot {
     number: 5,
 };
 
-/// A row that clashes with none of another number, of which each control has sixteen.
+/// A row that clashes with none of another number, of which each controller has sixteen.
 fn numbered(rt: &impl Abort, number: u8) -> PairRow {
     let name = [b'P', b'A' + number / 16 % 16, b'A' + number % 16];
     PairRow {

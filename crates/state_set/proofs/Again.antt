@@ -17,7 +17,7 @@ use Rattle.pair_table.proofs.FieldPlaces.{drop_past, index_past}
 use Rattle.pair_table.proofs.RowsAgain.{rows_back}
 use Rattle.state_set.specs.Slots.{title, level_number, rows_spelling, slot_spelling, level_of_number, rows_at, kept, rows_in, state_at}
 use Rattle.state_set.specs.Laws.{StatesReadBack}
-use Rattle.state_set.proofs.Behind.{rows_from}
+use Rattle.state_set.proofs.After.{rows_from}
 use Rattle.state_set.proofs.Fields.{with_level, of_level}
 use Rattle.state_set.proofs.Spelled.{row_length}
 
@@ -42,34 +42,34 @@ level_again : (level : Level) → level_of_number (level_number level) ≡ Some 
 level_again Volume = refl
 level_again Session = refl
 
--- what stands behind the title
-abbrev behind_title : Level → List PairRow → List ℕ → List ℕ
-behind_title level rows rest = level_number level ∷ to_be_bytes w16 (length rows) ++ (rows_spelling rows ++ rest)
+-- what stands after the title
+abbrev after_title : Level → List PairRow → List ℕ → List ℕ
+after_title level rows rest = level_number level ∷ to_be_bytes w16 (length rows) ++ (rows_spelling rows ++ rest)
 
-pub titled_is : (session : List ℕ) (level : Level) (rows : List PairRow) (rest : List ℕ) → slot_spelling session level rows ++ rest ≡ title session ++ behind_title level rows rest
+pub titled_is : (session : List ℕ) (level : Level) (rows : List PairRow) (rest : List ℕ) → slot_spelling session level rows ++ rest ≡ title session ++ after_title level rows rest
 titled_is session level rows rest =
     append_assoc (title session ++ (level_number level ∷ to_be_bytes w16 (length rows))) (rows_spelling rows) rest
     ∙ append_assoc (title session) (level_number level ∷ to_be_bytes w16 (length rows)) (rows_spelling rows ++ rest)
 
 module _ (session : List ℕ) (is : is_session session ≡ true) (level : Level) (rows : List PairRow) (rest : List ℕ) where
-  pub title_again : take 12 (title session ++ behind_title level rows rest) ≡ title session
-  title_again = take_at (title session) (behind_title level rows rest) 12 (length-title session is)
+  pub title_again : take 12 (title session ++ after_title level rows rest) ≡ title session
+  title_again = take_at (title session) (after_title level rows rest) 12 (length-title session is)
 
-  long_enough : 15 ≤ length (title session ++ behind_title level rows rest)
-  long_enough = omega (arith, length-title session is, length-append (title session) (behind_title level rows rest))
+  long_enough : 15 ≤ length (title session ++ after_title level rows rest)
+  long_enough = omega (arith, length-title session is, length-append (title session) (after_title level rows rest))
 
-  level_there : slice_index (title session ++ behind_title level rows rest) 12 ≡ level_number level
-  level_there = index_past (title session) (behind_title level rows rest) 12 0 12 (length-title session is) refl
+  level_there : slice_index (title session ++ after_title level rows rest) 12 ≡ level_number level
+  level_there = index_past (title session) (after_title level rows rest) 12 0 12 (length-title session is) refl
 
-  count_there : length rows ≤ 64 → from_be_bytes w16 (slice_range (title session ++ behind_title level rows rest) 13 15) ≡ length rows
-  count_there few = ap (λ (t : List ℕ). from_be_bytes w16 (take 2 t)) (drop_past (title session) (behind_title level rows rest) 12 1 13 (length-title session is) refl) ∙ wide16.again (length rows) (omega (arith, few))
+  count_there : length rows ≤ 64 → from_be_bytes w16 (slice_range (title session ++ after_title level rows rest) 13 15) ≡ length rows
+  count_there few = ap (λ (t : List ℕ). from_be_bytes w16 (take 2 t)) (drop_past (title session) (after_title level rows rest) 12 1 13 (length-title session is) refl) ∙ wide16.again (length rows) (omega (arith, few))
 
-  rows_there : drop 15 (title session ++ behind_title level rows rest) ≡ rows_spelling rows ++ rest
-  rows_there = drop_past (title session) (behind_title level rows rest) 12 3 15 (length-title session is) refl
+  rows_there : drop 15 (title session ++ after_title level rows rest) ≡ rows_spelling rows ++ rest
+  rows_there = drop_past (title session) (after_title level rows rest) 12 3 15 (length-title session is) refl
 
 pub states_back : StatesReadBack
 states_back volumes session level rows rest is keeps below =
-    let bytes = title session ++ behind_title level rows rest in
+    let bytes = title session ++ after_title level rows rest in
     let titled = (bytes_eq-Decides (title session) (take 12 bytes)).1 (sym (title_again session is level rows rest)) in
     let fields = of_level volumes session bytes (long_enough session is level rows rest) titled level (ap level_of_number (level_there session is level rows rest) ∙ level_again level) in
     let are = rows_from volumes rows (record { few = keeps.few; apart = keeps.apart; below = below }) in

@@ -7,7 +7,7 @@ use Rattle.pair_table.specs.declared.level.Level.{Level}
 use Rattle.pair_table.specs.declared.row.PairRow.{PairRow}
 use Rattle.pair_table.specs.Tables.{Table, are_below}
 use Rattle.state_set.specs.Slots.{Stored, level_of_number, are_rows, rows_at, kept, rows_in, has_title, slot_fields, state_at, with_table}
-use Rattle.state_set.proofs.Behind.{rows_parts}
+use Rattle.state_set.proofs.After.{rows_parts}
 use Rattle.tod_stamp.specs.Options.{◌>>=◌}
 
 kept_rows : (volumes : ℕ) (o : Option (List PairRow)) (rows : List PairRow) → kept volumes o ≡ Some rows → are_rows volumes rows ≡ true

@@ -8,7 +8,7 @@ use Rattle.pair_table.specs.declared.level.Level.{Level}
 use Rattle.pair_table.specs.declared.row.PairRow.{PairRow}
 use Rattle.pair_table.specs.Tables.{Table}
 use Rattle.state_set.specs.Slots.{Stored, title, level_of_number, are_rows, rows_at, kept, rows_in, slot_fields, state_at, started_table, with_table}
-use Rattle.state_set.proofs.Behind.{not_then, rows_parts}
+use Rattle.state_set.proofs.After.{not_then, rows_parts}
 use Rattle.state_set.proofs.RowsAt.{rows_count}
 use Rattle.tod_stamp.specs.Options.{◌>>=◌}
 

@@ -1,5 +1,5 @@
 pub mod Again
-pub mod Behind
+pub mod After
 pub mod Below
 pub mod Fields
 pub mod RowsAt

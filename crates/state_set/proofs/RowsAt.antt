@@ -1,4 +1,4 @@
--- Rows that are read one behind the other.
+-- Rows that are read one after the other.
 use Rattle.std.proofs.Common.{◌≡◌, ℕ, zero, suc, ◌+◌, ◌*◌, ◌-◌, ◌≤◌, Bool, true, false, cond, List, [], ◌∷◌, ◌++◌, length, take, drop, Option, Some, None, refl, sym, ap, subst, ◌∙◌, arith, append_assoc, append-nil}
 use Rattle.std.specs.Prelude.{slice_range, slice_index, IfSome}
 use Rattle.std.specs.Int.{w64, from_be_bytes}
@@ -8,7 +8,7 @@ use Rattle.tod_stamp.specs.Names.{name_in}
 use Rattle.pair_table.specs.declared.row.PairRow.{PairRow}
 use Rattle.pair_table.specs.Rows.{keeps_row_rules, allowed, row_with, state_of_numbers, fields_of, row_at}
 use Rattle.state_set.specs.Slots.{are_rows, rows_at, kept, rows_in}
-use Rattle.state_set.proofs.Behind.{not_then, rows_front}
+use Rattle.state_set.proofs.After.{not_then, rows_front}
 use Rattle.tod_stamp.specs.Options.{◌>>=◌}
 
 -- the value of a step that gave one
@@ -59,18 +59,18 @@ rows_window (suc count) m bytes le =
 
 -- ---- the rows so far, and those that are left
 
--- rows, and others behind them if there are any to read
-abbrev pub behind : List PairRow → Option (List PairRow) → Option (List PairRow)
-behind rows None = None
-behind rows (Some others) = Some (rows ++ others)
+-- rows, and others after them if there are any to read
+abbrev pub rows_then : List PairRow → Option (List PairRow) → Option (List PairRow)
+rows_then rows None = None
+rows_then rows (Some others) = Some (rows ++ others)
 
-pub behind_nothing : (others : Option (List PairRow)) → behind [] others ≡ others
-behind_nothing None = refl
-behind_nothing (Some others) = refl
+pub after_nothing : (others : Option (List PairRow)) → rows_then [] others ≡ others
+after_nothing None = refl
+after_nothing (Some others) = refl
 
 -- the rows that the bytes are, where these stand in front of the one at a place
 abbrev pub left_at : (volumes count : ℕ) (bytes : List ℕ) (rows : List PairRow) (place : ℕ) → Option (List PairRow)
-left_at volumes count bytes rows place = kept volumes (behind rows (rows_at (count - place) (drop (30 * place) bytes)))
+left_at volumes count bytes rows place = kept volumes (rows_then rows (rows_at (count - place) (drop (30 * place) bytes)))
 
 module _ (volumes count : ℕ) (bytes : List ℕ) (rows : List PairRow) (place : ℕ) (less : place + 1 ≤ count) where
   one_more : count - place ≡ suc (count - (place + 1))
@@ -81,28 +81,28 @@ module _ (volumes count : ℕ) (bytes : List ℕ) (rows : List PairRow) (place :
 
   -- where the next row is none, nothing is read
   pub none_next : row_at (take 30 (drop (30 * place) bytes)) ≡ None → left_at volumes count bytes rows place ≡ None
-  none_next e = ap (λ (k : ℕ). kept volumes (behind rows (rows_at k (drop (30 * place) bytes)))) one_more ∙ rw e refl
+  none_next e = ap (λ (k : ℕ). kept volumes (rows_then rows (rows_at k (drop (30 * place) bytes)))) one_more ∙ rw e refl
 
   -- the next row goes to those so far
   pub some_next : (row : PairRow) → row_at (take 30 (drop (30 * place) bytes)) ≡ Some row → left_at volumes count bytes rows place ≡ left_at volumes count bytes (rows ++ row ∷ []) (place + 1)
   some_next row e =
-      ap (λ (k : ℕ). kept volumes (behind rows (rows_at k (drop (30 * place) bytes)))) one_more
+      ap (λ (k : ℕ). kept volumes (rows_then rows (rows_at k (drop (30 * place) bytes)))) one_more
       ∙ rw (e, further) (ap (kept volumes) (regroup (rows_at (count - (place + 1)) (drop (30 * (place + 1)) bytes))))
     where
-      regroup : (others : Option (List PairRow)) → behind rows (others >>= (λ t. Some (row ∷ t))) ≡ behind (rows ++ row ∷ []) others
+      regroup : (others : Option (List PairRow)) → rows_then rows (others >>= (λ t. Some (row ∷ t))) ≡ rows_then (rows ++ row ∷ []) others
       regroup None = refl
       regroup (Some others) = ap Some (sym (append_assoc rows (row ∷ []) others))
 
--- rows that break a rule break it with others behind them
-pub breaks_on : (volumes : ℕ) (rows : List PairRow) (others : Option (List PairRow)) → are_rows volumes rows ≡ false → kept volumes (behind rows others) ≡ None
+-- rows that break a rule break it with others after them
+pub breaks_on : (volumes : ℕ) (rows : List PairRow) (others : Option (List PairRow)) → are_rows volumes rows ≡ false → kept volumes (rows_then rows others) ≡ None
 breaks_on volumes rows None e = refl
 breaks_on volumes rows (Some others) e = rw (not_then (are_rows volumes (rows ++ others)) (are_rows volumes rows) (rows_front volumes rows others) e) refl
 
 -- at the end
 pub all_read : (volumes count : ℕ) (bytes : List ℕ) (rows : List PairRow) (place : ℕ) → count - place ≡ 0 → are_rows volumes rows ≡ true → left_at volumes count bytes rows place ≡ Some rows
 all_read volumes count bytes rows place done are =
-    ap (λ (k : ℕ). kept volumes (behind rows (rows_at k (drop (30 * place) bytes)))) done ∙ ap (λ (t : List PairRow). kept volumes (Some t)) (append-nil rows) ∙ rw are refl
+    ap (λ (k : ℕ). kept volumes (rows_then rows (rows_at k (drop (30 * place) bytes)))) done ∙ ap (λ (t : List PairRow). kept volumes (Some t)) (append-nil rows) ∙ rw are refl
 
 -- at the start
 pub at_start : (volumes count : ℕ) (bytes : List ℕ) → rows_in volumes count bytes ≡ left_at volumes count bytes [] 0
-at_start volumes count bytes = sym (ap (λ (k : ℕ). kept volumes (behind [] (rows_at k bytes))) (omega arith) ∙ ap (kept volumes) (behind_nothing (rows_at count bytes)))
+at_start volumes count bytes = sym (ap (λ (k : ℕ). kept volumes (rows_then [] (rows_at k bytes))) (omega arith) ∙ ap (kept volumes) (after_nothing (rows_at count bytes)))

@@ -18,7 +18,7 @@ use Rattle.pair_table.proofs.FieldPlaces.{field_and_rest, number_spelled}
 use Rattle.pair_table.proofs.RowReads.{rows_keep, rows_spelled}
 use Rattle.state_set.specs.Slots.{Stored, title, level_number, rows_spelling, slot_spelling, state_length, are_rows, level_of_number, rows_at, kept, rows_in, has_title, slot_fields}
 use Rattle.state_set.specs.Laws.{StatesAreSpelled}
-use Rattle.state_set.proofs.Behind.{rows_parts}
+use Rattle.state_set.proofs.After.{rows_parts}
 use Rattle.state_set.proofs.RowsAt.{bind_some, rows_count}
 use Rattle.tod_stamp.specs.Options.{◌>>=◌}
 
@@ -67,12 +67,12 @@ titled_then : (session bytes : List ℕ) → 15 ≤ length bytes → IsBytes byt
     → (rows : List PairRow) (rest : List ℕ) → length rows ≡ count → drop 15 bytes ≡ rows_spelling rows ++ rest → bytes ≡ slot_spelling session level rows ++ rest
 titled_then session bytes long fits titled level level_is count count_is rows rest many spelled =
     let number : to_be_bytes w16 (length rows) ≡ slice_range bytes 13 15 = ap (to_be_bytes w16) (many ∙ count_is) ∙ number_spelled bytes 13 15 (omega arith) long refl fits in
-    let behind : drop 12 bytes ≡ level_number level ∷ to_be_bytes w16 (length rows) ++ (rows_spelling rows ++ rest) =
+    let after : drop 12 bytes ≡ level_number level ∷ to_be_bytes w16 (length rows) ++ (rows_spelling rows ++ rest) =
     drop_more bytes 12 0 (omega (arith, long)) ∙ ap (λ (n : ℕ). n ∷ drop 13 bytes) (sym level_is)
     ∙ ap (λ (t : List ℕ). level_number level ∷ t) (field_and_rest bytes 13 15 (omega arith) ∙ ap (λ (t : List ℕ). t ++ drop 15 bytes) (sym number) ∙ ap (λ (t : List ℕ). to_be_bytes w16 (length rows) ++ t) spelled) in
     sym (take-append-drop 12 bytes)
     ∙ ap (λ (t : List ℕ). t ++ drop 12 bytes) (sym titled)
-    ∙ ap (λ (t : List ℕ). title session ++ t) behind
+    ∙ ap (λ (t : List ℕ). title session ++ t) after
     ∙ sym (append_assoc (title session ++ (level_number level ∷ to_be_bytes w16 (length rows))) (rows_spelling rows) rest
     ∙ append_assoc (title session) (level_number level ∷ to_be_bytes w16 (length rows)) (rows_spelling rows ++ rest))
 

@@ -11,7 +11,7 @@ use Rattle.pair_table.specs.declared.level.Level.{Level}
 use Rattle.pair_table.specs.declared.row.PairRow.{PairRow}
 use Rattle.pair_table.specs.Tables.{Table, AreRowsSound, are_below}
 use Rattle.state_set.specs.Slots.{Stored, state_slot_place, slot_spelling, kept, rows_in, state_at, state_of, OneSlot, with_table}
-use Rattle.state_set.proofs.Behind.{same_bool}
+use Rattle.state_set.proofs.After.{same_bool}
 use Rattle.state_set.proofs.RowsAt.{rows_window}
 use Rattle.state_set.proofs.Fields.{too_many}
 use Rattle.state_set.proofs.Again.{states_back}

@@ -29,7 +29,7 @@ fn level_of(number: u8) -> Option<Level>
     }
 }
 
-/// Whether the rows of the table and this one behind them keep the rules.
+/// Whether the rows of the table and this one after them keep the rules.
 fn may_follow(table: &PairTable, volumes: u16, row: &PairRow) -> bool
     requires row { IsTrue (keeps_row_rules row.now) }
     requires rows { IsTrue (are_rows volumes table.now.rows) }

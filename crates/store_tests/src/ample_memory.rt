@@ -13,7 +13,7 @@ use std::alloc::Global;
 use std::process::Abort;
 use tod_stamp::Stamp;
 
-/// Names PRIM01 as volume 0 of control 0, and device 1 as SECN02.
+/// Names PRIM01 as volume 0 of controller 0, and device 1 as SECN02.
 fn names(rt: &impl Abort, alloc: Global) -> Names
     ensures { IsTrue (list_all (λ label. nat_lt label.device 2) result.labels) }
 {

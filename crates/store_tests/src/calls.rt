@@ -20,14 +20,14 @@ use std::process::Abort;
 use std::thread::Threads;
 use tod_stamp::{Session, Stamp};
 
-/// The length that a journal needs for one control.
+/// The length that a journal needs for one controller.
 pub(crate) const JOURNAL_LENGTH: u64 = 1_826_816;
 
 pub(crate) fn session(rt: &impl Abort) -> Session {
     Session::read(b"ABC").expect(rt, "a name")
 }
 
-/// The devices have the lengths and numbers that a site of one control needs.
+/// The devices have the lengths and numbers that a site of one controller needs.
 pub(crate) fn assert_lengths<P: Plant>(rt: &impl Abort, plant: &P)
     requires { NoneLent (P.state plant.now) }
     ensures { HasLengths 1 (P.state plant.now) }
@@ -39,7 +39,7 @@ pub(crate) fn assert_lengths<P: Plant>(rt: &impl Abort, plant: &P)
     assert!(rt; plant.length(Device::Journal(1)) >= JOURNAL_LENGTH);
 }
 
-/// A site of one control that has started at a time.
+/// A site of one controller that has started at a time.
 pub(crate) fn start_at<P: Plant>(
     rt: &impl Abort,
     alloc: Global,

@@ -1,4 +1,4 @@
-//! A crash while a group is logged behind another, and one while a group over two volumes is applied.
+//! A crash while a group is logged after another, and one while a group over two volumes is applied.
 
 ghost use Rattle.std.specs.Prelude.{◌≡◌};
 ghost use Rattle.crash_plant.specs.Calls.{NoneLent};
@@ -89,7 +89,7 @@ fn stop_at<R: Threads + Sync + Abort>(
 // its header and its body, a sync, the write of its gate, and a sync.
 
 #[test]
-fn a_crash_at_a_gate_leaves_the_time_before_or_behind_it(rt: HostRuntime) {
+fn a_crash_at_a_gate_leaves_the_time_before_or_after_it(rt: HostRuntime) {
     let alloc = rt.alloc();
     let stopped = Err(StoreError::Fault(Device::Journal(0)));
     for call in 12..15 {

@@ -38,7 +38,7 @@ pub(crate) fn whole(rt: &impl Abort, alloc: Global, content: &[u8; 2]) -> Kind {
     Kind::Whole { track }
 }
 
-/// Adds the entry of a write to a track of a volume of control 0, which is popped from a queue with room for one.
+/// Adds the entry of a write to a track of a volume of controller 0, which is popped from a queue with room for one.
 pub(crate) fn add(
     rt: &impl Abort,
     alloc: Global,

@@ -49,7 +49,7 @@ pub(crate) fn serial(rt: &impl Abort, front: &[u8; 4], device: u16) -> Serial {
     Serial::read(&name).expect(rt, "a name")
 }
 
-/// The row of a device: of the volume of control 0 with the device's number.
+/// The row of a device: of the volume of controller 0 with the device's number.
 pub(crate) fn row(rt: &impl Abort, device: u16, cylinders: u32, state: PairState) -> PairRow {
     PairRow {
         primary: serial(rt, b"PRIM", device),

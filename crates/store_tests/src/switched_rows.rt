@@ -1,4 +1,4 @@
-//! Rows that changed before a switch and behind it, as the devices tell them and as they are recovered.
+//! Rows that changed before a switch and after it, as the devices tell them and as they are recovered.
 
 ghost use Rattle.crash_plant.specs.Calls.{NoneLent};
 ghost use Rattle.crash_plant.specs.MemoryPlant.{memory_state};
@@ -69,7 +69,7 @@ fn assert_told<R: Threads + Sync + Abort>(rt: &R, alloc: Global, plant: &MemoryP
     assert_same(rt, &(left.time, states), &told, &"recovered");
 }
 
-/// Row 1 is suspended, and a group behind it fills the rest of the data set.
+/// Row 1 is suspended, and a group after it fills the rest of the data set.
 fn change_first<R: Threads + Sync + Abort, P: Plant>(
     rt: &R,
     alloc: Global,
@@ -86,7 +86,7 @@ fn change_first<R: Threads + Sync + Abort, P: Plant>(
 }
 
 /// The next group stands in the other data set, with the rows that change there.
-fn change_behind<R: Threads + Sync + Abort, P: Plant>(
+fn change_after<R: Threads + Sync + Abort, P: Plant>(
     rt: &R,
     alloc: Global,
     plant: &mut P,
@@ -120,13 +120,13 @@ fn change_back<R: Threads + Sync + Abort, P: Plant>(
 
 #[tactic(auto, using(crate::proofs::Between::idle_home))]
 #[test]
-fn rows_change_before_a_switch_and_behind_it(rt: HostRuntime) {
+fn rows_change_before_a_switch_and_after_it(rt: HostRuntime) {
     let alloc = rt.alloc();
     let mut plant = plant(&rt, alloc, 3, 3, &[]);
     let mut site = paired(&rt, alloc, &mut plant, Level::Volume, 3, 3);
     let told = change_first(&rt, alloc, &mut plant, &mut site);
     assert_told(&rt, alloc, &plant, told);
-    let told = change_behind(&rt, alloc, &mut plant, &mut site);
+    let told = change_after(&rt, alloc, &mut plant, &mut site);
     assert_told(&rt, alloc, &plant, told);
     let told = change_back(&rt, alloc, &mut plant, &mut site);
     assert_told(&rt, alloc, &plant, told);

@@ -15,7 +15,7 @@ fn table(rt: &impl Abort, alloc: Global) -> PairTable
     PairTable::make(alloc, session).expect(rt, "memory")
 }
 
-/// A pending pair of the device, whose names, control and volume come from the device's number.
+/// A pending pair of the device, whose names, controller and volume come from the device's number.
 fn row_on(rt: &impl Abort, device: u16) -> PairRow {
     assert!(rt; device < 100);
     let (tens, ones) = ((device / 10) as u8, (device % 10) as u8);
@@ -52,7 +52,7 @@ fn is_spelled(rt: &impl Abort, alloc: Global, row: PairRow, bytes: &[u8; 30]) {
     assert_eq!(rt; (encode_row(&row), decode_row(bytes)), (*bytes, Some(row)));
 }
 
-/// PRIM01 and SEC001, control 0, volume 0, device 0, one cylinder, duplex.
+/// PRIM01 and SEC001, controller 0, volume 0, device 0, one cylinder, duplex.
 const FIRST_BYTES: [u8; 30] = *b"PRIM01SEC001\0\0\0\0\0\0\0\x01\x02\0\0\0\0\0\0\0\0\0";
 
 fn first_row(rt: &impl Abort) -> PairRow {
@@ -68,7 +68,7 @@ fn first_row(rt: &impl Abort) -> PairRow {
 fn each_part_of_a_row_has_its_bytes(rt: HostRuntime) {
     let alloc = rt.alloc();
     is_spelled(&rt, alloc, first_row(&rt), &FIRST_BYTES);
-    // A place, its byte there, and control, volume, device and cylinders then.
+    // A place, its byte there, and controller, volume, device and cylinders then.
     let cases = [
         (13, 15, (15, 0, 0, 1)),
         (15, 31, (0, 31, 0, 1)),

@@ -34,7 +34,7 @@ pub fn read_traces()
     ensures cut_in_fault { trace_of 1 true (take 59 one_trace) ≡ one_with (first_entry ∷ []) ReadFault }
     ensures bad_in_fault { trace_of 1 true (slice_set one_trace 41 7) ≡ one_with (first_entry ∷ []) (BadTrace 41) }
     ensures fault_in_header { trace_of 1 true (take 12 one_trace) ≡ Err HeaderFault }
-    ensures fault_behind { trace_of 1 true one_trace ≡ one_with (first_entry ∷ second_entry ∷ []) ReadFault }
+    ensures fault_after { trace_of 1 true one_trace ≡ one_with (first_entry ∷ second_entry ∷ []) ReadFault }
 {}
 
 /// A header that is cut: the place is that of the field that is cut.

@@ -71,7 +71,7 @@ fn records_fit_in_order_up_to_the_capacity(rt: HostRuntime) {
     }
 }
 
-/// A format behind record 1 by record 2 with content `Q`, and a key of that many bytes.
+/// A format after record 1 by record 2 with content `Q`, and a key of that many bytes.
 fn format(rt: &impl Abort, alloc: Global, key: usize) -> Kind {
     let mut recs = RecList::make(alloc);
     let rec = Rec {
@@ -101,7 +101,7 @@ fn kinds_keep_the_rules_or_not(rt: HostRuntime) {
     }
 }
 
-/// A slot with one record is so behind a write of this kind to track 3 at 6E. The write's queue form is these bytes, and what follows
+/// A slot with one record is so after a write of this kind to track 3 at 6E. The write's queue form is these bytes, and what follows
 /// them stays.
 fn assert_write(rt: &impl Abort, alloc: Global, kind: Kind, after: &[u8], form: &[u8]) {
     let (volume, track, stamp) = (0, 3, Stamp(0x6E));

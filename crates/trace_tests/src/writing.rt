@@ -6,7 +6,7 @@ use std::process::Abort;
 use write_trace::{Entry, Header, TraceEnd, TraceWriter, read_entries, start};
 use xrc_edge::Bytes;
 
-/// Puts an entry that keeps the rules behind a trace.
+/// Puts an entry that keeps the rules after a trace.
 fn put(rt: &impl Abort, alloc: Global, out: &mut Bytes, entry: &Entry) {
     let put = match entry {
         Entry::Written(write) => {
@@ -45,7 +45,7 @@ fn reads_back(rt: &impl Abort, alloc: Global, bytes: &[u8], most: u32, count: us
     assert!(rt; again.as_slice() == bytes);
 }
 
-/// Two volumes of one cylinder, with track 5 of the first and track 0 of the second; an idle entry, and a format behind record 1.
+/// Two volumes of one cylinder, with track 5 of the first and track 0 of the second; an idle entry, and a format after record 1.
 const TWO_BASES: [u8; 74] =
     *b"XTR1\0\x02A     \0\x01B     \0\x01\0\0\0\x02\0\0\0\0\0\x05\0\0\0\x01\0\0\0\0\0\0\x01\0\0\0\0\0\0\0\x09\x03\0\0\0\0\0\0\0\x09\0\0\0\0\0\x03\x01\x01\x02\0\0\x02CD";
 
@@ -76,7 +76,7 @@ fn put_volumes(rt: &impl Abort, alloc: Global, out: &mut Bytes) {
 fn the_largest_parts_are_read_and_written_again(rt: HostRuntime) {
     let alloc = rt.alloc();
     // Base tracks of the first and the last volume; the longest update, a format of three records, a full track, an update without bytes,
-    // and an idle entry at the last stamp. Each part has so many bytes behind it.
+    // and an idle entry at the last stamp. Each part has so many bytes after it.
     let parts: [(&[u8], usize); 10] = [
         (b"\0\0\0\x02\0\0\0\0\0\x0E\0\x02\x02\xFF\0\x03", 258),
         (b"\x09\0\0\x04", 4),

@@ -229,7 +229,7 @@ module _ {X E R N : Type 0} where
     pub ticket : ℕ
     pub me : s.me ≡ (with_ticketed q.me.0 (ticketed ticket e r) n, [])
 
-  -- One more call, with some ticket, stands behind those that the seat made, and n is its note. All else of the seat is as before.
+  -- One more call, with some ticket, stands after those that the seat made, and n is its note. All else of the seat is as before.
   pub record HasCalled (p : Seat (Option X) (View X E R N)) (e : E) (r : R) (n : N) (s : Seat (Option X) (View X E R N)) : Type 0 where
     pub same_seat : IsSameSeat p s
     pub ticket : ℕ

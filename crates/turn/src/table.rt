@@ -100,7 +100,7 @@ impl<X: Drop, E, R, N, M: Machine<X, E, R, N>> TurnTable<X, E, R, N, M> {
         self.board.shared.fetch_add::<Pass<C>>(place, 1, 1);
     }
 
-    /// Draws the next ticket where it is the one that is served, so that no other seat waits behind it for a thread that does not run.
+    /// Draws the next ticket where it is the one that is served, so that no other seat waits after it for a thread that does not run.
     /// A seat that has passed its turn may so take the next one, too.
     fn draw<W: Wait>(&self, rt: &W, place: &mut TurnPlace<X, E, R, N>) -> u64
         requires table { place.old.table_id ≡ self.now.board.shared.table_id }
@@ -166,7 +166,7 @@ impl<X: Drop, E, R, N, M: Machine<X, E, R, N>> TurnTable<X, E, R, N, M> {
             .join_seat::<TakeIn>(&mut mover.place, place);
     }
 
-    /// Gives the state back, when all other seats are handed in. The lists that the mover's seat took in, behind its own, are one
+    /// Gives the state back, when all other seats are handed in. The lists that the mover's seat took in, after its own, are one
     /// run of the machine.
     pub fn close(self, mover: MoverSeat<X, E, R, N>) -> X
         requires table { mover.place.table_id ≡ self.board.shared.table_id }

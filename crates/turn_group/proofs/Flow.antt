@@ -1,4 +1,4 @@
--- What goes through a control's queue in a run.
+-- What goes through a controller's queue in a run.
 use Rattle.std.proofs.Common.{◌≡◌, ℕ, ◌<◌, Bool, true, false, cond, nat_eq, nat_lt, nat_le, ◌&&◌, ◌||◌, not, List, [], ◌∷◌, ◌++◌, length, refl, sym, ap, ◌∙◌, subst, arith, append_assoc, append-nil, length-set}
 use Rattle.std.specs.Prelude.{filter, Some}
 use Rattle.std.specs.List.{list_all}
@@ -65,7 +65,7 @@ filter_twice {A} p q (a ∷ items) = choose (q a) (p a) refl (filter_twice p q i
 itself : (k : ℕ) → nat_eq k k ≡ true
 itself k = eq-eqb k k refl
 
--- a change of one control's queue, which gains something
+-- a change of one controller's queue, which gains something
 grown : (s : Group) (j : ℕ) (change : ControlState → ControlState) (more : List WaitingEntry) → j < length s.controls → (change (control_at s j)).queue.waiting ≡ (control_at s j).queue.waiting ++ more
     → (k : ℕ) → waiting_at k (with_control j change s) ≡ waiting_at k s ++ cond (nat_eq j k) more []
 grown s j change more lt is =

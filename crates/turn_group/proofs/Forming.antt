@@ -15,7 +15,7 @@ use Rattle.group_state.specs.declared.volume.Volume.{Volume}
 use Rattle.group_state.specs.Volumes.{volume_of, passes}
 use Rattle.group_state.specs.Controls.{ControlState, new_control, counts, lesser, due_of}
 use Rattle.group_state.specs.Groups.{Group, Shown, control_at, cut_of, shown_at, shown_in}
-use Rattle.group_state.specs.SoundStates.{Sound, IsGroupSound, may_wait, is_entry_of, is_entry_of_control, has_told, HaveTold}
+use Rattle.group_state.specs.SoundStates.{Sound, IsGroupSound, may_wait, is_entry_of, is_entry_of_control, has_reported, HaveReported}
 use Rattle.group_state.specs.Machine.{steps}
 use Rattle.group_state.specs.Machine.Call.{Form}
 use Rattle.group_state.specs.Runs.{shown_by}
@@ -40,21 +40,21 @@ form_upto x new limit result out step =
     let cut : out.cut ≡ cut_of x limit = ap (λ o. last_by o limit) (shown_is x new limit result out step) in
     subst (λ (t : Stamp). t.0 ≤ limit.0) (sym cut) (least_within limit.0 x.controls)
 
-told_up : (last : Stamp) (limit : ℕ) (controls : List ControlState) → last.0 ≤ limit → list_all (has_told last) controls ≡ true → last.0 ≤ fold lesser limit controls
+told_up : (last : Stamp) (limit : ℕ) (controls : List ControlState) → last.0 ≤ limit → list_all (has_reported last) controls ≡ true → last.0 ≤ fold lesser limit controls
 told_up last limit [] le told = le
 told_up last limit (c ∷ controls) le told =
-    let parts = and_parts (has_told last c) (list_all (has_told last) controls) told in
+    let parts = and_parts (has_reported last c) (list_all (has_reported last) controls) told in
     told_up last (lesser limit c) controls (choose (counts c.phase) parts.0) parts.1
   where
     choose : (t : Bool) → (not t || nat_le last.0 c.floor.0) ≡ true → last.0 ≤ cond t (min limit c.floor.0) limit
     choose true here = let up = leb-true last.0 c.floor.0 here in omega (arith, le)
     choose false here = le
 
--- Each control that counts has told up to the last cut, so the next cut isn't below it.
-pub form_from : (x new : Group) (limit last : Stamp) (result : Forming) (out : FormedGroup) → x.last ≡ last → last.0 ≤ limit.0 → HaveTold x.last x.controls → steps x (Form limit) (form_reply result (shown_in out)) new → last.0 ≤ out.cut.0
+-- Each controller that counts has reported up to the last cut, so the next cut isn't below it.
+pub form_from : (x new : Group) (limit last : Stamp) (result : Forming) (out : FormedGroup) → x.last ≡ last → last.0 ≤ limit.0 → HaveReported x.last x.controls → steps x (Form limit) (form_reply result (shown_in out)) new → last.0 ≤ out.cut.0
 form_from x new limit last result out is le told step =
     let cut : out.cut ≡ cut_of x limit = ap (λ o. last_by o limit) (shown_is x new limit result out step) in
-    subst (λ (t : Stamp). last.0 ≤ t.0) (sym cut) (told_up last limit.0 x.controls le (subst (λ (t : Stamp). list_all (has_told t) x.controls ≡ true) is told))
+    subst (λ (t : Stamp). last.0 ≤ t.0) (sym cut) (told_up last limit.0 x.controls le (subst (λ (t : Stamp). list_all (has_reported t) x.controls ≡ true) is told))
 
 -- ---- entries of carried volumes
 

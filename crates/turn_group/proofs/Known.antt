@@ -34,7 +34,7 @@ map_at f [] k d e is = sym is
 map_at f (x ∷ l) zero d e is = refl
 map_at f (x ∷ l) (suc k) d e is = map_at f l k d e is
 
--- ---- one control's volumes
+-- ---- one controller's volumes
 
 known_with : (v : ℕ) (change : Volume → Volume) → ((u : Volume) → known_volume (change u) ≡ known_volume u) → (volumes : List Volume) → map known_volume (with_volume v change volumes) ≡ map known_volume volumes
 known_with v change same [] = refl
@@ -71,7 +71,7 @@ known_dropped v all tracks (u ∷ volumes) = choose (nat_eq u.number v) (known_d
 
 -- ---- the group's
 
--- A change of a control that keeps what is known of its volumes.
+-- A change of a controller that keeps what is known of its volumes.
 pub known_stays : (s : Group) (k : ℕ) (change : ControlState → ControlState) → known_of (change (control_at s k)) ≡ known_of (control_at s k) → volumes_known (with_control k change s) ≡ volumes_known s
 known_stays s k change same = map_set known_of s.controls k (new_control 0 0 0) (change (control_at s k)) same
 
@@ -124,7 +124,7 @@ sizes_in known = map size_of known
 abbrev pub sizes_known : List (List KnownVolume) → List (List (ℕ × ℕ))
 sizes_known known = map sizes_in known
 
--- the volumes of each control have the numbers and the tracks that they have in the other state
+-- the volumes of each controller have the numbers and the tracks that they have in the other state
 abbrev pub HasSizesOf : Group → Group → Type 0
 HasSizesOf first s = sizes_known (volumes_known s) ≡ sizes_known (volumes_known first)
 

@@ -6,15 +6,15 @@ use Rattle.ckd_track.specs.declared.rec.Rec.{Rec}
 use Rattle.ckd_track.specs.declared.write.Batch.{Batch}
 use Rattle.ckd_track.specs.declared.write.Cause.{Cause}
 use Rattle.group_state.specs.declared.phase.Phase.{Phase}
-use Rattle.group_state.specs.declared.phase.Phase.TheVariants.{Telling, Broken, Reported}
+use Rattle.group_state.specs.declared.phase.Phase.TheVariants.{Unbroken, Broken, Reported}
 use Rattle.group_state.specs.Volumes.{is_wanted}
-use Rattle.group_state.specs.Controls.{ControlState, new_control, is_telling, fits, fits_track, room_of, joined, copied, raised, broke, dropped, formed, phase_after}
+use Rattle.group_state.specs.Controls.{ControlState, new_control, is_reporting, fits, fits_track, room_of, joined, copied, raised, broke, dropped, formed, phase_after}
 use Rattle.group_state.specs.Groups.{Group, control_at, with_control, cut_of, gives_nothing, formed_at, shown_at}
 use Rattle.group_state.specs.Machine.{Call, Reply, reply_to, group_after, reply_to_copied, steps}
 use Rattle.group_state.specs.Machine.Call.{Join, NextWanted, Copied, Raise, Break, Form, Drop}
 use Rattle.group_state.specs.Machine.Reply.{Made, Joined, Held, Formed, Nothing}
 use Rattle.group_state.proofs.Stands.{at_each}
-use Rattle.turn_group.specs.Notes.{KnownVolume, known_of, SeatNote, part_of, IsToldAs, says, known_after, note_after}
+use Rattle.turn_group.specs.Notes.{KnownVolume, known_of, SeatNote, part_of, IsReportedAs, says, known_after, note_after}
 use Rattle.turn_group.specs.Notes.SeatNote.{MoverNote, ReaderNote}
 use Rattle.turn_group.proofs.Known.{known_stays, known_joined, known_copied, known_formed, known_drop}
 
@@ -23,59 +23,59 @@ pub record LeavesNotes (s new : Group) (call : Call) (reply : Reply) (note : Sea
   pub own : says new (note_after call reply note)
   pub others : (u : SeatNote) → part_of u ≢ part_of note → says s u → says new u
 
--- ---- a change of one control
+-- ---- a change of one controller
 
-own_with : (s : Group) (k : ℕ) (change : ControlState → ControlState) (floor : Stamp) (telling : Bool) → k < length s.controls → IsToldAs floor telling (change (control_at s k)) → says (with_control k change s) (ReaderNote k floor telling)
-own_with s k change floor telling lt told =
-    (subst (λ n. k < n) (sym (length-set s.controls k (change (control_at s k)))) lt, subst (IsToldAs floor telling) (sym (get_or-set_same s.controls k (change (control_at s k)) (new_control 0 0 0) lt)) told)
+own_with : (s : Group) (k : ℕ) (change : ControlState → ControlState) (floor : Stamp) (reporting : Bool) → k < length s.controls → IsReportedAs floor reporting (change (control_at s k)) → says (with_control k change s) (ReaderNote k floor reporting)
+own_with s k change floor reporting lt told =
+    (subst (λ n. k < n) (sym (length-set s.controls k (change (control_at s k)))) lt, subst (IsReportedAs floor reporting) (sym (get_or-set_same s.controls k (change (control_at s k)) (new_control 0 0 0) lt)) told)
 
 others_with : (s : Group) (k : ℕ) (change : ControlState → ControlState) → known_of (change (control_at s k)) ≡ known_of (control_at s k) → (u : SeatNote) → part_of u ≢ suc k → says s u → says (with_control k change s) u
 others_with s k change same (MoverNote last known) apart h = (h.0, known_stays s k change same ∙ h.1)
-others_with s k change same (ReaderNote j floor telling) apart h =
-    (subst (λ n. j < n) (sym (length-set s.controls k (change (control_at s k)))) h.0, subst (IsToldAs floor telling) (sym (get_or-set_other s.controls k j (change (control_at s k)) (new_control 0 0 0) (λ (e : j ≡ k). apart (ap suc e)))) h.1)
+others_with s k change same (ReaderNote j floor reporting) apart h =
+    (subst (λ n. j < n) (sym (length-set s.controls k (change (control_at s k)))) h.0, subst (IsReportedAs floor reporting) (sym (get_or-set_other s.controls k j (change (control_at s k)) (new_control 0 0 0) (λ (e : j ≡ k). apart (ap suc e)))) h.1)
 
 -- ---- each call
 
-join_leaves : (s : Group) (b : Batch) (floor : Stamp) (telling : Bool) → says s (ReaderNote b.control floor telling) → LeavesNotes s (group_after s (Join b)) (Join b) (reply_to s (Join b)) (ReaderNote b.control floor telling)
-join_leaves s b floor telling h = choose (fits (control_at s b.control) b)
+join_leaves : (s : Group) (b : Batch) (floor : Stamp) (reporting : Bool) → says s (ReaderNote b.control floor reporting) → LeavesNotes s (group_after s (Join b)) (Join b) (reply_to s (Join b)) (ReaderNote b.control floor reporting)
+join_leaves s b floor reporting h = choose (fits (control_at s b.control) b)
   where
-    choose : (t : Bool) → LeavesNotes s (cond t (with_control b.control (joined b) s) s) (Join b) (cond t Joined (Held (room_of (control_at s b.control)))) (ReaderNote b.control floor telling)
+    choose : (t : Bool) → LeavesNotes s (cond t (with_control b.control (joined b) s) s) (Join b) (cond t Joined (Held (room_of (control_at s b.control)))) (ReaderNote b.control floor reporting)
     choose true = record {
-      own = own_with s b.control (joined b) b.upto telling h.0 (refl, h.1.1);
+      own = own_with s b.control (joined b) b.upto reporting h.0 (refl, h.1.1);
       others = others_with s b.control (joined b) (known_joined s b.control b.writes);
     }
     choose false = record { own = h; others = λ u apart was. was }
 
-next_leaves : (s : Group) (k : ℕ) (floor : Stamp) (telling : Bool) → says s (ReaderNote k floor telling) → LeavesNotes s s (NextWanted k) (reply_to s (NextWanted k)) (ReaderNote k floor telling)
-next_leaves s k floor telling h = record { own = h; others = λ u apart was. was }
+next_leaves : (s : Group) (k : ℕ) (floor : Stamp) (reporting : Bool) → says s (ReaderNote k floor reporting) → LeavesNotes s s (NextWanted k) (reply_to s (NextWanted k)) (ReaderNote k floor reporting)
+next_leaves s k floor reporting h = record { own = h; others = λ u apart was. was }
 
-copy_leaves : (s : Group) (k v x : ℕ) (at : Stamp) (slot : List Rec) (floor : Stamp) (telling : Bool) → says s (ReaderNote k floor telling)
-    → LeavesNotes s (group_after s (Copied k v x at slot)) (Copied k v x at slot) (reply_to s (Copied k v x at slot)) (ReaderNote k floor telling)
-copy_leaves s k v x at slot floor telling h = choose (is_wanted v x (control_at s k).volumes) (fits_track (control_at s k) slot)
+copy_leaves : (s : Group) (k v x : ℕ) (at : Stamp) (slot : List Rec) (floor : Stamp) (reporting : Bool) → says s (ReaderNote k floor reporting)
+    → LeavesNotes s (group_after s (Copied k v x at slot)) (Copied k v x at slot) (reply_to s (Copied k v x at slot)) (ReaderNote k floor reporting)
+copy_leaves s k v x at slot floor reporting h = choose (is_wanted v x (control_at s k).volumes) (fits_track (control_at s k) slot)
   where
-    choose : (t u : Bool) → LeavesNotes s (cond (t && u) (with_control k (copied v x at slot) s) s) (Copied k v x at slot) (reply_to_copied t u (room_of (control_at s k))) (ReaderNote k floor telling)
+    choose : (t u : Bool) → LeavesNotes s (cond (t && u) (with_control k (copied v x at slot) s) s) (Copied k v x at slot) (reply_to_copied t u (room_of (control_at s k))) (ReaderNote k floor reporting)
     choose true true = record {
-      own = own_with s k (copied v x at slot) floor telling h.0 h.1;
+      own = own_with s k (copied v x at slot) floor reporting h.0 h.1;
       others = others_with s k (copied v x at slot) (known_copied s k v x);
     }
     choose true false = record { own = h; others = λ u apart was. was }
     choose false u = record { own = h; others = λ u apart was. was }
 
-raise_leaves : (s : Group) (k : ℕ) (upto floor : Stamp) (telling : Bool) → says s (ReaderNote k floor telling) → LeavesNotes s (group_after s (Raise k upto)) (Raise k upto) Made (ReaderNote k floor telling)
-raise_leaves s k upto floor telling h = record { own = own_with s k (raised upto) upto telling h.0 (refl, h.1.1); others = others_with s k (raised upto) refl }
+raise_leaves : (s : Group) (k : ℕ) (upto floor : Stamp) (reporting : Bool) → says s (ReaderNote k floor reporting) → LeavesNotes s (group_after s (Raise k upto)) (Raise k upto) Made (ReaderNote k floor reporting)
+raise_leaves s k upto floor reporting h = record { own = own_with s k (raised upto) upto reporting h.0 (refl, h.1.1); others = others_with s k (raised upto) refl }
 
-break_leaves : (s : Group) (k : ℕ) (upto : Stamp) (cause : Cause) (floor : Stamp) (telling : Bool) → says s (ReaderNote k floor telling)
-    → LeavesNotes s (group_after s (Break k upto cause)) (Break k upto cause) Made (ReaderNote k floor telling)
-break_leaves s k upto cause floor telling h = record { own = own_with s k (broke upto cause) upto false h.0 (refl, refl); others = others_with s k (broke upto cause) refl }
+break_leaves : (s : Group) (k : ℕ) (upto : Stamp) (cause : Cause) (floor : Stamp) (reporting : Bool) → says s (ReaderNote k floor reporting)
+    → LeavesNotes s (group_after s (Break k upto cause)) (Break k upto cause) Made (ReaderNote k floor reporting)
+break_leaves s k upto cause floor reporting h = record { own = own_with s k (broke upto cause) upto false h.0 (refl, refl); others = others_with s k (broke upto cause) refl }
 
-telling_formed : (cut floor : Stamp) (phase : Phase) → is_telling (phase_after cut floor phase) ≡ is_telling phase
-telling_formed cut floor Telling = refl
-telling_formed cut floor (Broken cause) = choose (nat_eq floor.0 cut.0)
+reporting_formed : (cut floor : Stamp) (phase : Phase) → is_reporting (phase_after cut floor phase) ≡ is_reporting phase
+reporting_formed cut floor Unbroken = refl
+reporting_formed cut floor (Broken cause) = choose (nat_eq floor.0 cut.0)
   where
-    choose : (t : Bool) → is_telling (cond t Reported (Broken cause)) ≡ false
+    choose : (t : Bool) → is_reporting (cond t Reported (Broken cause)) ≡ false
     choose true = refl
     choose false = refl
-telling_formed cut floor Reported = refl
+reporting_formed cut floor Reported = refl
 
 form_leaves : (s : Group) (limit last : Stamp) (known : List (List KnownVolume)) → says s (MoverNote last known) → LeavesNotes s (group_after s (Form limit)) (Form limit) (reply_to s (Form limit)) (MoverNote last known)
 form_leaves s limit last known h = choose (gives_nothing s limit)
@@ -85,10 +85,10 @@ form_leaves s limit last known h = choose (gives_nothing s limit)
 
     formed_others : (u : SeatNote) → part_of u ≢ 0 → says s u → says (formed_at cut s) u
     formed_others (MoverNote last' known') apart was = absurd (apart refl)
-    formed_others (ReaderNote j floor telling) apart was =
+    formed_others (ReaderNote j floor reporting) apart was =
         let c = control_at s j in
-        let told : IsToldAs floor telling (formed cut c) = (was.1.0, telling_formed cut c.floor c.phase ∙ was.1.1) in
-        (subst (λ n. j < n) (sym (length-map s.controls (formed cut))) was.0, subst (IsToldAs floor telling) (sym (get_or-map (formed cut) s.controls j (new_control 0 0 0) (new_control 0 0 0) was.0)) told)
+        let told : IsReportedAs floor reporting (formed cut c) = (was.1.0, reporting_formed cut c.floor c.phase ∙ was.1.1) in
+        (subst (λ n. j < n) (sym (length-map s.controls (formed cut))) was.0, subst (IsReportedAs floor reporting) (sym (get_or-map (formed cut) s.controls j (new_control 0 0 0) (new_control 0 0 0) was.0)) told)
 
     choose : (t : Bool) → LeavesNotes s (formed_at cut s) (Form limit) (cond t (Nothing (shown_at cut s)) (Formed (shown_at cut s))) (MoverNote last known)
     choose true = record { own = (refl, known_formed cut s.controls ∙ h.1); others = formed_others }
@@ -99,9 +99,9 @@ drop_leaves s k v all last known lt h = record { own = (h.0, known_drop s k v al
   where
     others : (u : SeatNote) → part_of u ≢ 0 → says s u → says (with_control k (dropped v all) s) u
     others (MoverNote last' known') apart was = absurd (apart refl)
-    others (ReaderNote j floor telling) apart was = (
+    others (ReaderNote j floor reporting) apart was = (
       subst (λ n. j < n) (sym (length-set s.controls k (dropped v all (control_at s k)))) was.0,
-      at_each (λ i c. i ≡ j → IsToldAs floor telling c) s k (dropped v all) lt (λ e. subst (λ i. IsToldAs floor telling (control_at s i)) (sym e) was.1) (λ i other e. subst (λ i. IsToldAs floor telling (control_at s i)) (sym e) was.1) j refl,
+      at_each (λ i c. i ≡ j → IsReportedAs floor reporting c) s k (dropped v all) lt (λ e. subst (λ i. IsReportedAs floor reporting (control_at s i)) (sym e) was.1) (λ i other e. subst (λ i. IsReportedAs floor reporting (control_at s i)) (sym e) was.1) j refl,
     )
 
 -- ---- by what was replied
@@ -110,20 +110,20 @@ leaves_by : (s new : Group) (call : Call) (reply : Reply) (note : SeatNote) → 
 leaves_by s new call reply note step leaves = subst (λ t. LeavesNotes s t call reply note) (sym step.1) (subst (λ r. LeavesNotes s (group_after s call) call r note) (sym step.0) leaves)
 
 module _ (s new : Group) (reply : Reply) where
-  pub after_join : (b : Batch) (floor : Stamp) (telling : Bool) → says s (ReaderNote b.control floor telling) → steps s (Join b) reply new → LeavesNotes s new (Join b) reply (ReaderNote b.control floor telling)
-  after_join b floor telling h step = leaves_by s new (Join b) reply (ReaderNote b.control floor telling) step (join_leaves s b floor telling h)
+  pub after_join : (b : Batch) (floor : Stamp) (reporting : Bool) → says s (ReaderNote b.control floor reporting) → steps s (Join b) reply new → LeavesNotes s new (Join b) reply (ReaderNote b.control floor reporting)
+  after_join b floor reporting h step = leaves_by s new (Join b) reply (ReaderNote b.control floor reporting) step (join_leaves s b floor reporting h)
 
-  pub after_next : (k : ℕ) (floor : Stamp) (telling : Bool) → says s (ReaderNote k floor telling) → steps s (NextWanted k) reply new → LeavesNotes s new (NextWanted k) reply (ReaderNote k floor telling)
-  after_next k floor telling h step = leaves_by s new (NextWanted k) reply (ReaderNote k floor telling) step (next_leaves s k floor telling h)
+  pub after_next : (k : ℕ) (floor : Stamp) (reporting : Bool) → says s (ReaderNote k floor reporting) → steps s (NextWanted k) reply new → LeavesNotes s new (NextWanted k) reply (ReaderNote k floor reporting)
+  after_next k floor reporting h step = leaves_by s new (NextWanted k) reply (ReaderNote k floor reporting) step (next_leaves s k floor reporting h)
 
-  pub after_copy : (k v x : ℕ) (at : Stamp) (slot : List Rec) (floor : Stamp) (telling : Bool) → says s (ReaderNote k floor telling) → steps s (Copied k v x at slot) reply new → LeavesNotes s new (Copied k v x at slot) reply (ReaderNote k floor telling)
-  after_copy k v x at slot floor telling h step = leaves_by s new (Copied k v x at slot) reply (ReaderNote k floor telling) step (copy_leaves s k v x at slot floor telling h)
+  pub after_copy : (k v x : ℕ) (at : Stamp) (slot : List Rec) (floor : Stamp) (reporting : Bool) → says s (ReaderNote k floor reporting) → steps s (Copied k v x at slot) reply new → LeavesNotes s new (Copied k v x at slot) reply (ReaderNote k floor reporting)
+  after_copy k v x at slot floor reporting h step = leaves_by s new (Copied k v x at slot) reply (ReaderNote k floor reporting) step (copy_leaves s k v x at slot floor reporting h)
 
-  pub after_raise : (k : ℕ) (upto floor : Stamp) (telling : Bool) → says s (ReaderNote k floor telling) → steps s (Raise k upto) reply new → LeavesNotes s new (Raise k upto) reply (ReaderNote k floor telling)
-  after_raise k upto floor telling h step = leaves_by s new (Raise k upto) reply (ReaderNote k floor telling) step (raise_leaves s k upto floor telling h)
+  pub after_raise : (k : ℕ) (upto floor : Stamp) (reporting : Bool) → says s (ReaderNote k floor reporting) → steps s (Raise k upto) reply new → LeavesNotes s new (Raise k upto) reply (ReaderNote k floor reporting)
+  after_raise k upto floor reporting h step = leaves_by s new (Raise k upto) reply (ReaderNote k floor reporting) step (raise_leaves s k upto floor reporting h)
 
-  pub after_break : (k : ℕ) (upto : Stamp) (cause : Cause) (floor : Stamp) (telling : Bool) → says s (ReaderNote k floor telling) → steps s (Break k upto cause) reply new → LeavesNotes s new (Break k upto cause) reply (ReaderNote k floor telling)
-  after_break k upto cause floor telling h step = leaves_by s new (Break k upto cause) reply (ReaderNote k floor telling) step (break_leaves s k upto cause floor telling h)
+  pub after_break : (k : ℕ) (upto : Stamp) (cause : Cause) (floor : Stamp) (reporting : Bool) → says s (ReaderNote k floor reporting) → steps s (Break k upto cause) reply new → LeavesNotes s new (Break k upto cause) reply (ReaderNote k floor reporting)
+  after_break k upto cause floor reporting h step = leaves_by s new (Break k upto cause) reply (ReaderNote k floor reporting) step (break_leaves s k upto cause floor reporting h)
 
   pub after_form : (limit last : Stamp) (known : List (List KnownVolume)) → says s (MoverNote last known) → steps s (Form limit) reply new → LeavesNotes s new (Form limit) reply (MoverNote last known)
   after_form limit last known h step = leaves_by s new (Form limit) reply (MoverNote last known) step (form_leaves s limit last known h)

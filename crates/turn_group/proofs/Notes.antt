@@ -6,7 +6,7 @@ use mathlib.Core.Logic.{dite}
 use native.Mathlib.Decide.{ℕ_discrete}
 use Rattle.turn.specs.Turn.{AllTrue, notes_about, same}
 use Rattle.turn.proofs.Totals.{same_self}
-use Rattle.group_state.specs.Controls.{ControlState, new_control, is_telling}
+use Rattle.group_state.specs.Controls.{ControlState, new_control, is_reporting}
 use Rattle.group_state.specs.Groups.{Group, control_at}
 use Rattle.turn_group.specs.Notes.{part_of, says, reader_notes, notes_of}
 use Rattle.turn_group.specs.Notes.SeatNote.{ReaderNote}
@@ -17,7 +17,7 @@ from_true s k (c ∷ controls) at =
     let here = at 0 (omega arith) in
     let k_is : k + 0 ≡ k = omega arith in
     let is : control_at s k ≡ c = subst (λ i. control_at s i ≡ c) k_is here.1 in (
-      (subst (λ i. i < length s.controls) k_is here.0, (ap (λ (d : ControlState). d.floor) is, ap (λ (d : ControlState). is_telling d.phase) is)),
+      (subst (λ i. i < length s.controls) k_is here.0, (ap (λ (d : ControlState). d.floor) is, ap (λ (d : ControlState). is_reporting d.phase) is)),
       from_true s (suc k) controls
           (λ j lt.
           let there = at (suc j) (omega arith) in
@@ -52,7 +52,7 @@ first_apart (suc p) controls =
 pub notes_apart : (s : Group) (p : ℕ) → notes_about part_of p (notes_of s) ≤ 1
 notes_apart s p = first_apart p s.controls
 
--- the notes from a control on
+-- the notes from a controller on
 pub notes_more : (s : Group) (k : ℕ) → k < length s.controls
-    → reader_notes k (drop k s.controls) ≡ ReaderNote k (control_at s k).floor (is_telling (control_at s k).phase) ∷ reader_notes (suc k) (drop (k + 1) s.controls)
+    → reader_notes k (drop k s.controls) ≡ ReaderNote k (control_at s k).floor (is_reporting (control_at s k).phase) ∷ reader_notes (suc k) (drop (k + 1) s.controls)
 notes_more s k lt = ap (reader_notes k) (drop_more s.controls k (new_control 0 0 0) lt)

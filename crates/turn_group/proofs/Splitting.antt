@@ -6,7 +6,7 @@ use Rattle.atomic_table.specs.Seated.{TableId}
 use Rattle.turn.specs.declared.view.SeatStage.TheVariants.{Idle}
 use Rattle.turn.specs.Turn.{without_second, second_alone, with_one_more, new_view}
 use Rattle.group_state.specs.Groups.{Group, control_at}
-use Rattle.group_state.specs.Controls.{is_telling}
+use Rattle.group_state.specs.Controls.{is_reporting}
 use Rattle.turn_group.specs.Notes.{volumes_known, reader_notes}
 use Rattle.turn_group.specs.Notes.SeatNote.{MoverNote, ReaderNote}
 use Rattle.turn_group.specs.Seats.{SeatView, ReaderSeatState, AllFrom, IsAtPlace, new_reader, new_readers}
@@ -32,7 +32,7 @@ split_more s k v w lt is next =
     }))
 
 pub split_seat : (table : TableId) (s : Group) (k : ℕ) (v w : SeatView) → k < length s.controls → v ≡ split_view s k → w ≡ new_view v
-    → w ≡ record { first = Some s; stage = Idle; mine = []; joined = []; seats = 0; notes = ReaderNote k (control_at s k).floor (is_telling (control_at s k).phase) ∷ [] }
+    → w ≡ record { first = Some s; stage = Idle; mine = []; joined = []; seats = 0; notes = ReaderNote k (control_at s k).floor (is_reporting (control_at s k).phase) ∷ [] }
 split_seat table s k v w lt is new =
     new ∙ (ap (λ z. new_view z) is
     ∙ (λ i. record { first = Some s; stage = Idle; mine = []; joined = []; seats = 0; notes = ap (λ ns. second_alone (MoverNote s.last (volumes_known s) ∷ ns)) (notes_more s k lt) i }))

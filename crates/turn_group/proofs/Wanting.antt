@@ -1,4 +1,4 @@
--- The track that a reader copies next is one that its control had when the table was made.
+-- The track that a reader copies next is one that its controller had when the table was made.
 use Rattle.std.proofs.Common.{◌≡◌, ℕ, Bool, true, false, cond, nat_eq, nat_lt, List, [], ◌∷◌, length, map, Option, Some, None, refl, sym, ap, ◌∙◌}
 use Rattle.std.specs.Prelude.{IfSome}
 use Rattle.std.specs.List.{list_all}

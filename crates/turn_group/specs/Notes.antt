@@ -4,16 +4,16 @@ use Rattle.tod_stamp.specs.declared.stamp.Stamp.{Stamp}
 use Rattle.std.specs.List.{list_any}
 use Rattle.pending_queue.specs.Entries.{WaitingEntry}
 use Rattle.group_state.specs.declared.volume.Volume.{Volume}
-use Rattle.group_state.specs.Controls.{ControlState, is_telling}
+use Rattle.group_state.specs.Controls.{ControlState, is_reporting}
 use Rattle.turn.specs.Turn.{AllTrue}
 use Rattle.group_state.specs.Groups.{Group, Shown, control_at}
 use Rattle.group_state.specs.Machine.{Call, Reply}
-use Rattle.group_state.specs.Calls.{telling_after}
+use Rattle.group_state.specs.Calls.{reporting_after}
 use Rattle.group_state.specs.Machine.Call.{Join, Raise, Break, Form, Drop}
 use Rattle.group_state.specs.Machine.Reply.{Joined}
 use Rattle.group_state.specs.Runs.{shown_by}
 
--- a volume of a control: its number, whether it is carried, and how many tracks it has
+-- a volume of a controller: its number, whether it is carried, and how many tracks it has
 pub record KnownVolume : Type 0 where
   pub number : ℕ
   pub carried : Bool
@@ -25,7 +25,7 @@ known_volume u = record { number = u.number; carried = u.carried; tracks = lengt
 abbrev pub known_of : ControlState → List KnownVolume
 known_of c = map known_volume c.volumes
 
--- the volumes of each control
+-- the volumes of each controller
 abbrev pub volumes_known : Group → List (List KnownVolume)
 volumes_known s = map known_of s.controls
 
@@ -33,25 +33,25 @@ volumes_known s = map known_of s.controls
 abbrev pub is_of_carried : List (List KnownVolume) → WaitingEntry → Bool
 is_of_carried known e = list_any (λ (u : KnownVolume). u.number == e.head.volume && (u.carried && nat_lt e.head.track u.tracks)) (slice_index_or known e.head.control [])
 
--- The mover knows the last cut and the volumes of each control. A reader knows its control's number and floor, and whether the
--- control still tells.
+-- The mover knows the last cut and the volumes of each controller. A reader knows its controller's number and floor, and whether the
+-- controller still reports.
 pub data SeatNote : Type 0 where
   MoverNote : (last : Stamp) → (known : List (List KnownVolume)) → SeatNote
-  ReaderNote : (control : ℕ) → (floor : Stamp) → (telling : Bool) → SeatNote
+  ReaderNote : (control : ℕ) → (floor : Stamp) → (reporting : Bool) → SeatNote
 
--- The mover's note is about part 0 of the state, and the one of control k about part k + 1.
+-- The mover's note is about part 0 of the state, and the one of controller k about part k + 1.
 abbrev pub part_of : SeatNote → ℕ
 part_of (MoverNote last known) = 0
-part_of (ReaderNote k floor telling) = suc k
+part_of (ReaderNote k floor reporting) = suc k
 
--- a control has told up to a time, and it still tells or has broken
-abbrev pub IsToldAs : (floor : Stamp) → (telling : Bool) → ControlState → Type 0
-IsToldAs floor telling c = (c.floor ≡ floor) × (is_telling c.phase ≡ telling)
+-- a controller has reported up to a time, and it still reports or has broken
+abbrev pub IsReportedAs : (floor : Stamp) → (reporting : Bool) → ControlState → Type 0
+IsReportedAs floor reporting c = (c.floor ≡ floor) × (is_reporting c.phase ≡ reporting)
 
 -- a note is true of a state
 abbrev pub says : Group → SeatNote → Type 0
 says s (MoverNote last known) = (s.last ≡ last) × (volumes_known s ≡ known)
-says s (ReaderNote k floor telling) = (k < length s.controls) × IsToldAs floor telling (control_at s k)
+says s (ReaderNote k floor reporting) = (k < length s.controls) × IsReportedAs floor reporting (control_at s k)
 
 -- What is true of these notes was true of those before, whatever the state.
 abbrev pub KeepsNotes : (before now : List SeatNote) → Type 0
@@ -61,7 +61,7 @@ KeepsNotes before now = (s : Group) → AllTrue says s now → AllTrue says s be
 
 abbrev pub reader_notes : (first : ℕ) → List ControlState → List SeatNote
 reader_notes k [] = []
-reader_notes k (c ∷ controls) = ReaderNote k c.floor (is_telling c.phase) ∷ reader_notes (suc k) controls
+reader_notes k (c ∷ controls) = ReaderNote k c.floor (is_reporting c.phase) ∷ reader_notes (suc k) controls
 
 -- the mover's first, then each reader's
 abbrev pub notes_of : Group → List SeatNote
@@ -96,4 +96,4 @@ floor_after call reply floor = floor
 
 abbrev pub note_after : Call → Reply → SeatNote → SeatNote
 note_after call reply (MoverNote last known) = MoverNote (last_after call reply last) (known_after call known)
-note_after call reply (ReaderNote k floor telling) = ReaderNote k (floor_after call reply floor) (telling_after call telling)
+note_after call reply (ReaderNote k floor reporting) = ReaderNote k (floor_after call reply floor) (reporting_after call reporting)

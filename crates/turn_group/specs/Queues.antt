@@ -1,4 +1,4 @@
--- What goes through a control's queue in a run: what waited at its start and what it gains is, without what drops take out, what groups
+-- What goes through a controller's queue in a run: what waited at its start and what it gains is, without what drops take out, what groups
 -- show of it and what waits at the end.
 use Rattle.std.specs.Prelude.{◌≡◌, ℕ, ◌<◌, ◌==◌, ◌&&◌, ◌||◌, not, List, [], ◌∷◌, ◌++◌, length, filter, Bool, false, Option, Some, None, if◌then◌else◌}
 use Rattle.tod_stamp.specs.declared.stamp.Stamp.{Stamp}
@@ -41,7 +41,7 @@ falls_by k e (Form limit) reply later = not (is_shown_by (shown_by reply) e) && 
 falls_by k e (Drop j v all) reply later = (j == k && is_of_volume v e) || later
 falls_by k e call reply later = later
 
--- whether an entry that waits for a control is dropped with its volume before a form's cut reaches its stamp
+-- whether an entry that waits for a controller is dropped with its volume before a form's cut reaches its stamp
 abbrev pub falls : (control : ℕ) → List Answer → WaitingEntry → Bool
 falls k [] e = false
 falls k (a ∷ log) e = falls_by k e a.call a.reply (falls k log e)
@@ -50,7 +50,7 @@ falls k (a ∷ log) e = falls_by k e a.call a.reply (falls k log e)
 abbrev pub stays_in : (control : ℕ) → List Answer → WaitingEntry → Bool
 stays_in k log e = not (falls k log e)
 
--- what a control's queue gains in a run, without what a drop takes out
+-- what a controller's queue gains in a run, without what a drop takes out
 abbrev pub stays_of : (control : ℕ) → Group → List Answer → List WaitingEntry
 stays_of k s [] = []
 stays_of k s (a ∷ log) = filter (stays_in k log) (gained k s a.call) ++ stays_of k (group_after s a.call) log
@@ -65,14 +65,14 @@ abbrev pub part_by : (control : ℕ) → Call → Reply → List WaitingEntry
 part_by k (Form limit) reply = own_part k (shown_by reply)
 part_by k call reply = []
 
--- a control's part of the groups that the forms of a run show
+-- a controller's part of the groups that the forms of a run show
 abbrev pub part_of_groups : (control : ℕ) → List Answer → List WaitingEntry
 part_of_groups k [] = []
 part_of_groups k (a ∷ log) = part_by k a.call a.reply ++ part_of_groups k log
 
 -- ---- the law
 
--- For each control, what waited and what it gained, both without what drops take out, are its part of the groups and then what waits
+-- For each controller, what waited and what it gained, both without what drops take out, are its part of the groups and then what waits
 -- at the end, in order, each once.
 abbrev pub QueuesFlow : Type 0
 QueuesFlow = (k : ℕ) (first : Group) (log : List Answer) (end : Group) → k < length first.controls → IsGroupSound first → Runs first log end

@@ -12,12 +12,12 @@ use Rattle.pending_queue.specs.Entries.{all_keep_rules}
 use Rattle.turn.specs.declared.view.View.{View}
 use Rattle.turn.specs.Turn.{ticketed, HasCalled}
 use Rattle.group_state.specs.Volumes.{volume_of, passes}
-use Rattle.group_state.specs.Controls.{is_telling}
+use Rattle.group_state.specs.Controls.{is_reporting}
 use Rattle.group_state.specs.Groups.{Group, new_group, control_at}
 use Rattle.group_state.specs.SoundStates.{IsGroupSound, are_within, is_track_within}
 use Rattle.group_state.specs.Machine.{Call, Reply}
 use Rattle.turn_group.specs.Notes.{KnownVolume, SeatNote, volumes_known, last_after, known_after, floor_after, note_after}
-use Rattle.group_state.specs.Calls.{telling_after}
+use Rattle.group_state.specs.Calls.{reporting_after}
 use Rattle.turn_group.specs.Notes.SeatNote.{MoverNote, ReaderNote}
 use Rattle.turn_group.specs.Calls.{MadeCall}
 use Rattle.group_state.specs.Calls.{is_by_reader, is_by_mover}
@@ -27,17 +27,17 @@ pub record TurnState : Type 0 where
   pub table : TableId
   pub first : Group
 
--- A control's seat knows its table, the state that the table was made with, the control's number and floor, and whether the control
--- still tells. It keeps its calls in order.
+-- A controller's seat knows its table, the state that the table was made with, the controller's number and floor, and whether the controller
+-- still reports. It keeps its calls in order.
 pub record ReaderSeatState : Type 0 where
   pub table : TableId
   pub first : Group
   pub control : ℕ
   pub floor : Stamp
-  pub telling : Bool
+  pub reporting : Bool
   pub calls : List MadeCall
 
--- The mover's seat knows the last cut, the volumes of each control, and how many seats are not handed in.
+-- The mover's seat knows the last cut, the volumes of each controller, and how many seats are not handed in.
 pub record MoverSeatState : Type 0 where
   pub table : TableId
   pub first : Group
@@ -49,9 +49,9 @@ pub record MoverSeatState : Type 0 where
 -- ---- at the start
 
 abbrev pub new_reader : TableId → Group → (control : ℕ) → ReaderSeatState
-new_reader table first k = record { table = table; first = first; control = k; floor = (control_at first k).floor; telling = is_telling (control_at first k).phase; calls = [] }
+new_reader table first k = record { table = table; first = first; control = k; floor = (control_at first k).floor; reporting = is_reporting (control_at first k).phase; calls = [] }
 
--- the seats of so many controls, each at its control's place
+-- the seats of so many controllers, each at its controller's place
 abbrev pub new_readers : TableId → Group → (controls : ℕ) → List (Option ReaderSeatState)
 new_readers table first n = map (λ k. Some (new_reader table first k)) (range_with_len 0 n)
 
@@ -60,37 +60,37 @@ new_mover table first n = record { table = table; first = first; last = first.la
 
 -- ---- when a reader's seat may make a call
 
--- the control still tells, and no earlier time than before
-pub record SeatMayTell (seat : ReaderSeatState) (upto : Stamp) : Type 0 where
-  pub telling : IsTrue seat.telling
+-- the controller still reports, and no earlier time than before
+pub record SeatMayReport (seat : ReaderSeatState) (upto : Stamp) : Type 0 where
+  pub reporting : IsTrue seat.reporting
   pub up : seat.floor.0 ≤ upto.0
 
--- A batch is of the seat's control. Each stamp is above the floor and at most `upto`, stamps don't fall, and tracks are below those of
+-- A batch is of the seat's controller. Each stamp is above the floor and at most `upto`, stamps don't fall, and tracks are below those of
 -- the volumes that the table was made with.
 pub record SeatMayJoin (seat : ReaderSeatState) (b : Batch) : Type 0 where
   pub control : b.control ≡ seat.control
   pub rules : IsTrue (all_keep_rules b.writes)
-  pub tells : SeatMayTell seat b.upto
+  pub tells : SeatMayReport seat b.upto
   pub within : IsTrue (are_in seat.floor.0 b.upto.0 b.writes)
   pub order : IsTrue (is_in_order is_earlier b.writes)
   pub tracks : IsTrue (are_within (control_at seat.first seat.control).volumes b.writes)
 
 -- A copied track is as of the floor.
 pub record SeatMayCopy (seat : ReaderSeatState) (volume track : ℕ) (at : Stamp) : Type 0 where
-  pub telling : IsTrue seat.telling
+  pub reporting : IsTrue seat.reporting
   pub floor : at ≡ seat.floor
   pub within : IsTrue (is_track_within (control_at seat.first seat.control).volumes volume track)
 
 -- ---- what a reader copies next
 
--- whether a control has the volume, and the volume has the track
+-- whether a controller has the volume, and the volume has the track
 abbrev pub is_track_of_control : (first : Group) → (control volume track : ℕ) → Bool
 is_track_of_control first k v x = passes (λ u. nat_lt x (length u.map)) (volume_of v (control_at first k).volumes)
 
 -- ---- after a call
 
 abbrev pub reader_after : (ticket : ℕ) → Call → Reply → ReaderSeatState → ReaderSeatState
-reader_after t call reply seat = record seat { floor = floor_after call reply seat.floor; telling = telling_after call seat.telling; calls = seat.calls ++ ticketed t call reply ∷ [] }
+reader_after t call reply seat = record seat { floor = floor_after call reply seat.floor; reporting = reporting_after call seat.reporting; calls = seat.calls ++ ticketed t call reply ∷ [] }
 
 abbrev pub mover_after : (ticket : ℕ) → Call → Reply → MoverSeatState → MoverSeatState
 mover_after t call reply seat = record seat { last = last_after call reply seat.last; known = known_after call seat.known; calls = seat.calls ++ ticketed t call reply ∷ [] }
@@ -128,7 +128,7 @@ abbrev pub IsAtPlace : ℕ → Option ReaderSeatState → Type 0
 IsAtPlace k None = Unit {0}
 IsAtPlace k (Some seat) = seat.control ≡ k
 
--- each seat is at its control's place
+-- each seat is at its controller's place
 abbrev pub AreAtTheirPlaces : List (Option ReaderSeatState) → Type 0
 AreAtTheirPlaces seats = AllFrom IsAtPlace 0 seats
 
@@ -159,28 +159,28 @@ CalledAt old call reply new = HasCalled old call reply (note_after call reply (n
 
 abbrev pub floor_in : SeatNote → Stamp
 floor_in (MoverNote last known) = last
-floor_in (ReaderNote k floor telling) = floor
+floor_in (ReaderNote k floor reporting) = floor
 
-abbrev pub telling_in : SeatNote → Bool
-telling_in (MoverNote last known) = false
-telling_in (ReaderNote k floor telling) = telling
+abbrev pub reporting_in : SeatNote → Bool
+reporting_in (MoverNote last known) = false
+reporting_in (ReaderNote k floor reporting) = reporting
 
 abbrev pub known_in : SeatNote → List (List KnownVolume)
 known_in (MoverNote last known) = known
-known_in (ReaderNote k floor telling) = []
+known_in (ReaderNote k floor reporting) = []
 
 -- the volumes that the mover's seat knows
 abbrev pub known_at : SeatPlace → List (List KnownVolume)
 known_at place = known_in (note_in place.me.0.notes)
 
 abbrev pub reader_view : TableId → (control : ℕ) → SeatView → ReaderSeatState
-reader_view table k v = record { table = table; first = first_or v.first; control = k; floor = floor_in (note_in v.notes); telling = telling_in (note_in v.notes); calls = v.mine }
+reader_view table k v = record { table = table; first = first_or v.first; control = k; floor = floor_in (note_in v.notes); reporting = reporting_in (note_in v.notes); calls = v.mine }
 
 abbrev pub mover_view : TableId → SeatView → MoverSeatState
 mover_view table v = record { table = table; first = first_or v.first; last = floor_in (note_in v.notes); known = known_in (note_in v.notes); seats = v.seats; calls = v.mine }
 
 abbrev pub reader_note : (control : ℕ) → List SeatNote → SeatNote
-reader_note k notes = ReaderNote k (floor_in (note_in notes)) (telling_in (note_in notes))
+reader_note k notes = ReaderNote k (floor_in (note_in notes)) (reporting_in (note_in notes))
 
 abbrev pub mover_note : List SeatNote → SeatNote
 mover_note notes = MoverNote (floor_in (note_in notes)) (known_in (note_in notes))

@@ -1,4 +1,4 @@
-//! Copies of tracks are asked for and joined in the turn of their control's seat.
+//! Copies of tracks are asked for and joined in the turn of their controller's seat.
 
 ghost use Rattle.std.specs.Prelude.{◌≡◌, ℕ, ◌<◌, IsTrue, IfSome};
 ghost use Rattle.turn.specs.Turn.{IsIdle};

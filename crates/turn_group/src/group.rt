@@ -8,7 +8,7 @@ ghost use Rattle.group_state.specs.Groups.{shown_in};
 ghost use Rattle.group_state.specs.Machine.Call.{Join, NextWanted, Copied, Raise, Break, Form, Drop as Drops};
 ghost use Rattle.group_state.specs.Machine.Reply.{Made, Wanted};
 ghost use Rattle.group_state.specs.Answers.{join_reply, run_reply, copy_reply, form_reply};
-ghost use Rattle.turn_group.specs.Seats.{new_mover, new_readers, SeatMayTell, SeatMayJoin, SeatMayCopy, is_track_of_control, ReaderCalled, MoverCalled, IsSeated, calls_at, AllFrom, AreAtTheirPlaces, IsOwn};
+ghost use Rattle.turn_group.specs.Seats.{new_mover, new_readers, SeatMayReport, SeatMayJoin, SeatMayCopy, is_track_of_control, ReaderCalled, MoverCalled, IsSeated, calls_at, AllFrom, AreAtTheirPlaces, IsOwn};
 ghost use Rattle.turn.specs.Turn.{IsSameSeat, first_view, lists};
 ghost use Rattle.std.specs.List.{list_all};
 ghost use Rattle.group_state.specs.SoundStates.{IsGroupSound};
@@ -20,8 +20,8 @@ use crate::copying::{join_copy, next_wanted};
 use crate::joining::join_run;
 use crate::machine::{FirstSeat, GroupTable};
 use crate::moving::{drop_volume, form};
+use crate::reporting::{mark_broken, raise};
 use crate::seats::{MoverSeat, ReaderSeat, SeatList};
-use crate::telling::{mark_broken, raise};
 use ckd_track::{Batch, Cause, Slot};
 use group_state::{CopyJoin, Forming, GroupState, Joining, RunJoin};
 use pending_queue::Formed;
@@ -46,7 +46,7 @@ impl Model for TurnGroup {
 }
 
 impl TurnGroup {
-    /// The state goes into a table of its own, with a seat for the mover and one for each control. After want of memory the state is
+    /// The state goes into a table of its own, with a seat for the mover and one for each controller. After want of memory the state is
     /// dropped.
     pub fn make(
         alloc: Global,
@@ -71,7 +71,7 @@ impl TurnGroup {
         ))
     }
 
-    /// Joins a batch of the seat's control, or gives it back.
+    /// Joins a batch of the seat's controller, or gives it back.
     pub fn join_batch<W: Wait>(&self, rt: &W, seat: &mut ReaderSeat, batch: Batch) -> Joining
         requires table { seat.old.table ≡ self.now.table }
         requires may { SeatMayJoin seat.old batch }
@@ -93,7 +93,7 @@ impl TurnGroup {
         join_run(&self.table, rt, &mut seat.seat.place, batch)
     }
 
-    /// The volume and the track that the reader copies next; None where no volume of its control wants a track. The control had
+    /// The volume and the track that the reader copies next; None where no volume of its controller wants a track. The controller had
     /// that track when the table was made, as `join_copy` asks.
     pub fn next_wanted<W: Wait>(&self, rt: &W, seat: &mut ReaderSeat) -> Option<(u16, u32)>
         requires table { seat.old.table ≡ self.now.table }
@@ -129,19 +129,19 @@ impl TurnGroup {
         )
     }
 
-    /// The seat's control has no further write up to a time.
+    /// The seat's controller has no further write up to a time.
     pub fn raise<W: Wait>(&self, rt: &W, seat: &mut ReaderSeat, upto: Stamp)
         requires table { seat.old.table ≡ self.now.table }
-        requires may { SeatMayTell seat.old upto }
+        requires may { SeatMayReport seat.old upto }
         ensures called { ReaderCalled seat.old (Raise seat.old.control upto) Made seat.new }
     {
         raise(&self.table, rt, &mut seat.seat.place, seat.control, upto);
     }
 
-    /// The seat's control breaks at a time, up to which its writes are known.
+    /// The seat's controller breaks at a time, up to which its writes are known.
     pub fn mark_broken<W: Wait>(&self, rt: &W, seat: &mut ReaderSeat, upto: Stamp, cause: Cause)
         requires table { seat.old.table ≡ self.now.table }
-        requires may { SeatMayTell seat.old upto }
+        requires may { SeatMayReport seat.old upto }
         ensures called { ReaderCalled seat.old (Break seat.old.control upto cause) Made seat.new }
     {
         mark_broken(
@@ -154,7 +154,7 @@ impl TurnGroup {
         );
     }
 
-    /// Forms a group at the least of the limit and the floors of all controls whose break isn't reported.
+    /// Forms a group at the least of the limit and the floors of all controllers whose break isn't reported.
     pub fn form<W: Wait>(
         &self,
         rt: &W,

@@ -1,4 +1,4 @@
-//! A batch is joined in the turn of its control's seat.
+//! A batch is joined in the turn of its controller's seat.
 
 ghost use Rattle.std.specs.Prelude.{◌≡◌};
 ghost use Rattle.turn.specs.Turn.{IsIdle};

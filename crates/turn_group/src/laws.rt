@@ -2,8 +2,8 @@
 
 ghost use Rattle.turn_group.specs.Queues.{QueuesFlow};
 
-/// For each control, the queue at a run's start and after it what the control's reader gave the queue, both without what drops took
-/// out, are the control's part of the groups and then the queue at the end, in order, each entry once. This holds from every state.
+/// For each controller, the queue at a run's start and after it what the controller's reader gave the queue, both without what drops took
+/// out, are the controller's part of the groups and then the queue at the end, in order, each entry once. This holds from every state.
 pub fn queues_flow()
     ensures { QueuesFlow }
 {}

@@ -1,4 +1,4 @@
-//! The turn under which the readers of the controls and the mover agree on the group state: each call of a seat is one step of the
+//! The turn under which the readers of the controllers and the mover agree on the group state: each call of a seat is one step of the
 //! state, in the order of the tickets that the seats draw.
 //!
 //! No proof claims that a turn ever comes, that turns come fairly, or that threads run beside each other.
@@ -10,8 +10,8 @@ mod joining;
 mod laws;
 mod machine;
 mod moving;
+mod reporting;
 mod seats;
-mod telling;
 
 pub use group::TurnGroup;
 pub use laws::queues_flow;

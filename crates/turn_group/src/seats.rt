@@ -6,7 +6,7 @@ ghost use Rattle.turn_group.specs.Seats.{seat_at};
 use crate::machine::{FirstSeat, OtherSeat};
 use std::marker::Model;
 
-/// The seat of a control's reader.
+/// The seat of a controller's reader.
 #[derive(Drop)]
 pub struct ReaderSeat {
     pub(crate) control: u16,
@@ -24,7 +24,7 @@ impl Model for ReaderSeat {
 }
 
 impl ReaderSeat {
-    /// The control whose seat it is.
+    /// The controller whose seat it is.
     pub fn control(&self) -> u16
         ensures { result ≡ self.now.control }
     {
@@ -48,7 +48,7 @@ impl Model for MoverSeat {
     ghost invariant = { λ m. IsMoverView m.seat.place.me.0 };
 }
 
-/// The seats of the controls, each at its control's place. The list is made once, and its calls take no memory.
+/// The seats of the controllers, each at its controller's place. The list is made once, and its calls take no memory.
 #[derive(Drop)]
 pub struct SeatList {
     pub(crate) places: Vec<Option<ReaderSeat>>,
@@ -66,7 +66,7 @@ impl Model for SeatList {
 }
 
 impl SeatList {
-    /// Takes the seat of a control, where it is there.
+    /// Takes the seat of a controller, where it is there.
     pub fn take(&mut self, control: u16) -> Option<ReaderSeat>
         ensures seat { result ≡ seat_at self.old control }
         ensures left { self.new ≡ slice_set self.old control None }
@@ -77,7 +77,7 @@ impl SeatList {
         self.places[control as usize].take()
     }
 
-    /// Puts a seat at its control's place, which is empty.
+    /// Puts a seat at its controller's place, which is empty.
     pub fn put(&mut self, seat: ReaderSeat)
         requires empty { slice_get self.old seat.control ≡ Some None }
         ensures { self.new ≡ slice_set self.old seat.control (Some seat) }

@@ -1,4 +1,4 @@
--- The writes of a control keep the rules, in order, and how long the traces are.
+-- The writes of a controller keep the rules, in order, and how long the traces are.
 use Rattle.std.proofs.Common.{◌≡◌, ◌≤◌, ◌<◌, ℕ, zero, suc, ◌+◌, ◌*◌, ◌/◌, ◌%◌, ◌^◌, true, ◌++◌, length, map, refl, ap, length-append, arith}
 use Rattle.std.specs.List.{range_with_len}
 use Rattle.std.proofs.lemmas.Bool.{le-leb, lt-ltb}

@@ -9,7 +9,7 @@ use Rattle.ckd_track.specs.declared.rec.Rec.{Rec}
 use Rattle.ckd_track.specs.Images.{image_at}
 use Rattle.ckd_track.specs.SlotPlaces.{slot_end, slot_place, slot_track, track_read}
 use Rattle.ckd_track.proofs.ImageLaws.{both_true}
-use Rattle.ckd_track.proofs.SlotTracks.{behind_is, image_same}
+use Rattle.ckd_track.proofs.SlotTracks.{after_is, image_same}
 use Rattle.crash_plant.specs.declared.device.Device.{Device}
 use Rattle.crash_plant.specs.declared.device.Device.TheVariants.{Volume}
 use Rattle.crash_plant.specs.Calls.{IsThere}
@@ -33,7 +33,7 @@ slot_is x volume fits =
     let q = slot_end x in
     let t = slice_range volume p q in
     let long : 56670 ≤ length t = omega (arith, fits, length-take (q - p) (drop p volume), length-drop p volume) in
-    ap (λ (l : List ℕ). track_read (image_at l)) (behind_is p q volume) ∙ image_same t (drop (q - p) (drop p volume)) [] long ∙ ap (λ (l : List ℕ). track_read (image_at l)) (append-nil t)
+    ap (λ (l : List ℕ). track_read (image_at l)) (after_is p q volume) ∙ image_same t (drop (q - p) (drop p volume)) [] long ∙ ap (λ (l : List ℕ). track_read (image_at l)) (append-nil t)
 
 pub slot_was_read : (x place : ℕ) (volume bytes : List ℕ) → slot_end x ≤ length volume → place ≡ slot_place x → bytes ≡ slice_range volume place (place + 57344) → slot_track volume x ≡ track_read (image_at bytes)
 slot_was_read x place volume bytes fits at are =

@@ -26,13 +26,13 @@ chosen count v b is = ap (λ (t : Bool). cond t (labelled_volume v) blank_volume
 pub labelled_before : (count v : ℕ) → v < count → volume_after count v ≡ labelled_volume v
 labelled_before count v lt = chosen count v true (lt-ltb v count lt)
 
-pub blank_behind : (count v : ℕ) → count ≤ v → volume_after count v ≡ blank_volume
-blank_behind count v le = chosen count v false (le-ltb v count le)
+pub blank_after : (count v : ℕ) → count ≤ v → volume_after count v ≡ blank_volume
+blank_after count v le = chosen count v false (le-ltb v count le)
 
 kept_by_next : (count v : ℕ) → v ≢ count → volume_after (count + 1) v ≡ volume_after count v
 kept_by_next count v other = elim (cases_lt v count) [
   | inl before ↦ labelled_before (count + 1) v (omega (arith, before)) ∙ sym (labelled_before count v before)
-  | inr behind ↦ blank_behind (count + 1) v (omega (arith, behind, other)) ∙ sym (blank_behind count v behind)
+  | inr after ↦ blank_after (count + 1) v (omega (arith, after, other)) ∙ sym (blank_after count v after)
 ]
 
 -- ---- one label more
@@ -46,7 +46,7 @@ module _ (made a b : PlantState) (count : ℕ) where
     volumes = λ v lt. elim (cases_eq v count) [
       | inl here ↦
           subst (λ (w : ℕ). b.bytes (Volume w) ≡ volume_after (count + 1) w) (sym here)
-          (labels.bytes ∙ ap (λ (l : List ℕ). patched 0 (label_spelling (generated_label count)) l) (so_far.volumes count few ∙ blank_behind count count (omega arith))
+          (labels.bytes ∙ ap (λ (l : List ℕ). patched 0 (label_spelling (generated_label count)) l) (so_far.volumes count few ∙ blank_after count count (omega arith))
           ∙ sym (labelled_before (count + 1) count (omega arith)))
       | inr other ↦ labels.others (Volume v) (λ same. other (volume_is v count same)) ∙ so_far.volumes v lt ∙ sym (kept_by_next count v other)
     ];
@@ -66,7 +66,7 @@ zeros_are count = refl
 module _ (journal volume : ℕ) (script : List ℕ) (made : PlantState) (is : IsMade 2 journal 8 volume script made) where
   pub none_labelled : volume ≡ volume_need 1 → IsLabelledUpTo 0 made made
   none_labelled size = record {
-    volumes = λ v lt. is.each_volume v lt ∙ zeros_are volume ∙ ap (λ (n : ℕ). zero_bytes n) size ∙ sym (blank_behind 0 v (omega arith));
+    volumes = λ v lt. is.each_volume v lt ∙ zeros_are volume ∙ ap (λ (n : ℕ). zero_bytes n) size ∙ sym (blank_after 0 v (omega arith));
     others = λ d no_volume. refl;
     site = record { journals = refl; volumes = refl; lengths = λ d. refl };
     loans = λ w. loan_here w made;

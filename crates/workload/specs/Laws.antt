@@ -11,7 +11,7 @@ use Rattle.workload.specs.declared.layout.TheConstants.{CONTROLS}
 use Rattle.workload.specs.Traces.{generated_entries, generated_header, generated_trace}
 use Rattle.workload.specs.Scripts.{generated_line_text, generated_lines}
 
--- the trace of a control: its header and all its writes, and a clean end
+-- the trace of a controller: its header and all its writes, and a clean end
 abbrev pub whole_generated : (number control : ℕ) → Trace
 whole_generated number control = record { header = generated_header control; entries = generated_entries number control; end = Ended }
 

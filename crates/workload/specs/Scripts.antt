@@ -1,5 +1,5 @@
 -- The script of a generated input: a session GEN to which all pairs are added before the first write. The first pair is suspended
--- among the writes, and added again. The session ends behind the last write.
+-- among the writes, and added again. The session ends after the last write.
 use Rattle.std.specs.Prelude.{ℕ, ◌+◌, List, [], ◌∷◌, ◌++◌, map, codes}
 use Rattle.std.specs.List.{flat_map, range_with_len}
 use Rattle.tod_stamp.specs.Stamps.{stamp_text}

@@ -24,11 +24,11 @@ zero_bytes count = replicate count 0
 abbrev pub blank_volume : List ℕ
 blank_volume = zero_bytes (volume_need CYLINDERS)
 
--- the same behind its label
+-- the same after its label
 abbrev pub labelled_volume : (device : ℕ) → List ℕ
 labelled_volume device = patched 0 (label_spelling (generated_label device)) blank_volume
 
--- What is there before a session: two journals that are long enough for all controls, the volumes of all pairs with their labels, zeros
+-- What is there before a session: two journals that are long enough for all controllers, the volumes of all pairs with their labels, zeros
 -- elsewhere, and the script, of which nothing was heard. Nothing was said, no volume is lent, and no call has failed.
 pub record HoldsInput (plant : PlantState) : Type 0 where
   pub has_journals : plant.journals ≡ JOURNALS

@@ -1,4 +1,4 @@
--- The traces of a generated input. Each control has two volumes of one cylinder, whose tracks hold four records of zeros at first,
+-- The traces of a generated input. Each controller has two volumes of one cylinder, whose tracks hold four records of zeros at first,
 -- and 500 writes, each of eight equal bytes to one record.
 use Rattle.std.specs.Prelude.{ℕ, ◌+◌, ◌*◌, ◌/◌, ◌%◌, List, [], ◌∷◌, ◌++◌, map, replicate, codes}
 use Rattle.std.specs.List.{flat_map, range_with_len}
@@ -24,7 +24,7 @@ primary_named number = codes "GP" ++ (48 + number) ∷ []
 abbrev pub generated_volume : (control volume : ℕ) → VolumeHead
 generated_volume control volume = record { serial = primary_named (VOLUMES * control + volume); cylinders = CYLINDERS }
 
--- The primaries of all controls are numbered in order.
+-- The primaries of all controllers are numbered in order.
 abbrev pub generated_volumes : (control : ℕ) → List VolumeHead
 generated_volumes control = map (generated_volume control) (range_with_len 0 VOLUMES)
 
@@ -35,7 +35,7 @@ zero_record number = record { number = number; key = []; content = replicate CON
 abbrev pub zero_records : List Rec
 zero_records = map zero_record (range_with_len 1 RECORDS)
 
--- the track of that number among those of a control, volume by volume
+-- the track of that number among those of a controller, volume by volume
 abbrev pub generated_base : (number : ℕ) → Base
 generated_base number = (number / TRACKS_OF_CYLINDER, number % TRACKS_OF_CYLINDER, zero_records)
 
@@ -56,7 +56,7 @@ chosen_write stamp chosen = record {
   kind = Update (1 + (chosen / TRACKS) % RECORDS) (replicate CONTENT (chosen % 256));
 }
 
--- The write of a control at a place, counted from 0. Stamps go round the controls. The sum of place and number chooses volume, then
+-- The write of a controller at a place, counted from 0. Stamps go round the controllers. The sum of place and number chooses volume, then
 -- track, then record, and the byte.
 abbrev pub generated_write : (number control place : ℕ) → Write
 generated_write number control place = chosen_write (FIRST_STAMP + CONTROLS * place + control) (number + place)
@@ -76,6 +76,6 @@ generated_trace number control = header_spelling (generated_header control) ++ f
 abbrev pub generated_source : (number control : ℕ) → MemoryState
 generated_source number control = fresh (generated_trace number control) MOST_OF_PULL []
 
--- the sources of all controls, in order
+-- the sources of all controllers, in order
 abbrev pub generated_sources : (number : ℕ) → List MemoryState
 generated_sources number = map (generated_source number) (range_with_len 0 CONTROLS)

@@ -9,7 +9,7 @@ use crash_plant::PlainPlant;
 use std::alloc::Global;
 use xrc_edge::{MemorySource, NoMemory};
 
-/// The input of a number: the traces of its controls in order, and the plant with the script. The number chooses which tracks and
+/// The input of a number: the traces of its controllers in order, and the plant with the script. The number chooses which tracks and
 /// records are written, and with which bytes.
 pub fn generate(alloc: Global, number: u32) -> Result<(Vec<MemorySource>, PlainPlant), NoMemory>
     ensures sources { IfOk result (λ input. input.0.items ≡ generated_sources number) }

@@ -2,7 +2,7 @@
 
 ghost use Rattle.workload.specs.Laws.{ScriptsAreRead, TracesAreGood};
 
-/// Each trace is read whole: its header and all its writes, and it ends cleanly behind them.
+/// Each trace is read whole: its header and all its writes, and it ends cleanly after them.
 pub fn traces_are_good()
     ensures { TracesAreGood }
 {}

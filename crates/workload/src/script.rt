@@ -7,7 +7,7 @@ use std::alloc::Global;
 use xrc_edge::{Bytes, NoMemory};
 
 /// A session GEN that adds each pair before the first write, suspends the first pair among the writes, adds it again, and ends
-/// behind the last write.
+/// after the last write.
 const SCRIPT: [u8; 514] = *b"\
 00000000000001F4 XSTART GEN
 0000000000000258 XADDPAIR GEN VOLUME(GP0,GS0)

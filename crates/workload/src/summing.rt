@@ -19,7 +19,7 @@ use std::alloc::Global;
 use tod_stamp::Stamp;
 use xrc_edge::{Bytes, NoMemory};
 
-/// The writes of all controls.
+/// The writes of all controllers.
 const ALL_WRITES: u64 = CONTROLS as u64 * WRITES as u64;
 
 /// Puts a word, a space and a number in decimal digits.

@@ -45,7 +45,7 @@ fn zero_track(alloc: Global) -> Result<Track, NoMemory>
     Ok(track)
 }
 
-/// The volume of a control, and the track of that volume, with that number among the tracks of the control.
+/// The volume of a controller, and the track of that volume, with that number among the tracks of the controller.
 fn base_track(alloc: Global, number: u32) -> Result<BaseTrack, NoMemory>
     requires { number < TRACKS }
     ensures { IfOk result (λ base. base ≡ generated_base number) }
@@ -90,7 +90,7 @@ fn header(alloc: Global, control: u16) -> Result<Header, NoMemory>
     })
 }
 
-/// The write of a control at a place: place and number of the input together choose volume, track, record and byte.
+/// The write of a controller at a place: place and number of the input together choose volume, track, record and byte.
 fn write(alloc: Global, number: u32, control: u16, place: u16) -> Result<Write, NoMemory>
     requires control { control < CONTROLS }
     requires place { place < WRITES }
@@ -138,7 +138,7 @@ fn source(alloc: Global, number: u32, control: u16) -> Result<MemorySource, NoMe
     MemorySource::make(alloc, bytes, MOST_OF_PULL, Bytes::make(alloc))
 }
 
-/// The traces of the controls in order, each as a source whose calls don't fail.
+/// The traces of the controllers in order, each as a source whose calls don't fail.
 pub(crate) fn sources(alloc: Global, number: u32) -> Result<Vec<MemorySource>, NoMemory>
     ensures { IfOk result (λ sources. sources.items ≡ generated_sources number) }
 {

@@ -16,7 +16,7 @@ pub has_one_more : (plant : PlantState) (rows : List PairRow) (i : ℕ) (row : P
     → (k : ℕ) (d : PairRow) → k < i + 1 → HasTracks plant (slice_index_or rows k d)
 has_one_more plant rows i row so_far is has k d lt = elim (cases_lt k i) [
   | inl before ↦ so_far k d before
-  | inr behind ↦
-      let here : i ≡ k = omega (arith, behind, lt) in
+  | inr after ↦
+      let here : i ≡ k = omega (arith, after, lt) in
       subst (λ (n : ℕ). HasTracks plant (slice_index_or rows n d)) here (subst (λ (r : PairRow). HasTracks plant r) (sym (index_of rows i d row is)) has)
 ]

@@ -93,7 +93,7 @@ fn apply_all(
     }
 }
 
-/// Writes the tracks of a control's volumes, with all its writes, into the slots of its devices.
+/// Writes the tracks of a controller's volumes, with all its writes, into the slots of its devices.
 pub(crate) fn put_tracks(
     rt: &impl Abort,
     alloc: Global,

@@ -23,11 +23,11 @@ pub(crate) fn assert_same<T: PartialEq + Debug>(
     assert_eq!(rt; found, expected, "{case:?}");
 }
 
-/// The header of control 1's trace up to the first record of its first base track.
+/// The header of controller 1's trace up to the first record of its first base track.
 const FRONT: [u8; 46] =
     *b"XTR1\0\x02GP2   \0\x01GP3   \0\x01\0\0\0\x1E\0\0\0\0\0\0\0\x04\x01\0\0\x08\0\0\0\0\0\0\0\0";
 
-/// The first and the last write of control 1 in the input of 7: at 3E9 on volume 1, track 3, and at BB5 on volume 0, track 13, each to
+/// The first and the last write of controller 1 in the input of 7: at 3E9 on volume 1, track 3, and at BB5 on volume 0, track 13, each to
 /// record 1.
 const FIRST: [u8; 26] =
     *b"\x02\0\0\0\0\0\0\x03\xE9\0\x01\0\0\0\x03\x01\0\x08\x07\x07\x07\x07\x07\x07\x07\x07";
@@ -35,7 +35,7 @@ const FIRST: [u8; 26] =
 const LAST: [u8; 26] =
     *b"\x02\0\0\0\0\0\0\x0B\xB5\0\0\0\0\0\x0D\x01\0\x08\xFA\xFA\xFA\xFA\xFA\xFA\xFA\xFA";
 
-/// The bytes of the header behind its front, and those of the writes between the first and the last.
+/// The bytes of the header after its front, and those of the writes between the first and the last.
 const IN_HEADER: usize = 1_706 - 46;
 
 const BETWEEN: usize = 498 * 26;

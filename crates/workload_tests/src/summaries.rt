@@ -23,7 +23,7 @@ fn assert_summary(rt: &impl Abort, alloc: Global, number: u32, first: PairState,
     assert_same(rt, &plant.said().len(), &0, &"what was said");
 }
 
-/// The bytes of the last writes run from 124 + N to 243 + N on each control: 120 records of eight bytes, on four controls.
+/// The bytes of the last writes run from 124 + N to 243 + N on each controller: 120 records of eight bytes, on four controllers.
 #[test]
 fn finished_sessions_are_summed_up(rt: HostRuntime) {
     let alloc = rt.alloc();

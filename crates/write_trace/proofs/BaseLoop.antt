@@ -31,35 +31,35 @@ reached_same start now remains others held same reached bytes told =
 
 -- ---- base track after base track
 
--- base tracks that were read before, and what remains behind the others
-abbrev pub behind_bases : List Base → (List Base × Left → Result (Header × Left) Bad) → List Base × Left → Result (Header × Left) Bad
-behind_bases front remains x = remains (front ++ x.0, x.1)
+-- base tracks that were read before, and what remains after the others
+abbrev pub after_bases : List Base → (List Base × Left → Result (Header × Left) Bad) → List Base × Left → Result (Header × Left) Bad
+after_bases front remains x = remains (front ++ x.0, x.1)
 
--- where so many of the base tracks were read, what remained behind all remains behind the others
+-- where so many of the base tracks were read, what remained after all remains after the others
 abbrev pub ReadsOn : (before now : Option (List ℕ)) → List VolumeHead → (many count : ℕ) → (low : ℕ × ℕ) → List Base → (old new : Left) → Type 0
 ReadsOn before now volumes many count low front old new = (start : Option (List ℕ)) (remains : List Base × Left → Result (Header × Left) Bad) → Reached start before (λ left. bases_at 1 volumes many (0, 0) left >>= remains) old
-    → Reached start now (λ left. bases_at 1 volumes count low left >>= behind_bases front remains) new
+    → Reached start now (λ left. bases_at 1 volumes count low left >>= after_bases front remains) new
 
 pub reads_none : (before : Option (List ℕ)) (volumes : List VolumeHead) (many count : ℕ) (front : List Base) (old : Left) → count ≡ many → front ≡ [] → ReadsOn before before volumes many count (0, 0) front old old
 reads_none before volumes many count front old all none start remains reached =
-    subst (λ n. Reached start before (λ left. bases_at 1 volumes n (0, 0) left >>= behind_bases front remains) old) (sym all)
-    (subst (λ (f : List Base). Reached start before (λ left. bases_at 1 volumes many (0, 0) left >>= behind_bases f remains) old) (sym none) reached)
+    subst (λ n. Reached start before (λ left. bases_at 1 volumes n (0, 0) left >>= after_bases front remains) old) (sym all)
+    (subst (λ (f : List Base). Reached start before (λ left. bases_at 1 volumes many (0, 0) left >>= after_bases f remains) old) (sym none) reached)
 
--- what remains behind the next base track
-abbrev behind_base : List VolumeHead → (count : ℕ) → List Base → (List Base × Left → Result (Header × Left) Bad) → Base × Left → Result (Header × Left) Bad
-behind_base volumes count front remains first = (bases_at 1 volumes count (first.0.0, first.0.1 + 1) first.1 >>= λ others. Ok (first.0 ∷ others.0, others.1)) >>= behind_bases front remains
+-- what remains after the next base track
+abbrev after_base : List VolumeHead → (count : ℕ) → List Base → (List Base × Left → Result (Header × Left) Bad) → Base × Left → Result (Header × Left) Bad
+after_base volumes count front remains first = (bases_at 1 volumes count (first.0.0, first.0.1 + 1) first.1 >>= λ others. Ok (first.0 ∷ others.0, others.1)) >>= after_bases front remains
 
 next_base : (volumes : List VolumeHead) (count : ℕ) (low : ℕ × ℕ) (front : List Base) (remains : List Base × Left → Result (Header × Left) Bad) (left : Left)
-    → (bases_at 1 volumes (suc count) low left >>= behind_bases front remains) ≡ (base_at 1 volumes low left >>= behind_base volumes count front remains)
+    → (bases_at 1 volumes (suc count) low left >>= after_bases front remains) ≡ (base_at 1 volumes low left >>= after_base volumes count front remains)
 unfolding bases_at
 next_base volumes count low front remains left = choose (base_at 1 volumes low left)
   where
-    choose : (r : Result (Base × Left) Bad) → ((r >>= λ first. bases_at 1 volumes count (first.0.0, first.0.1 + 1) first.1 >>= λ others. Ok (first.0 ∷ others.0, others.1)) >>= behind_bases front remains) ≡ (r >>= behind_base volumes count front remains)
+    choose : (r : Result (Base × Left) Bad) → ((r >>= λ first. bases_at 1 volumes count (first.0.0, first.0.1 + 1) first.1 >>= λ others. Ok (first.0 ∷ others.0, others.1)) >>= after_bases front remains) ≡ (r >>= after_base volumes count front remains)
     choose (Ok x) = refl
     choose (Err e) = refl
 
 one_more : (front : List Base) (b : Base) (remains : List Base × Left → Result (Header × Left) Bad) (r : Result (List Base × Left) Bad)
-    → ((r >>= λ others. Ok (b ∷ others.0, others.1)) >>= behind_bases front remains) ≡ (r >>= behind_bases (front ++ b ∷ []) remains)
+    → ((r >>= λ others. Ok (b ∷ others.0, others.1)) >>= after_bases front remains) ≡ (r >>= after_bases (front ++ b ∷ []) remains)
 one_more front b remains (Ok x) = ap (λ (t : List Base). remains (t, x.1)) (sym (append_assoc front (b ∷ []) x.0))
 one_more front b remains (Err e) = refl
 
@@ -68,26 +68,26 @@ pub reads_next : (before now next : Option (List ℕ)) (volumes : List VolumeHea
 reads_next before now next volumes many i low front faults risen old mid new b lt on part start remains reached =
     let count = many - (i + 1) in
     let k : many - i ≡ suc count = omega arith in
-    let here : Reached start now (λ left. base_at 1 volumes low left >>= behind_base volumes count front remains) mid =
-    reached_same start now (λ left. bases_at 1 volumes (suc count) low left >>= behind_bases front remains) (λ left. base_at 1 volumes low left >>= behind_base volumes count front remains) mid (next_base volumes count low front remains)
-    (subst (λ n. Reached start now (λ left. bases_at 1 volumes n low left >>= behind_bases front remains) mid) k (on start remains reached)) in
-    reached_same start next (λ left. behind_base volumes count front remains (b, left)) (λ left. bases_at 1 volumes count (b.0, b.1 + 1) left >>= behind_bases (front ++ b ∷ []) remains) new
-    (λ left. one_more front b remains (bases_at 1 volumes count (b.0, b.1 + 1) left)) (part.0 start (behind_base volumes count front remains) here)
+    let here : Reached start now (λ left. base_at 1 volumes low left >>= after_base volumes count front remains) mid =
+    reached_same start now (λ left. bases_at 1 volumes (suc count) low left >>= after_bases front remains) (λ left. base_at 1 volumes low left >>= after_base volumes count front remains) mid (next_base volumes count low front remains)
+    (subst (λ n. Reached start now (λ left. bases_at 1 volumes n low left >>= after_bases front remains) mid) k (on start remains reached)) in
+    reached_same start next (λ left. after_base volumes count front remains (b, left)) (λ left. bases_at 1 volumes count (b.0, b.1 + 1) left >>= after_bases (front ++ b ∷ []) remains) new
+    (λ left. one_more front b remains (bases_at 1 volumes count (b.0, b.1 + 1) left)) (part.0 start (after_base volumes count front remains) here)
 
 pub reads_ends : (before now next : Option (List ℕ)) (volumes : List VolumeHead) (many i : ℕ) (low : ℕ × ℕ) (front : List Base) (faults risen after : ℕ) (old mid new : Left) (error : HeaderError) → i < many → risen ≡ faults
     → ReadsOn before now volumes many (many - i) low front old mid → ReadsPart (base_at 1 volumes low) now next risen after mid new (Err error) → ReadsPart (bases_at 1 volumes many (0, 0)) before next faults after old new (Err error)
 reads_ends before now next volumes many i low front faults risen after old mid new error lt same on part = choose error part
   where
-    here : (start : Option (List ℕ)) (remains : List Base × Left → Result (Header × Left) Bad) → Reached start before (λ left. bases_at 1 volumes many (0, 0) left >>= remains) old → Reached start now (λ left. base_at 1 volumes low left >>= behind_base volumes (many - (i + 1)) front remains) mid
+    here : (start : Option (List ℕ)) (remains : List Base × Left → Result (Header × Left) Bad) → Reached start before (λ left. bases_at 1 volumes many (0, 0) left >>= remains) old → Reached start now (λ left. base_at 1 volumes low left >>= after_base volumes (many - (i + 1)) front remains) mid
     here start remains reached =
         let count = many - (i + 1) in
         let k : many - i ≡ suc count = omega arith in
-        reached_same start now (λ left. bases_at 1 volumes (suc count) low left >>= behind_bases front remains) (λ left. base_at 1 volumes low left >>= behind_base volumes count front remains) mid (next_base volumes count low front remains)
-        (subst (λ n. Reached start now (λ left. bases_at 1 volumes n low left >>= behind_bases front remains) mid) k (on start remains reached))
+        reached_same start now (λ left. bases_at 1 volumes (suc count) low left >>= after_bases front remains) (λ left. base_at 1 volumes low left >>= after_base volumes count front remains) mid (next_base volumes count low front remains)
+        (subst (λ n. Reached start now (λ left. bases_at 1 volumes n low left >>= after_bases front remains) mid) k (on start remains reached))
 
     choose : (e : HeaderError) → ReadsPart (base_at 1 volumes low) now next risen after mid new (Err e) → ReadsPart (bases_at 1 volumes many (0, 0)) before next faults after old new (Err e)
-    choose (BadHeader place) p = (λ start remains reached. p.0 start (behind_base volumes (many - (i + 1)) front remains) (here start remains reached), p.1 ∙ same)
-    choose HeaderFault p = (λ start remains reached. p.0 start (behind_base volumes (many - (i + 1)) front remains) (here start remains reached), subst (λ n. Rose n after) same p.1)
+    choose (BadHeader place) p = (λ start remains reached. p.0 start (after_base volumes (many - (i + 1)) front remains) (here start remains reached), p.1 ∙ same)
+    choose HeaderFault p = (λ start remains reached. p.0 start (after_base volumes (many - (i + 1)) front remains) (here start remains reached), subst (λ n. Rose n after) same p.1)
     choose NoMemory p = p ∙ same
 
 pub reads_all : (before now : Option (List ℕ)) (volumes : List VolumeHead) (many i : ℕ) (low : ℕ × ℕ) (front : List Base) (faults risen : ℕ) (old mid : Left) → many ≤ i → risen ≡ faults
@@ -98,11 +98,11 @@ reads_all before now volumes many i low front faults risen old mid le same on = 
     k : many - i ≡ 0
     k = omega arith
 
-    last : (remains : List Base × Left → Result (Header × Left) Bad) (left : Left) → (bases_at 1 volumes (many - i) low left >>= behind_bases front remains) ≡ remains (front, left)
+    last : (remains : List Base × Left → Result (Header × Left) Bad) (left : Left) → (bases_at 1 volumes (many - i) low left >>= after_bases front remains) ≡ remains (front, left)
     last remains left = rw k (ap (λ (t : List Base). remains (t, left)) (append-nil front))
 
-    done : (start : Option (List ℕ)) (remains : List Base × Left → Result (Header × Left) Bad) → Reached start now (λ left. bases_at 1 volumes (many - i) low left >>= behind_bases front remains) mid → Reached start now (λ left. remains (front, left)) mid
-    done start remains reached = reached_same start now (λ left. bases_at 1 volumes (many - i) low left >>= behind_bases front remains) (λ left. remains (front, left)) mid (last remains) reached
+    done : (start : Option (List ℕ)) (remains : List Base × Left → Result (Header × Left) Bad) → Reached start now (λ left. bases_at 1 volumes (many - i) low left >>= after_bases front remains) mid → Reached start now (λ left. remains (front, left)) mid
+    done start remains reached = reached_same start now (λ left. bases_at 1 volumes (many - i) low left >>= after_bases front remains) (λ left. remains (front, left)) mid (last remains) reached
 
 -- ---- the rules of base tracks in a row
 
@@ -122,9 +122,9 @@ keeps_all volumes low front keeps = ap (are_bases volumes (0, 0)) (sym (append-n
 
 -- ---- a header from its parts
 
--- what remains of a header behind its head
-abbrev pub behind_head : (List VolumeHead × ℕ) × Left → Result (Header × Left) Bad
-behind_head head = bases_at 1 head.0.0 head.0.1 (0, 0) head.1 >>= λ base. Ok (record { version = 1; volumes = head.0.0; base = base.0 }, base.1)
+-- what remains of a header after its head
+abbrev pub after_head : (List VolumeHead × ℕ) × Left → Result (Header × Left) Bad
+after_head head = bases_at 1 head.0.0 head.0.1 (0, 0) head.1 >>= λ base. Ok (record { version = 1; volumes = head.0.0; base = base.0 }, base.1)
 
 mark_is_first : (left : Left) (x : ℕ × Left) → version_at 1 left ≡ Ok x → x.0 ≡ 1
 unfolding version_at
@@ -143,40 +143,40 @@ mark_is_first left x e =
 abbrev many_at : List VolumeHead → Left → Result (ℕ × Left) Bad
 many_at volumes left = number_at w32 (λ n. nat_le n (sum_by tracks_of volumes)) left
 
-many_part : (volumes : List VolumeHead) (r : Result (ℕ × Left) Bad) → (r >>= λ many. bases_at 1 volumes many.0 (0, 0) many.1 >>= λ base. Ok (record { version = 1; volumes = volumes; base = base.0 }, base.1)) ≡ ((r >>= λ many. Ok ((volumes, many.0), many.1)) >>= behind_head)
+many_part : (volumes : List VolumeHead) (r : Result (ℕ × Left) Bad) → (r >>= λ many. bases_at 1 volumes many.0 (0, 0) many.1 >>= λ base. Ok (record { version = 1; volumes = volumes; base = base.0 }, base.1)) ≡ ((r >>= λ many. Ok ((volumes, many.0), many.1)) >>= after_head)
 many_part volumes (Ok x) = refl
 many_part volumes (Err e) = refl
 
 volumes_part : (r : Result (List VolumeHead × Left) Bad)
     → (r >>= λ volumes. many_at volumes.0 volumes.1 >>= λ many. bases_at 1 volumes.0 many.0 (0, 0) many.1 >>= λ base. Ok (record { version = 1; volumes = volumes.0; base = base.0 }, base.1))
-    ≡ ((r >>= λ volumes. many_at volumes.0 volumes.1 >>= λ many. Ok ((volumes.0, many.0), many.1)) >>= behind_head)
+    ≡ ((r >>= λ volumes. many_at volumes.0 volumes.1 >>= λ many. Ok ((volumes.0, many.0), many.1)) >>= after_head)
 volumes_part (Ok x) = many_part x.0 (many_at x.0 x.1)
 volumes_part (Err e) = refl
 
 count_part : (r : Result (ℕ × Left) Bad)
     → (r >>= λ count. volumes_at 1 count.0 [] count.1 >>= λ volumes. many_at volumes.0 volumes.1 >>= λ many. bases_at 1 volumes.0 many.0 (0, 0) many.1 >>= λ base. Ok (record { version = 1; volumes = volumes.0; base = base.0 }, base.1))
-    ≡ ((r >>= λ count. volumes_at 1 count.0 [] count.1 >>= λ volumes. many_at volumes.0 volumes.1 >>= λ many. Ok ((volumes.0, many.0), many.1)) >>= behind_head)
+    ≡ ((r >>= λ count. volumes_at 1 count.0 [] count.1 >>= λ volumes. many_at volumes.0 volumes.1 >>= λ many. Ok ((volumes.0, many.0), many.1)) >>= after_head)
 count_part (Ok x) = volumes_part (volumes_at 1 x.0 [] x.1)
 count_part (Err e) = refl
 
-abbrev behind_mark : (version : ℕ) → Left → Result (Header × Left) Bad
-behind_mark version left = number_at w16 (within 1 32) left >>= λ count. volumes_at version count.0 [] count.1 >>= λ volumes. many_at volumes.0 volumes.1 >>= λ many. bases_at version volumes.0 many.0 (0, 0) many.1 >>= λ base. Ok (record { version = version; volumes = volumes.0; base = base.0 }, base.1)
+abbrev after_mark : (version : ℕ) → Left → Result (Header × Left) Bad
+after_mark version left = number_at w16 (within 1 32) left >>= λ count. volumes_at version count.0 [] count.1 >>= λ volumes. many_at volumes.0 volumes.1 >>= λ many. bases_at version volumes.0 many.0 (0, 0) many.1 >>= λ base. Ok (record { version = version; volumes = volumes.0; base = base.0 }, base.1)
 
-abbrev head_behind_mark : Left → Result ((List VolumeHead × ℕ) × Left) Bad
-head_behind_mark left = number_at w16 (within 1 32) left >>= λ count. volumes_at 1 count.0 [] count.1 >>= λ volumes. many_at volumes.0 volumes.1 >>= λ many. Ok ((volumes.0, many.0), many.1)
+abbrev head_after_mark : Left → Result ((List VolumeHead × ℕ) × Left) Bad
+head_after_mark left = number_at w16 (within 1 32) left >>= λ count. volumes_at 1 count.0 [] count.1 >>= λ volumes. many_at volumes.0 volumes.1 >>= λ many. Ok ((volumes.0, many.0), many.1)
 
-mark_part : (r : Result (ℕ × Left) Bad) → ((x : ℕ × Left) → r ≡ Ok x → x.0 ≡ 1) → (r >>= λ version. behind_mark version.0 version.1) ≡ ((r >>= λ version. head_behind_mark version.1) >>= behind_head)
-mark_part (Ok x) first = ap (λ v. behind_mark v x.1) (first x refl) ∙ count_part (number_at w16 (within 1 32) x.1)
+mark_part : (r : Result (ℕ × Left) Bad) → ((x : ℕ × Left) → r ≡ Ok x → x.0 ≡ 1) → (r >>= λ version. after_mark version.0 version.1) ≡ ((r >>= λ version. head_after_mark version.1) >>= after_head)
+mark_part (Ok x) first = ap (λ v. after_mark v x.1) (first x refl) ∙ count_part (number_at w16 (within 1 32) x.1)
 mark_part (Err e) first = refl
 
 -- A header is its head, and then its base tracks.
-pub header_parts : (left : Left) → header_at 1 left ≡ (header_front_at left >>= behind_head)
+pub header_parts : (left : Left) → header_at 1 left ≡ (header_front_at left >>= after_head)
 unfolding header_at header_front_at
 header_parts left = mark_part (version_at 1 left) (mark_is_first left)
 
 -- At the start nothing was given, and all remains.
-pub at_start : (before : Option (List ℕ)) (held : Left) → held ≡ record { place = 0; bytes = [] } → Reached before before (λ left. header_front_at left >>= behind_head) held
-at_start before held is bytes told = subst (λ (l : Left). ReachesHeader before (λ left. header_front_at left >>= behind_head) l bytes) (sym is) (record {
+pub at_start : (before : Option (List ℕ)) (held : Left) → held ≡ record { place = 0; bytes = [] } → Reached before before (λ left. header_front_at left >>= after_head) held
+at_start before held is bytes told = subst (λ (l : Left). ReachesHeader before (λ left. header_front_at left >>= after_head) l bytes) (sym is) (record {
   left = bytes;
   told = told;
   given = [];

@@ -13,7 +13,7 @@ use Rattle.write_trace.specs.Headers.{Base, cylinders_of, is_track_of, are_volum
 use Rattle.write_trace.proofs.BaseCounts.{count_bases, few_tracks}
 use Rattle.write_trace.proofs.FieldSteps.{both_true}
 
--- a volume's rules, and those of the volumes behind it
+-- a volume's rules, and those of the volumes after it
 pub record FirstIsNarrow (seen : List (List ℕ)) (v : VolumeHead) (volumes : List VolumeHead) : Type 0 where
   pub few : v.cylinders ≤ 65520
   pub others : are_volumes 1 (v.serial ∷ seen) volumes ≡ true
@@ -37,7 +37,7 @@ cylinders_below seen [] k is = omega arith
 cylinders_below seen (v ∷ volumes) zero is = (first_is_narrow seen v volumes is).few
 cylinders_below seen (v ∷ volumes) (suc k) is = cylinders_below (v.serial ∷ seen) volumes k (first_is_narrow seen v volumes is).others
 
--- a base track's rules, and those of the base tracks behind it
+-- a base track's rules, and those of the base tracks after it
 record FirstBase (volumes : List VolumeHead) (low : ℕ × ℕ) (b : Base) (base : List Base) : Type 0 where
   pub track : b.1 < 15 * cylinders_of volumes b.0
   pub others : are_bases volumes (b.0, b.1 + 1) base ≡ true

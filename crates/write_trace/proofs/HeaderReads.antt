@@ -138,9 +138,9 @@ pub record HeaderTaken (left : Left) (h : Header) (next : Left) : Type 0 where
   pub takes : Takes left (header_spelling h) next
   pub kept : is_header_of 1 h ≡ true
 
--- what is read behind the mark
-abbrev behind_version : (version : ℕ) → Left → Result (Header × Left) Bad
-behind_version version left = do
+-- what is read after the mark
+abbrev after_version : (version : ℕ) → Left → Result (Header × Left) Bad
+after_version version left = do
   count ← number_at w16 (within 1 32) left
   volumes ← volumes_at version count.0 [] count.1
   many ← number_at w32 (λ n. nat_le n (sum_by tracks_of volumes.0)) volumes.1
@@ -150,14 +150,14 @@ behind_version version left = do
 pub header_takes : (left : Left) (h : Header) (next : Left) → IsBytes left.bytes → header_at 1 left ≡ Ok (h, next) → HeaderTaken left h next
 unfolding header_at
 header_takes left h next fits e =
-    let one = bind_ok (version_at 1 left) (λ m. behind_version m.0 m.1) (h, next) e in
+    let one = bind_ok (version_at 1 left) (λ m. after_version m.0 m.1) (h, next) e in
     let start = version_takes left one.0.0 one.0.1 fits one.1 in
-    behind_mark one.0.0 one.0.1 start.1 start.0 one.2
+    after_mark one.0.0 one.0.1 start.1 start.0 one.2
   where
-    behind_mark : (version : ℕ) (after : Left) → version ≡ 1 → Takes left (trace_mark 1) after
-        → behind_version version after ≡ Ok (h, next)
+    after_mark : (version : ℕ) (after : Left) → version ≡ 1 → Takes left (trace_mark 1) after
+        → after_version version after ≡ Ok (h, next)
         → HeaderTaken left h next
-    behind_mark version after first start e =
+    after_mark version after first start e =
         let two = bind_ok (number_at w16 (within 1 32) after) (λ c. volumes_at version c.0 [] c.1 >>= (λ v. number_at w32 (λ n. nat_le n (sum_by tracks_of v.0)) v.1 >>= (λ k. bases_at version v.0 k.0 (0, 0) k.1 >>= (λ b. Ok (record { version = version; volumes = v.0; base = b.0 }, b.1))))) (h, next) e in
         let count = number_takes w16 (2 ^ 16) wide16 (within 1 32) after two.0.0 two.0.1 start.rest_bytes two.1 in
         let three = bind_ok (volumes_at version two.0.0 [] two.0.1) (λ v. number_at w32 (λ n. nat_le n (sum_by tracks_of v.0)) v.1 >>= (λ k. bases_at version v.0 k.0 (0, 0) k.1 >>= (λ b. Ok (record { version = version; volumes = v.0; base = b.0 }, b.1)))) (h, next) two.2 in

@@ -48,7 +48,7 @@ pub record IsFront (n : ℕ) (left : Left) (field : List ℕ) (next : Left) : Ty
   pub there : nat_lt (length left.bytes) n ≡ false
   pub sized : length field ≡ n
   pub front : field ≡ take n left.bytes
-  pub behind : next ≡ after n left
+  pub next_is : next ≡ after n left
 
 pub front_is : (n : ℕ) (left : Left) (field : List ℕ) (next : Left) → bytes_at n any left ≡ Ok (field, next) → IsFront n left field next
 unfolding bytes_at
@@ -59,7 +59,7 @@ front_is n left field next e =
       there = one.0;
       sized = omega (arith, ap length same, length-take n left.bytes, ltb-false _ _ one.0);
       front = sym same;
-      behind = sym (second_is _ _ one.1);
+      next_is = sym (second_is _ _ one.1);
     }
   where
     first_is : (a b : List ℕ × Left) → (let p : Result (List ℕ × Left) Bad = Ok a in let q : Result (List ℕ × Left) Bad = Ok b in p ≡ q) → a.0 ≡ b.0
@@ -193,17 +193,17 @@ same_most r left a b e h = subst (λ k. GivesField (λ x. (x.0, x.1)) r (number_
 abbrev many_at : List VolumeHead → Left → Result (ℕ × Left) Bad
 many_at volumes left = number_at w32 (λ n. nat_le n (sum_by tracks_of volumes)) left
 
-head_then : (left marked counted behind : Left) (count : ℕ) (volumes : List VolumeHead) → version_at 1 left ≡ Ok (1, marked) → number_at w16 (within 1 32) marked ≡ Ok (count, counted) → volumes_at 1 count [] counted ≡ Ok (volumes, behind)
-    → header_front_at left ≡ (many_at volumes behind >>= λ many. Ok ((volumes, many.0), many.1))
+head_then : (left marked counted next_is : Left) (count : ℕ) (volumes : List VolumeHead) → version_at 1 left ≡ Ok (1, marked) → number_at w16 (within 1 32) marked ≡ Ok (count, counted) → volumes_at 1 count [] counted ≡ Ok (volumes, next_is)
+    → header_front_at left ≡ (many_at volumes next_is >>= λ many. Ok ((volumes, many.0), many.1))
 unfolding header_front_at
-head_then left marked counted behind count volumes a b c = rw (a, b, c) refl
+head_then left marked counted next_is count volumes a b c = rw (a, b, c) refl
 
-pub head_read : (left marked counted behind next : Left) (count many : ℕ) (volumes : List VolumeHead) → version_at 1 left ≡ Ok (1, marked) → number_at w16 (within 1 32) marked ≡ Ok (count, counted) → volumes_at 1 count [] counted ≡ Ok (volumes, behind)
-    → number_at w32 (λ n. nat_le n (sum_by tracks_of volumes)) behind ≡ Ok (many, next) → header_front_at left ≡ Ok ((volumes, many), next)
-head_read left marked counted behind next count many volumes a b c d = head_then left marked counted behind count volumes a b c ∙ ap (λ (r : Result (ℕ × Left) Bad). r >>= λ many. Ok ((volumes, many.0), many.1)) d
+pub head_read : (left marked counted next_is next : Left) (count many : ℕ) (volumes : List VolumeHead) → version_at 1 left ≡ Ok (1, marked) → number_at w16 (within 1 32) marked ≡ Ok (count, counted) → volumes_at 1 count [] counted ≡ Ok (volumes, next_is)
+    → number_at w32 (λ n. nat_le n (sum_by tracks_of volumes)) next_is ≡ Ok (many, next) → header_front_at left ≡ Ok ((volumes, many), next)
+head_read left marked counted next_is next count many volumes a b c d = head_then left marked counted next_is count volumes a b c ∙ ap (λ (r : Result (ℕ × Left) Bad). r >>= λ many. Ok ((volumes, many.0), many.1)) d
 
-pub head_fails : (stop : NoRead) (left marked counted behind : Left) (count : ℕ) (volumes : List VolumeHead) → version_at 1 left ≡ Ok (1, marked) → number_at w16 (within 1 32) marked ≡ Ok (count, counted) → volumes_at 1 count [] counted ≡ Ok (volumes, behind)
-    → Fails stop (number_at w32 (λ n. nat_le n (sum_by tracks_of volumes)) behind) → Fails stop (header_front_at left)
-head_fails stops.Memory left marked counted behind count volumes a b c d = tt
-head_fails (stops.Cut place) left marked counted behind count volumes a b c d = head_then left marked counted behind count volumes a b c ∙ ap (λ (r : Result (ℕ × Left) Bad). r >>= λ many. Ok ((volumes, many.0), many.1)) d
-head_fails (stops.Broken place) left marked counted behind count volumes a b c d = head_then left marked counted behind count volumes a b c ∙ ap (λ (r : Result (ℕ × Left) Bad). r >>= λ many. Ok ((volumes, many.0), many.1)) d
+pub head_fails : (stop : NoRead) (left marked counted next_is : Left) (count : ℕ) (volumes : List VolumeHead) → version_at 1 left ≡ Ok (1, marked) → number_at w16 (within 1 32) marked ≡ Ok (count, counted) → volumes_at 1 count [] counted ≡ Ok (volumes, next_is)
+    → Fails stop (number_at w32 (λ n. nat_le n (sum_by tracks_of volumes)) next_is) → Fails stop (header_front_at left)
+head_fails stops.Memory left marked counted next_is count volumes a b c d = tt
+head_fails (stops.Cut place) left marked counted next_is count volumes a b c d = head_then left marked counted next_is count volumes a b c ∙ ap (λ (r : Result (ℕ × Left) Bad). r >>= λ many. Ok ((volumes, many.0), many.1)) d
+head_fails (stops.Broken place) left marked counted next_is count volumes a b c d = head_then left marked counted next_is count volumes a b c ∙ ap (λ (r : Result (ℕ × Left) Bad). r >>= λ many. Ok ((volumes, many.0), many.1)) d

@@ -19,7 +19,7 @@ use Rattle.write_trace.proofs.HeaderReads.{header_takes}
 use Rattle.write_trace.proofs.HeaderAgain.{headers_back}
 use Rattle.write_trace.proofs.EntryRows.{row_takes, row_again, row_length}
 
--- the first bytes of some text, and those that stand within a limit behind it
+-- the first bytes of some text, and those that stand within a limit after it
 front_within : (n : ℕ) (text rest : List ℕ) → length text ≤ n → take n (text ++ rest) ≡ text ++ take (n - length text) rest
 front_within n text rest le =
     let whole : n ≡ length text + (n - length text) = omega arith in
@@ -35,13 +35,13 @@ header_volumes h is =
 
 -- ---- what a trace is, by its header
 
--- the header and entries that were read from what is left behind the header
-abbrev trace_behind : (failed : Bool) → List ℕ → Header × Left → Trace
-trace_behind failed given h = after_header failed given h.0 (entries_from (length h.1.bytes) h.0.version h.0.volumes 0 h.1)
+-- the header and entries that were read from what is left after the header
+abbrev trace_after : (failed : Bool) → List ℕ → Header × Left → Trace
+trace_after failed given h = after_header failed given h.0 (entries_from (length h.1.bytes) h.0.version h.0.volumes 0 h.1)
 
 abbrev trace_with : (failed : Bool) → List ℕ → Result (Header × Left) Bad → Result Trace HeaderError
 trace_with failed given r = elim r [
-  | Ok h ↦ Ok (trace_behind failed given h)
+  | Ok h ↦ Ok (trace_after failed given h)
   | Err bad ↦ Err (bad_start failed given bad)
 ]
 
@@ -54,9 +54,9 @@ same_trace a b e = cc
 
 -- ---- the entries that are read follow
 
-begins_behind : (failed : Bool) (given : List ℕ) (h : Header) (left : Left) → IsBytes given → header_at 1 (whole_trace given) ≡ Ok (h, left)
-    → BeginsWithEntries given h (trace_behind failed given (h, left)).entries
-begins_behind failed given h left fits e =
+begins_after : (failed : Bool) (given : List ℕ) (h : Header) (left : Left) → IsBytes given → header_at 1 (whole_trace given) ≡ Ok (h, left)
+    → BeginsWithEntries given h (trace_after failed given (h, left)).entries
+begins_after failed given h left fits e =
     let header = header_takes (whole_trace given) h left (IsBytes-take most_bytes given fits) e in
     let first = (header_volumes h header.kept).0 in
     let read = entries_from (length left.bytes) h.version h.volumes 0 left in
@@ -76,7 +76,7 @@ begins_behind failed given h left fits e =
 
 begins_with : (failed : Bool) (given : List ℕ) (t : Trace) (r : Result (Header × Left) Bad) → IsBytes given → header_at 1 (whole_trace given) ≡ r → trace_with failed given r ≡ Ok t → BeginsWithEntries given t.header t.entries
 begins_with failed given t (Ok h) fits read e =
-    subst (λ (t : Trace). BeginsWithEntries given t.header t.entries) (same_trace (trace_behind failed given h) t e) (begins_behind failed given h.0 h.1 fits read)
+    subst (λ (t : Trace). BeginsWithEntries given t.header t.entries) (same_trace (trace_after failed given h) t e) (begins_after failed given h.0 h.1 fits read)
 begins_with failed given t (Err bad) fits read e = absurd cc
 
 -- ---- no others do
@@ -103,7 +103,7 @@ found failed given h some begins =
     let turns = length (text ++ rest) in
     let row = row_again turns 1 start 0 h.volumes some rest volumes.1 volumes.2 begins.kept (omega (arith, row_length 1 some, length-append text rest)) in
     record {
-      trace = trace_behind failed given (h, at_place start (text ++ rest));
+      trace = trace_after failed given (h, at_place start (text ++ rest));
       read = trace_is failed given ∙ ap (trace_with failed given) read;
       same = refl;
       more = row.0;

@@ -1,4 +1,4 @@
--- How a header is reached: pieces that come leave all to be read that was, a part that is read leaves what remains behind it,
+-- How a header is reached: pieces that come leave all to be read that was, a part that is read leaves what remains after it,
 -- and what ends within a field ends within the header.
 use Rattle.std.proofs.Common.{◌≡◌, ℕ, ◌+◌, ◌-◌, ◌≤◌, List, [], ◌∷◌, ◌++◌, length, take, drop, Option, Some, None, Result, Ok, Err, refl, sym, ap, subst, ◌∙◌, append_assoc, arith, length-append, length-take, length-drop}
 use Rattle.std.proofs.lemmas.List.{append-nil, append_cancel_left}
@@ -18,18 +18,18 @@ use Rattle.write_trace.proofs.Ahead.{ahead_is, read_ahead, broken_ahead, full_ah
 
 -- ---- two ways to part a row
 
-record Parts (short long behind rest : List ℕ) : Type 0 where
+record Parts (short long tail rest : List ℕ) : Type 0 where
   pub piece : List ℕ
   pub longer : long ≡ short ++ piece
-  pub split : behind ≡ piece ++ rest
+  pub split : tail ≡ piece ++ rest
 
-parts_of : (short long behind rest : List ℕ) → short ++ behind ≡ long ++ rest → length short ≤ length long → Parts short long behind rest
-parts_of [] long behind rest e le = record { piece = long; longer = refl; split = e }
-parts_of (x ∷ short) [] behind rest e le = absurd (omega (arith, le))
-parts_of (x ∷ short) (y ∷ long) behind rest e le =
-    let tails : short ++ behind ≡ long ++ rest = cc in
+parts_of : (short long tail rest : List ℕ) → short ++ tail ≡ long ++ rest → length short ≤ length long → Parts short long tail rest
+parts_of [] long tail rest e le = record { piece = long; longer = refl; split = e }
+parts_of (x ∷ short) [] tail rest e le = absurd (omega (arith, le))
+parts_of (x ∷ short) (y ∷ long) tail rest e le =
+    let tails : short ++ tail ≡ long ++ rest = cc in
     let heads : x ≡ y = cc in
-    let p = parts_of short long behind rest tails (omega (arith, le)) in
+    let p = parts_of short long tail rest tails (omega (arith, le)) in
     record { piece = p.piece; longer = cc (p.longer, heads); split = p.split }
 
 -- ---- pieces

@@ -38,7 +38,7 @@ short_volumes (suc count) seen =
 abbrev many_at : List VolumeHead → Left → Result (ℕ × Left) Bad
 many_at volumes left = number_at w32 (λ n. nat_le n (sum_by tracks_of volumes)) left
 
--- what is read of a head behind the count
+-- what is read of a head after the count
 abbrev counted : (count : ℕ) → Left → Result ((List VolumeHead × ℕ) × Left) Bad
 counted count left = volumes_at 1 count [] left >>= λ volumes. many_at volumes.0 volumes.1 >>= λ many. Ok ((volumes.0, many.0), many.1)
 

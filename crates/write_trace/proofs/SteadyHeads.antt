@@ -1,4 +1,4 @@
--- The head of a header: the same on longer lists, and what is left stands behind.
+-- The head of a header: the same on longer lists, and what is left stands at the end.
 use Rattle.std.proofs.Common.{ℕ, zero, suc, ◌-◌, nat_le, List, [], ◌∷◌, sum_by, Result, Ok}
 use Rattle.std.specs.Prelude.{slice_index}
 use Rattle.std.specs.Int.{w16, w32}

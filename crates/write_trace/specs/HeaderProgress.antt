@@ -51,7 +51,7 @@ Gathers before now faults risen place old new (Err NoMemory) = ⊥
 
 -- ---- one part of a header
 
--- What came of reading one part, by the reader of that part: where it was read, what remains behind it remains.
+-- What came of reading one part, by the reader of that part: where it was read, what remains after it remains.
 abbrev pub ReadsPart : {A : Type 0} → (part : Left → Result (A × Left) Bad) → (before now : Option (List ℕ)) → (faults risen : ℕ) → (old new : Left) → Result A HeaderError → Type 0
 ReadsPart part before now faults risen old new (Ok x) =
     ((start : Option (List ℕ)) (remains : _ × Left → Result (Header × Left) Bad) → Reached start before (λ left. part left >>= remains) old → Reached start now (λ left. remains (x, left)) new) × (risen ≡ faults)

@@ -64,7 +64,7 @@ header_spelling h = trace_mark h.version
     ++ to_be_bytes w16 (length h.volumes) ++ flat_map (volume_spelling h.version) h.volumes
     ++ to_be_bytes w32 (length h.base) ++ flat_map (base_spelling h.version) h.base
 
--- Where the serial of the volume of that number stands in a header: behind the mark, the number of volumes, and the volumes before.
+-- Where the serial of the volume of that number stands in a header: after the mark, the number of volumes, and the volumes before.
 abbrev pub serial_place : (volume : ℕ) → ℕ
 serial_place volume = 6 + volume * 8
 

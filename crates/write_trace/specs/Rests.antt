@@ -1,4 +1,4 @@
--- The entries that are left in a trace, and how the trace ends behind them.
+-- The entries that are left in a trace, and how the trace ends after them.
 use Rattle.std.specs.Prelude.{◌≡◌, ℕ, ◌+◌, List, ◌++◌, length, Bool, true, false, Option, Some}
 use Rattle.xrc_edge.specs.Causes.{Rose}
 use Rattle.tod_stamp.specs.Fields.{Left}
@@ -9,11 +9,11 @@ use Rattle.write_trace.specs.WholeTraces.{entries_from, end_of, last_entry_stamp
 use Rattle.write_trace.specs.UnreadBytes.{unread, seen}
 use Rattle.write_trace.specs.Answers.{ReaderState}
 
--- the good entries of bytes that stand where a reader is, and what is left behind them
+-- the good entries of bytes that stand where a reader is, and what is left after them
 abbrev pub rest_of : ReaderState → List ℕ → List Entry × Left
 rest_of r bytes = let left = seen r.left.place bytes in entries_from (length left.bytes) 1 r.volumes r.last left
 
--- The good entries of these bytes, which stand where a reader is, and the end behind them of a trace of which they are the last
+-- The good entries of these bytes, which stand where a reader is, and the end after them of a trace of which they are the last
 -- bytes that were given.
 pub record IsRest (failed : Bool) (r : ReaderState) (bytes : List ℕ) (entries : List Entry) (end : TraceEnd) : Type 0 where
   pub good : (rest_of r bytes).0 ≡ entries

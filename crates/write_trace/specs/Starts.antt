@@ -11,7 +11,7 @@ use Rattle.write_trace.specs.WholeTraces.{whole_trace, most_bytes}
 use Rattle.write_trace.specs.UnreadBytes.{unread, seen}
 use Rattle.write_trace.specs.Answers.{ReaderState}
 
--- The bytes begin with this header, and the reader stands behind it, with all bytes that follow ahead of it. Also where the source
+-- The bytes begin with this header, and the reader stands after it, with all bytes that follow ahead of it. Also where the source
 -- tells no bytes, the header keeps the rules.
 pub record ReadsHeader (before now : Option (List ℕ)) (header : Header) (reader : ReaderState) : Type 0 where
   pub volumes : reader.volumes ≡ header.volumes

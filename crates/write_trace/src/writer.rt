@@ -68,7 +68,7 @@ fn append_entry(alloc: Global, out: &mut Bytes, write: &Write) -> Result<(), NoM
     write.kind.encode_fields(alloc, out)
 }
 
-/// Puts volumes behind other bytes. Want of memory may leave a part of them there.
+/// Puts volumes after other bytes. Want of memory may leave a part of them there.
 fn append_volumes(alloc: Global, out: &mut Bytes, volumes: &[VolumeHead]) -> Result<(), NoMemory>
     requires narrow { All (λ v. v.cylinders ≤ most_cylinders 1) volumes.now }
     ensures ok { OnOk result (out.new ≡ out.old ++ flat_map (volume_spelling 1) volumes.now) }
@@ -90,7 +90,7 @@ fn append_base(alloc: Global, out: &mut Bytes, base: &BaseTrack) -> Result<(), N
     recs.encode_image(alloc, out)
 }
 
-/// Puts base tracks behind other bytes. Want of memory may leave a part of them there.
+/// Puts base tracks after other bytes. Want of memory may leave a part of them there.
 fn append_bases(alloc: Global, out: &mut Bytes, base: &[BaseTrack]) -> Result<(), NoMemory>
     requires near { All (λ b. b.1 < TRACKS_OF_CYLINDER * most_cylinders 1) base.now }
     ensures ok { OnOk result (out.new ≡ out.old ++ flat_map (base_spelling 1) base.now) }
@@ -123,7 +123,7 @@ fn append_header(alloc: Global, out: &mut Bytes, header: &Header) -> Result<(), 
     append_bases(alloc, out, header.base.as_slice())
 }
 
-/// Writes the parts of a trace of version 1, each behind the bytes that are there. Where memory is short the bytes stay as they
+/// Writes the parts of a trace of version 1, each after the bytes that are there. Where memory is short the bytes stay as they
 /// were.
 pub struct TraceWriter;
 

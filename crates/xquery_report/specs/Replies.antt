@@ -44,7 +44,7 @@ refusal_name NotPaired = codes "NOTPAIRED"
 refusal_name Ended = codes "ENDED"
 refusal_name (ControlBroken control) = codes "CONTROLBROKEN"
 
--- the tracks of the primary that is too large, or the number of the control that broke
+-- the tracks of the primary that is too large, or the number of the controller that broke
 abbrev pub value_part : Refusal → List ℕ
 value_part (TooSmall tracks) = 32 ∷ decimal tracks
 value_part (ControlBroken control) = 32 ∷ decimal control
@@ -77,9 +77,9 @@ answer_part command (Ok change) tracks = codes " OK" ++ tracks_part command trac
 answer_part command (Err refusal) tracks = refusal_part refusal
 
 -- the session's time, where it was started
-abbrev pub told_part : Option Stamp → List ℕ
-told_part None = []
-told_part (Some time) = codes " T=" ++ stamp_text time.0
+abbrev pub said_part : Option Stamp → List ℕ
+said_part None = []
+said_part (Some time) = codes " T=" ++ stamp_text time.0
 
 abbrev pub reply_line : (time : ℕ) → Command → Result Change Refusal → (tracks : ℕ) → Option Stamp → List ℕ
-reply_line time command answer tracks told = stamp_text time ++ command_part command ++ answer_part command answer tracks ++ told_part told ++ 10 ∷ []
+reply_line time command answer tracks said = stamp_text time ++ command_part command ++ answer_part command answer tracks ++ said_part said ++ 10 ∷ []

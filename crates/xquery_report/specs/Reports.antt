@@ -1,4 +1,4 @@
--- The report of a session: its own line, one line of each control in order of number, and one line of each pair in the order of the
+-- The report of a session: its own line, one line of each controller in order of number, and one line of each pair in the order of the
 -- rows. Each line ends with a line feed. A part of a line has its space before it.
 use Rattle.std.specs.Prelude.{ℕ, ◌+◌, List, [], ◌∷◌, ◌++◌, length, Option, Some, None, codes, decimal}
 use Rattle.std.specs.List.{flat_map}
@@ -21,9 +21,9 @@ level_part BySession = codes " LEVEL SESSION"
 abbrev pub session_line : Table → Level → (time : ℕ) → List ℕ
 session_line table level time = codes "SESSION " ++ table.session ++ level_part level ++ codes " JOURNALED " ++ stamp_text time ++ codes " PAIRS" ++ 32 ∷ decimal (length table.rows) ++ 10 ∷ []
 
--- ---- controls
+-- ---- controllers
 
--- why the trace of a control was given up
+-- why the trace of a controller was given up
 abbrev pub break_part : Cause → List ℕ
 break_part ReadFault = codes " READFAULT"
 break_part (BadTrace place) = codes " BADTRACE" ++ 32 ∷ decimal place
@@ -36,7 +36,7 @@ control_part (Some cause) = codes " BROKEN" ++ break_part cause
 abbrev pub control_line : (number : ℕ) → Option Cause → List ℕ
 control_line number broken = codes "CONTROL" ++ 32 ∷ decimal number ++ control_part broken ++ 10 ∷ []
 
--- the lines of controls from a number on
+-- the lines of controllers from a number on
 abbrev pub control_lines : (number : ℕ) → List (Option Cause) → List ℕ
 control_lines number [] = []
 control_lines number (broken ∷ controls) = control_line number broken ++ control_lines (number + 1) controls

@@ -5,7 +5,7 @@ ghost use Rattle.std.specs.Prelude.{◌≡◌, ◌≤◌, ◌+◌, ◌++◌, ◌
 use itoa::Buffer;
 use xrc_edge::Text;
 
-/// Puts a space and a number in decimal digits behind what stands in a line.
+/// Puts a space and a number in decimal digits after what stands in a line.
 pub(crate) fn add_number(line: &mut Text, number: u64)
     requires { length line.old ≤ 200 }
     ensures text { line.new ≡ line.old ++ 32 ∷ decimal number }

@@ -44,7 +44,7 @@ fn name_of(refusal: Refusal) -> &'static [u8]
     }
 }
 
-/// Puts the value that a refusal tells: the tracks of a primary, or the number of a control.
+/// Puts the value that a refusal says: the tracks of a primary, or the number of a controller.
 fn add_value(line: &mut Text, refusal: Refusal)
     requires { length line.old ≤ 200 }
     ensures text { line.new ≡ line.old ++ value_part refusal }

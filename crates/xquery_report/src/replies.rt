@@ -1,7 +1,7 @@
 //! The replies to commands.
 
 ghost use Rattle.std.specs.Prelude.{◌≡◌, ◌≤◌, ◌+◌, ◌++◌, length, OnOk, OnErr};
-ghost use Rattle.xquery_report.specs.Replies.{answer_part, command_part, reply_line, told_part, tracks_part};
+ghost use Rattle.xquery_report.specs.Replies.{answer_part, command_part, reply_line, said_part, tracks_part};
 
 use crate::lines::add_number;
 use crate::refusals::add_refusal;
@@ -52,12 +52,12 @@ fn add_answer(line: &mut Text, command: &Command, answer: &Result<Change, Refusa
 }
 
 /// Puts the session's time.
-fn add_told(line: &mut Text, told: Option<Stamp>)
+fn add_said(line: &mut Text, said: Option<Stamp>)
     requires { length line.old ≤ 200 }
-    ensures text { line.new ≡ line.old ++ told_part told }
+    ensures text { line.new ≡ line.old ++ said_part said }
     ensures short { length line.new ≤ length line.old + 19 }
 {
-    if let Some(time) = told {
+    if let Some(time) = said {
         line.add(b" T=");
         line.add(&time.text());
     }
@@ -68,35 +68,35 @@ fn reply_line(
     command: &Command,
     answer: &Result<Change, Refusal>,
     tracks: u32,
-    told: Option<Stamp>,
+    said: Option<Stamp>,
 ) -> Text
-    ensures { result ≡ reply_line time.0 command.now answer.now tracks told }
+    ensures { result ≡ reply_line time.0 command.now answer.now tracks said }
 {
     let mut line = Text::make();
     line.add(&time.text());
     line.add(command_part(command));
     add_answer(&mut line, command, answer, tracks);
-    add_told(&mut line, told);
+    add_said(&mut line, said);
     line.add(b"\n");
     line
 }
 
-/// Puts the reply to a command behind the bytes of `out`. `time` is the time of the command's line. `tracks` counts the tracks that
-/// an added pair has to copy, and stands in no other reply. `told` is the session's time: None before the session is started.
+/// Puts the reply to a command after the bytes of `out`. `time` is the time of the command's line. `tracks` counts the tracks that
+/// an added pair has to copy, and stands in no other reply. `said` is the session's time: None before the session is started.
 pub fn reply(
     alloc: Global,
     time: Stamp,
     command: &Command,
     answer: &Result<Change, Refusal>,
     tracks: u32,
-    told: Option<Stamp>,
+    said: Option<Stamp>,
     out: &mut Bytes,
 ) -> Result<(), NoMemory>
-    ensures ok { OnOk result (out.new ≡ out.old ++ reply_line time.0 command.now answer.now tracks told) }
+    ensures ok { OnOk result (out.new ≡ out.old ++ reply_line time.0 command.now answer.now tracks said) }
     ensures err { OnErr result (out.new ≡ out.old) }
 {
     out.extend_from_slice(
         alloc,
-        reply_line(time, command, answer, tracks, told).as_bytes(),
+        reply_line(time, command, answer, tracks, said).as_bytes(),
     )
 }

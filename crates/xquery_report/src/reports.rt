@@ -11,8 +11,8 @@ use std::alloc::Global;
 use tod_stamp::Stamp;
 use xrc_edge::{Bytes, List, NoMemory, Text};
 
-/// For each control in order of number, why its trace was given up; None where it wasn't. A list with no item gives no line of a
-/// control.
+/// For each controller in order of number, why its trace was given up; None where it wasn't. A list with no item gives no line of a
+/// controller.
 pub type ControlList = List<Option<Cause>>;
 
 fn level_part(level: Level) -> &'static [u8]
@@ -41,7 +41,7 @@ fn session_line(table: &PairTable, level: Level, time: Stamp) -> Text
     line
 }
 
-/// Puts why a control's trace was given up.
+/// Puts why a controller's trace was given up.
 fn add_break(line: &mut Text, cause: Cause)
     requires { length line.old ≤ 100 }
     ensures text { line.new ≡ line.old ++ break_part cause }
@@ -60,7 +60,7 @@ fn add_break(line: &mut Text, cause: Cause)
     }
 }
 
-/// Puts how a control is.
+/// Puts how a controller is.
 fn add_control(line: &mut Text, broken: Option<Cause>)
     requires { length line.old ≤ 80 }
     ensures text { line.new ≡ line.old ++ control_part broken }
@@ -75,7 +75,7 @@ fn add_control(line: &mut Text, broken: Option<Cause>)
     }
 }
 
-/// The line of a control.
+/// The line of a controller.
 fn control_line(number: usize, broken: Option<Cause>) -> Text
     ensures { result ≡ control_line number broken }
 {
@@ -120,7 +120,7 @@ fn row_line(row: &PairRow) -> Text
     line
 }
 
-/// Puts the lines of controls behind other bytes. Want of memory may leave some of them there.
+/// Puts the lines of controllers after other bytes. Want of memory may leave some of them there.
 fn append_controls(
     alloc: Global,
     out: &mut Bytes,
@@ -135,7 +135,7 @@ fn append_controls(
     Ok(())
 }
 
-/// Puts the lines of pairs behind other bytes. Want of memory may leave some of them there.
+/// Puts the lines of pairs after other bytes. Want of memory may leave some of them there.
 fn append_rows(alloc: Global, out: &mut Bytes, table: &PairTable) -> Result<(), NoMemory>
     ensures ok { OnOk result (out.new ≡ out.old ++ flat_map row_line table.now.rows) }
     ensures kept { take (length out.old) out.new ≡ out.old }
@@ -162,8 +162,8 @@ fn append_report(
     append_rows(alloc, out, table)
 }
 
-/// Puts the report of a session behind the bytes of `out`: its line, with the time up to which its pairs stand in the journal, the
-/// lines of the controls in order of number, and the lines of the pairs in the order of the rows.
+/// Puts the report of a session after the bytes of `out`: its line, with the time up to which its pairs stand in the journal, the
+/// lines of the controllers in order of number, and the lines of the pairs in the order of the rows.
 pub fn report(
     alloc: Global,
     table: &PairTable,

@@ -20,19 +20,19 @@ use Rattle.xrc_status.specs.declared.stop.Stop.{Stop}
 use Rattle.xrc_status.specs.declared.stop.Stop.TheVariants.{BadLine, ConsoleFault, NoMemory, Spent}
 use Rattle.xrc_status.specs.Saying.{SaidWhole, SaysLast}
 use Rattle.xrc_status.specs.Stops.{last_line, status_of}
-use Rattle.xrc_session.specs.LinePauses.{stage_behind}
+use Rattle.xrc_session.specs.LinePauses.{stage_after_text}
 use Rattle.xrc_session.specs.Frames.{ChangesRows, KeepsPlant, rows_passed}
 use Rattle.xrc_session.specs.Lanes.{AllTold, SourceBytes}
 use Rattle.xrc_session.specs.Openings.{ComesEarly, IsOfSite, OpensInOrder, opening_stop, stop_of_headers, stop_of_site}
-use Rattle.xrc_session.specs.Runs.{AreCountsBelow, IsBadBehind, IsRunOfScript, RunsScript, RunsTold, StopsAtLine}
+use Rattle.xrc_session.specs.Runs.{AreCountsBelow, IsBadAfter, IsRunOfScript, RunsScript, RunsTold, StopsAtLine}
 use Rattle.xrc_session.specs.AppliedEnds.{StaysApplied}
 use Rattle.xrc_session.proofs.AppliedEnds.{stays_more, stays_on}
 use Rattle.xrc_session.proofs.Courses.{none_next}
 use Rattle.xrc_session.specs.Starting.{AreOwnSpent, BeginsRun}
-use Rattle.xrc_session.specs.Stops.{HasRunCause, IsStopBehindEnd, RepliesInPart, StandsStopped, StopsByCount, line_asked, lines_said}
+use Rattle.xrc_session.specs.Stops.{HasRunCause, IsStopAfterEnd, RepliesInPart, StandsStopped, StopsByCount, line_asked, lines_said}
 use Rattle.xrc_session.specs.Trails.{AreExact, GoesForth, Trail, HasBegunTrail, StandsOnTrail}
 use Rattle.xrc_session.proofs.Made.{site_stop_is}
-use Rattle.xrc_cli.specs.Statuses.{EndsScriptRun, IsHeardBehind, OpensFirst, Ran, SaidBehind, SaysLineOnly, StopsWith}
+use Rattle.xrc_cli.specs.Statuses.{EndsScriptRun, IsHeardAfter, OpensFirst, Ran, SaidAfter, SaysLineOnly, StopsWith}
 use Rattle.xrc_cli.specs.Statuses.SaidInPart.{AllReplies, LastInPart}
 use Rattle.xrc_cli.proofs.Lasting.{begins_still, cause_still, forth_still, keeps_still, rows_still, script_still, own_spent_still, along_still, bears_still}
 use Rattle.xrc_cli.proofs.StatusLines.{stop_says_none}
@@ -76,7 +76,7 @@ none_bad tells number before left (inl (inl fed, asks)) = too_long fed.line fed.
 none_bad tells number before left (inl (inr last, asks)) = omega (arith, last.some)
 none_bad tells number before left (inr long) = omega (arith, long.size)
 
--- ---- a run that stopped behind its lines
+-- ---- a run that stopped after its lines
 
 module _ (tells : Type 0) (told : tells) (session : List ℕ) (sources : List SourceBytes) (stop : Stop) (old mid : PlantState) (run : ScriptRun) (lines : List Answered) (trail : Trail) (next : Option Point) where
   -- The console failed within the reply to a line.
@@ -85,7 +85,7 @@ module _ (tells : Type 0) (told : tells) (session : List ℕ) (sources : List So
     heard_whole : mid.heard mid.clock ≡ old.heard old.clock ++ (texts_of (lines ++ a ∷ []) ++ [])
     heard_whole = part.heard ∙ ap (λ (l : List ℕ). old.heard old.clock ++ l) (sym (append-nil (texts_of (lines ++ a ∷ []))))
 
-    heard_none : IsHeardBehind run (lines ++ a ∷ []) old mid None
+    heard_none : IsHeardAfter run (lines ++ a ∷ []) old mid None
     heard_none = ([], heard_whole, none_next run old.script (lines ++ a ∷ []))
 
     pub ran_in_part : Ran tells session sources old mid (status_of stop)
@@ -120,15 +120,15 @@ module _ (tells : Type 0) (told : tells) (session : List ℕ) (sources : List So
         of_bad = λ n line. absurd (let clash : ConsoleFault ≡ BadLine n = sym is ∙ line in cc clash);
         spent = λ spent. absurd (omega (arith, spent, ap status_of is));
         bears_now = part.bears_now;
-        behind_end = λ ended. inr (inl is);
+        after_end = λ ended. inr (inl is);
       };
     }
 
   -- It stopped between replies, and its line was said.
   module _ (text : List ℕ) (new : PlantState) (none : trail.started ≡ 0 → trail.points ≡ []) (ends : EndsBy old new stop) (keeps : KeepsPlant tells old mid) (last : SaysLast tells (last_line stop) mid new) (unfailed : stop ≢ ConsoleFault → mid.console_faults ≡ old.console_faults) (over : IsRunOfScript session sources old new run) (cause : HasRunCause old new stop)
-      (goes : RunGoesOn run lines text old mid) (exact : AreExact run lines trail) (begun : HasBegunTrail run lines trail) (along : 0 < trail.started → StandsOnTrail run lines (stage_behind run lines text old).next trail next mid) (forth : 0 < old.clock → 0 < trail.started → GoesForth run lines (stage_behind run lines text old).next trail next old mid) (volumes : ChangesRows (rows_passed trail.points) old mid)
-      (spent : stop ≡ Spent → AreOwnSpent run (stage_behind run lines text old) old mid) (bad : IsBadBehind tells lines text mid.script → (stop ≡ BadLine (length lines + 1)) ⊎ ((stop ≡ ConsoleFault) × (has_feed text ≡ false))) (of_bad : (n : ℕ) → stop ≡ BadLine n → (n ≡ length lines + 1) × IsBadBehind tells lines text mid.script)
-      (silent : stop ≡ ConsoleFault → new.said new.clock ≡ mid.said mid.clock) (as_were : StoresAsWere old new stop) (applied : StaysApplied run lines old mid) (behind_end : IsTrue (stage_behind run lines text old).table.is_ended → IsStopBehindEnd stop) where
+      (goes : RunGoesOn run lines text old mid) (exact : AreExact run lines trail) (begun : HasBegunTrail run lines trail) (along : 0 < trail.started → StandsOnTrail run lines (stage_after_text run lines text old).next trail next mid) (forth : 0 < old.clock → 0 < trail.started → GoesForth run lines (stage_after_text run lines text old).next trail next old mid) (volumes : ChangesRows (rows_passed trail.points) old mid)
+      (spent : stop ≡ Spent → AreOwnSpent run (stage_after_text run lines text old) old mid) (bad : IsBadAfter tells lines text mid.script → (stop ≡ BadLine (length lines + 1)) ⊎ ((stop ≡ ConsoleFault) × (has_feed text ≡ false))) (of_bad : (n : ℕ) → stop ≡ BadLine n → (n ≡ length lines + 1) × IsBadAfter tells lines text mid.script)
+      (silent : stop ≡ ConsoleFault → new.said new.clock ≡ mid.said mid.clock) (as_were : StoresAsWere old new stop) (applied : StaysApplied run lines old mid) (after_end : IsTrue (stage_after_text run lines text old).table.is_ended → IsStopAfterEnd stop) where
     works : WorksOnConsole tells mid new
     works = last.front.only
 
@@ -144,8 +144,8 @@ module _ (tells : Type 0) (told : tells) (session : List ℕ) (sources : List So
     heard_is : new.heard new.clock ≡ old.heard old.clock ++ (texts_of lines ++ text)
     heard_is = says.heard new.clock later (omega arith) ∙ goes.now.heard
 
-    said_behind : stop ≢ ConsoleFault → SaidBehind lines (last_line stop) old new
-    said_behind other =
+    said_after : stop ≢ ConsoleFault → SaidAfter lines (last_line stop) old new
+    said_after other =
         let front = says.front new.clock later (omega arith) in
         record {
           said = (front.0, front.1, front.2 ∙ ap (λ (l : List ℕ). l ++ take front.0 (last_line stop)) goes.now.said ∙ append_assoc (old.said old.clock) (replies_of lines) (take front.0 (last_line stop)));
@@ -161,8 +161,8 @@ module _ (tells : Type 0) (told : tells) (session : List ℕ) (sources : List So
         by_sides (inl whole) (inr rose) = inr (rose_before rose)
         by_sides (inl whole) (inl same) = inl (whole ∙ ap (λ (l : List ℕ). l ++ last_line stop) goes.now.said ∙ append_assoc (old.said old.clock) (replies_of lines) (last_line stop), same ∙ unfailed other)
 
-    heard_behind : IsHeardBehind run lines old new (stage_behind run lines text old).next
-    heard_behind = (text, heard_is, refl)
+    heard_after : IsHeardAfter run lines old new (stage_after_text run lines text old).next
+    heard_after = (text, heard_is, refl)
 
     stops_with : StopsWith tells run lines old new (status_of stop)
     stops_with = record {
@@ -174,13 +174,13 @@ module _ (tells : Type 0) (told : tells) (session : List ℕ) (sources : List So
       heard = heard_is;
       script = goes.now.script ∙ ap (λ (l : List ℕ). texts_of lines ++ text ++ l) (sym says.script);
       one_line = goes.now.one_line;
-      said = λ other. said_behind (λ is. other (ap status_of is));
+      said = λ other. said_after (λ is. other (ap status_of is));
       in_part = λ three. AllReplies (silent (is_console old new stop ends three) ∙ goes.now.said);
-      bad = λ is. bad (subst (λ (l : List ℕ). IsBadBehind tells lines text l) says.script is);
-      of_bad = λ n is. let line = of_bad n is in (line.0, subst (λ (l : List ℕ). IsBadBehind tells lines text l) (sym says.script) line.1);
-      spent = λ is. own_spent_still tells told mid new works run (stage_behind run lines text old) old (spent (is_spent old new stop ends is));
-      bears_now = λ started. bears_still tells told mid new works run (stage_behind run lines text old) (replies_of lines) (goes.now.bears started);
-      behind_end = behind_end;
+      bad = λ is. bad (subst (λ (l : List ℕ). IsBadAfter tells lines text l) says.script is);
+      of_bad = λ n is. let line = of_bad n is in (line.0, subst (λ (l : List ℕ). IsBadAfter tells lines text l) (sym says.script) line.1);
+      spent = λ is. own_spent_still tells told mid new works run (stage_after_text run lines text old) old (spent (is_spent old new stop ends is));
+      bears_now = λ started. bears_still tells told mid new works run (stage_after_text run lines text old) (replies_of lines) (goes.now.bears started);
+      after_end = after_end;
     }
 
     pub ran_to_stop : Ran tells session sources old new (status_of stop)
@@ -198,11 +198,11 @@ module _ (tells : Type 0) (told : tells) (session : List ℕ) (sources : List So
       unstarted = none;
       begun = begun;
       goes_forth = λ up some.
-          let heard = (stage_behind run lines text old).next in
-          (heard, heard_behind, (next, forth_still tells told mid new works (omega (arith, up, since)) run lines heard trail next old (forth up some)));
+          let heard = (stage_after_text run lines text old).next in
+          (heard, heard_after, (next, forth_still tells told mid new works (omega (arith, up, since)) run lines heard trail next old (forth up some)));
       on_trail = λ some.
-          let heard = (stage_behind run lines text old).next in
-          (heard, heard_behind, (next, along_still tells told mid new works run lines heard trail next (along some)));
+          let heard = (stage_after_text run lines text old).next in
+          (heard, heard_after, (next, along_still tells told mid new works run lines heard trail next (along some)));
       applied = stays_on tells told run lines old mid new works applied;
       volumes = rows_still tells told mid new works (rows_passed trail.points) old goes.now.site goes.now.later volumes;
       done = λ zero. absurd (not_done old new stop ends zero);
@@ -239,7 +239,7 @@ module _ {S P : Type 0} (tells : Type 0) (state : P → PlantState) (left : S �
         let runs = r.runs told sources below given none in
         let trail = runs.ends.1.0 in
         let is = runs.ends.1.1 in
-        let heard_none : IsHeardBehind runs.run runs.lines (state old) (state mid) None = ([], is.goes.now.heard, none_next runs.run (state old).script runs.lines) in
+        let heard_none : IsHeardAfter runs.run runs.lines (state old) (state mid) None = ([], is.goes.now.heard, none_next runs.run (state old).script runs.lines) in
         record {
           run = runs.run;
           over = runs.over;
@@ -278,7 +278,7 @@ module _ {S P : Type 0} (tells : Type 0) (state : P → PlantState) (left : S �
     as_were : StoresAsWere (state old) (state new) stop
     as_were d store other = last.front.only.faults d ∙ as_were_mid d store other
 
-    -- Behind a fault of the console nothing is said.
+    -- After a fault of the console nothing is said.
     once : (state new).console_faults ≤ (state old).console_faults + 1
     once = by_status (cases_eq (status_of stop) 3)
       where
@@ -309,7 +309,7 @@ module _ {S P : Type 0} (tells : Type 0) (state : P → PlantState) (left : S �
           (stop, kind, says_only stop refl (r.early (inr kind)), λ sources given. r.opens.of_headers sources stop given kind refl, λ k d fault. r.opens.fault k d (ap failed fault));
     }
 
-    -- ---- behind the opening
+    -- ---- after the opening
 
     module _ (told : tells) (below : AreCountsBelow (state new)) (sources : List SourceBytes) (given : AllTold left faults before now sources) (none : opening_stop storage (state old) sources ≡ None) where
       not_early : ComesEarly stop → ⊥
@@ -341,12 +341,12 @@ module _ {S P : Type 0} (tells : Type 0) (state : P → PlantState) (left : S �
       next = at_line.stops.stopped.next
 
       by_part : (part : Option Answered) → StandsStopped runs.run runs.lines runs.text part (state old) (state mid) stop → AreExact runs.run (lines_said runs.lines part) trail → HasBegunTrail runs.run (lines_said runs.lines part) trail
-          → (0 < trail.started → StandsOnTrail runs.run (lines_said runs.lines part) (line_asked (stage_behind runs.run runs.lines runs.text (state old)).next part) trail next (state mid))
-          → (0 < (state old).clock → 0 < trail.started → GoesForth runs.run (lines_said runs.lines part) (line_asked (stage_behind runs.run runs.lines runs.text (state old)).next part) trail next (state old) (state mid))
+          → (0 < trail.started → StandsOnTrail runs.run (lines_said runs.lines part) (line_asked (stage_after_text runs.run runs.lines runs.text (state old)).next part) trail next (state mid))
+          → (0 < (state old).clock → 0 < trail.started → GoesForth runs.run (lines_said runs.lines part) (line_asked (stage_after_text runs.run runs.lines runs.text (state old)).next part) trail next (state old) (state mid))
           → Ran tells session sources (state old) (state new) (status_of stop)
       by_part None goes exact begun along forth =
           ran_to_stop tells told session sources stop (state old) (state mid) runs.run runs.lines trail next runs.text (state new) at_line.stops.stopped.unstarted ends r.keeps last (λ other. r.counts.console (λ is. other (err_is stop ConsoleFault is))) over_now late_now goes exact begun along forth at_line.stops.volumes
-          at_line.stops.spent at_line.bad at_line.of_bad (λ is. ap (λ (p : P). (state p).said (state p).clock) (silent is)) as_were at_line.applied at_line.behind_end
+          at_line.stops.spent at_line.bad at_line.of_bad (λ is. ap (λ (p : P). (state p).said (state p).clock) (silent is)) as_were at_line.applied at_line.after_end
       by_part (Some a) stands exact begun along forth =
           subst (λ (p : P). Ran tells session sources (state old) (state p) (status_of stop)) (sym (silent stands.0))
           (ran_in_part tells told session sources stop (state old) (state mid) runs.run runs.lines trail next a at_line.stops.stopped.unstarted runs.over stands.0 late stands.2 exact begun along forth at_line.stops.volumes as_were_mid at_line.applied)

@@ -5,7 +5,7 @@ use Rattle.crash_plant.specs.declared.device.Device.TheVariants.{Control, Volume
 use Rattle.crash_plant.specs.Bytes.{Torn}
 use Rattle.crash_plant.specs.Calls.{Says, WorksOn, WorksOnConsole}
 use Rattle.crash_plant.specs.Moments.{PlantState, on, Follows, IsDurable}
-use Rattle.crash_plant.proofs.Behind.{same_after, torn_here}
+use Rattle.crash_plant.proofs.BehindGates.{same_after, torn_here}
 use Rattle.crash_plant.proofs.Steps.{elapses_trans, follows_here, loan_trans, site_trans, stays_trans, works_on_here}
 use Rattle.volume_label.specs.declared.label.Label.{Label}
 use Rattle.volume_label.specs.Labels.{label_of, label_spelling, volume_need}

@@ -1,4 +1,4 @@
--- What lasts of a run while a last line is said behind it.
+-- What lasts of a run while a last line is said after it.
 use Rattle.xrc_session.proofs.Growing.{says_grows}
 use Rattle.mover.specs.Working.{ShowsLast}
 use Rattle.consistency.specs.Moments.{BearsTime}
@@ -35,7 +35,7 @@ use Rattle.xrc_session.specs.Frames.{ChangesRows, KeepsPlant}
 use Rattle.xrc_session.specs.Runs.{AreLabels, GivesLabel, IsRunOfScript}
 use Rattle.xrc_session.specs.Runs.AreLabels.{Given, Last}
 use Rattle.xrc_session.specs.Lanes.{SourceBytes}
-use Rattle.xrc_session.specs.Starting.{AreOwnSpent, BeginsRun, FormatsFirst, HasRepliedToStart, HearsStart, IsSafeNow, IsUnsaid, LeavesVolumes, MeansStart, ShutsOrStarts, StartsBehind, level_started, reply_to_start}
+use Rattle.xrc_session.specs.Starting.{AreOwnSpent, BeginsRun, FormatsFirst, HasRepliedToStart, HearsStart, IsSafeNow, IsUnsaid, LeavesVolumes, MeansStart, ShutsOrStarts, StartsAfter, level_started, reply_to_start}
 use Rattle.xrc_session.specs.Starting.BeginsRun.{Starting, Unstarted}
 use Rattle.xrc_session.specs.Stops.{HasRunCause, HasStopCause, IsSpentNow}
 use Rattle.xrc_session.specs.Trails.{GoesForth, Trail, first_leg, StandsOnTrail}
@@ -243,7 +243,7 @@ module _ (tells : Type 0) (told : tells) (stop : Stop) (session : List ℕ) (old
   hears_still : (level : Level) (at : ℕ) → HearsStart session level at old mid → HearsStart session level at old new
   hears_still level at hears = record { lines = hears.lines; text = hears.text; later = hears.later; start = hears.start; heard = (last.front.moments told).heard new.clock on_to (omega arith) ∙ hears.heard }
 
-  module _ (level : Level) (at : ℕ) (up : 0 < old.clock) (b : StartsBehind session level at old mid) where
+  module _ (level : Level) (at : ℕ) (up : 0 < old.clock) (b : StartsAfter session level at old mid) where
     now : 0 < mid.clock
     now = omega (arith, up, since)
 
@@ -269,7 +269,7 @@ module _ (tells : Type 0) (told : tells) (stop : Stop) (session : List ℕ) (old
     said_now = ((last.front.moments told).front new.clock on_to (omega arith)).2
 
     -- The reply was said whole by then.
-    replied_before : mid.said b.replied_at ≡ mid.said b.heard_at ++ reply_to_start level at → StartsBehind session level at old new
+    replied_before : mid.said b.replied_at ≡ mid.said b.heard_at ++ reply_to_start level at → StartsAfter session level at old new
     replied_before whole = record {
       lines = b.lines;
       text = b.text;
@@ -299,7 +299,7 @@ module _ (tells : Type 0) (told : tells) (stop : Stop) (session : List ℕ) (old
         by_formats (inr first) = inr (formats_on session level at old mid new b.replied_at b.replied_at works.site gone now b.within (omega arith) first)
 
     -- It wasn't, and it is safe to the end.
-    unreplied : b.replied_at ≡ mid.clock → StartsBehind session level at old new
+    unreplied : b.replied_at ≡ mid.clock → StartsAfter session level at old new
     unreplied end = record {
       lines = b.lines;
       text = b.text;
@@ -346,8 +346,8 @@ module _ (tells : Type 0) (told : tells) (stop : Stop) (session : List ℕ) (old
             inl (subst (λ (l : List ℕ). IsUnsaid l (new.said new.clock)) (sym said_before) (subst (λ (l : List ℕ). IsUnsaid (mid.said b.heard_at) l) (sym said_now) still))
         by_formats (inr first) = inr (formats_on session level at old mid new b.replied_at new.clock works.site gone now b.within (omega (arith, b.within, on_to)) first)
 
-    pub behind_still : StartsBehind session level at old new
-    behind_still = elim b.reached [ inl whole ↦ replied_before whole | inr end ↦ unreplied end ]
+    pub after_still : StartsAfter session level at old new
+    after_still = elim b.reached [ inl whole ↦ replied_before whole | inr end ↦ unreplied end ]
 
   ends_still : (level : Level) (at : ℕ) → HasRepliedToStart level at old mid ⊎ IsSafeNow session level at old mid → HasRepliedToStart level at old new ⊎ IsSafeNow session level at old new
   ends_still level at (inl replied) = inl (replied_later level at old mid new (says_grows (last_line stop) mid new on_to (last.front.moments told)) replied)
@@ -356,7 +356,7 @@ module _ (tells : Type 0) (told : tells) (stop : Stop) (session : List ℕ) (old
   -- What a run has begun it has begun still.
   pub begins_still : BeginsRun session old mid → BeginsRun session old new
   begins_still (Unstarted leaves) = Unstarted (leaves_then old mid new since leaves gone (leaves_console tells mid new told works))
-  begins_still (Starting level at hears ends behind) = Starting level at (hears_still level at hears) (ends_still level at ends) (λ up durable. behind_still level at up (behind up durable))
+  begins_still (Starting level at hears ends after) = Starting level at (hears_still level at hears) (ends_still level at ends) (λ up durable. after_still level at up (after up durable))
 
 -- Numbers, lengths and the past are kept.
 pub keeps_still : (tells : Type 0) (stop : Stop) (session : List ℕ) (old mid new : PlantState) → KeepsPlant tells old mid → SaysLast tells (last_line stop) mid new → KeepsPlant tells old new

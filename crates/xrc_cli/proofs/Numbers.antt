@@ -6,7 +6,7 @@ use Rattle.std.proofs.lemmas.List.Sums.{fold-append, fold_more}
 use Rattle.tod_stamp.specs.Fields.{within}
 use Rattle.xrc_cli.specs.Words.{digits_value, from_to, has_leading_zero, number_in, with_digit}
 
--- behind a byte that is no digit nothing has a value
+-- after a byte that is no digit nothing has a value
 stays_none : (ys : List ℕ) → fold with_digit None ys ≡ None
 stays_none [] = refl
 stays_none (y ∷ ys) = stays_none ys
@@ -19,7 +19,7 @@ one_more : (least most w y : ℕ) (ys : List ℕ) (t : Bool) → most < w → ((
 one_more least most w y ys true high again = again (10 * w + (y - 48)) (omega arith)
 one_more least most w y ys false high again = ap (from_to least most) (stays_none ys)
 
--- digits behind a value never make it less
+-- digits after a value never make it less
 beyond : (least most w : ℕ) (ys : List ℕ) → most < w → from_to least most (fold with_digit (Some w) ys) ≡ None
 beyond least most w [] high = above least most w high
 beyond least most w (y ∷ ys) high = one_more least most w y ys (within 48 57 y) high (λ v. beyond least most v ys)

@@ -81,7 +81,7 @@ asks_of n before at_end a asks = by_whole (is_whole_line at_end a.text) refl ask
     by_whole true is line = record { whole = is; line = line; short = short_of line (cases_lt 56 (length (first_line a.text))) }
     by_whole false is line = absurd (cc line)
 
--- It is a whole line of what is left of the script, behind which so much stands.
+-- It is a whole line of what is left of the script, after which so much stands.
 whole_of : (n before : ℕ) (at_end : Bool) (a : Answered) (rest : List ℕ) → IsAsked n before at_end a → (at_end ≡ true → rest ≡ []) → Ends Whole a.text rest
 whole_of n before at_end a rest asked ends = by_feed (has_feed a.text) refl its.whole
   where
@@ -99,21 +99,21 @@ whole_of n before at_end a rest asked ends = by_feed (has_feed a.text) refl its.
         let first = (whole_at_end a.text some is).1 in
         inr (record { some = some; front = record { short = omega (arith, its.short, ap length first); no_feed = is }; at_end = λ told. ends both.0 })
 
--- ---- lines behind others
+-- ---- lines after others
 
--- Lines are asked behind so many others, the last of them at a time, whose texts have so many bytes, of a script of so many.
-abbrev AskedBehind : (total n before used : ℕ) → List Answered → Type 0
-AskedBehind total n before used lines = (m : ℕ) (a : Answered) → slice_get lines m ≡ Some a
+-- Lines are asked after so many others, the last of them at a time, whose texts have so many bytes, of a script of so many.
+abbrev AskedAfter : (total n before used : ℕ) → List Answered → Type 0
+AskedAfter total n before used lines = (m : ℕ) (a : Answered) → slice_get lines m ≡ Some a
     → IsAsked (n + m) (fold (λ t x. x.line.time.0) before (take m lines)) (nat_eq (used + length (texts_of (take (suc m) lines))) total) a
 
-first_asked : (total n before used : ℕ) (a : Answered) (lines : List Answered) → AskedBehind total n before used (a ∷ lines) → IsAsked n before (nat_eq (used + length a.text) total) a
+first_asked : (total n before used : ℕ) (a : Answered) (lines : List Answered) → AskedAfter total n before used (a ∷ lines) → IsAsked n before (nat_eq (used + length a.text) total) a
 first_asked total n before used a lines are =
     let here = are 0 a refl in
     let text : length (a.text ++ []) ≡ length a.text = ap length (append-nil a.text) in
     subst (λ (k : ℕ). IsAsked k before (nat_eq (used + length a.text) total) a) (let e : n + 0 ≡ n = omega arith in e)
     (subst (λ (k : ℕ). IsAsked (n + 0) before (nat_eq k total) a) (let e : used + length (a.text ++ []) ≡ used + length a.text = omega (arith, text) in e) here)
 
-later_asked : (total n before used : ℕ) (a : Answered) (lines : List Answered) → AskedBehind total n before used (a ∷ lines) → AskedBehind total (suc n) a.line.time.0 (used + length a.text) lines
+later_asked : (total n before used : ℕ) (a : Answered) (lines : List Answered) → AskedAfter total n before used (a ∷ lines) → AskedAfter total (suc n) a.line.time.0 (used + length a.text) lines
 later_asked total n before used a lines are m b at =
     let texts = texts_of (take (suc m) lines) in
     let here = are (suc m) b at in
@@ -123,7 +123,7 @@ later_asked total n before used a lines are m b at =
     subst (λ (k : ℕ). IsAsked k (fold (λ t x. x.line.time.0) a.line.time.0 (take m lines)) (nat_eq (used + length a.text + length texts) total) b) number
     (subst (λ (k : ℕ). IsAsked (n + suc m) (fold (λ t x. x.line.time.0) a.line.time.0 (take m lines)) (nat_eq k total) b) bytes here)
 
-all_asked : (script : List ℕ) (lines : List Answered) → AreAsked script lines → AskedBehind (length script) 0 0 0 lines
+all_asked : (script : List ℕ) (lines : List Answered) → AreAsked script lines → AskedAfter (length script) 0 0 0 lines
 all_asked script lines are m a at =
     let texts = texts_of (take (suc m) lines) in
     let here = are m a at in
@@ -148,9 +148,9 @@ module _ (total n before used : ℕ) (a : Answered) (left rest : List ℕ) (aske
   asks_line : later_line n before (line_spelled (first_line a.text)) ≡ Some a.line
   asks_line = (asks_of n before (nat_eq (used + length a.text) total) a asked.asks).line
 
--- Nothing is left behind the last line.
-not_behind_all : (end : LineEnd) (text rest : List ℕ) → [] ≡ text ++ rest → Ends end text rest → (end ≡ Nothing → ⊥) → ⊥
-not_behind_all end text rest is ends other = other (told_apart [] text [] rest [] end Nothing is refl ends (record { text_is = refl; at_end = λ told. refl })).0
+-- Nothing is left after the last line.
+not_after_all : (end : LineEnd) (text rest : List ℕ) → [] ≡ text ++ rest → Ends end text rest → (end ≡ Nothing → ⊥) → ⊥
+not_after_all end text rest is ends other = other (told_apart [] text [] rest [] end Nothing is refl ends (record { text_is = refl; at_end = λ told. refl })).0
 
 module _ (tells : Type 0) (told : tells) (total : ℕ) (text rest : List ℕ) where
   -- how a bad line ended
@@ -159,13 +159,13 @@ module _ (tells : Type 0) (told : tells) (total : ℕ) (text rest : List ℕ) wh
   bad_ends number before (inl (inr last, none)) = inl (inr (record { some = last.some; front = last.front; at_end = λ unit. last.at_end told }), none)
   bad_ends number before (inr long) = inr long
 
-  none_is_bad : (n before used : ℕ) (left : List ℕ) (lines good : List Answered) → AskedBehind total n before used lines → AskedBehind total n before used good → used + length left ≡ total → left ≡ texts_of good → left ≡ texts_of lines ++ (text ++ rest)
+  none_is_bad : (n before used : ℕ) (left : List ℕ) (lines good : List Answered) → AskedAfter total n before used lines → AskedAfter total n before used good → used + length left ≡ total → left ≡ texts_of good → left ≡ texts_of lines ++ (text ++ rest)
       → IsNextLine tells (n + length lines + 1) (fold (λ t x. x.line.time.0) before lines) text rest Bad → ⊥
   none_is_bad n before used left [] [] are others all wanted is bad = by_end (bad_ends (n + 0 + 1) before bad)
     where
       by_end : (Ends Whole text rest × (later_line (n + 0 + 1 - 1) before (line_spelled (first_line text)) ≡ None)) ⊎ Ends TooLong text rest → ⊥
-      by_end (inl whole) = not_behind_all Whole text rest (sym wanted ∙ is) whole.0 (λ same. cc same)
-      by_end (inr long) = not_behind_all TooLong text rest (sym wanted ∙ is) long (λ same. cc same)
+      by_end (inl whole) = not_after_all Whole text rest (sym wanted ∙ is) whole.0 (λ same. cc same)
+      by_end (inr long) = not_after_all TooLong text rest (sym wanted ∙ is) long (λ same. cc same)
   none_is_bad n before used left [] (g ∷ good) are others all wanted is bad = by_end (bad_ends (n + 0 + 1) before bad)
     where
       asked : IsAsked n before (nat_eq (used + length g.text) total) g
@@ -183,20 +183,20 @@ module _ (tells : Type 0) (told : tells) (total : ℕ) (text rest : List ℕ) wh
           cc (none, some)
       by_end (inr long) = let clash = (told_apart left text g.text rest (texts_of good) TooLong Whole is wanted long whole_there).0 in cc clash
   none_is_bad n before used left (a ∷ lines) [] are others all wanted is bad =
-      not_behind_all Whole a.text (texts_of lines ++ (text ++ rest)) (sym wanted ∙ behind) (first_whole total n before used a left (texts_of lines ++ (text ++ rest)) (first_asked total n before used a lines are) all behind) (λ same. cc same)
+      not_after_all Whole a.text (texts_of lines ++ (text ++ rest)) (sym wanted ∙ after) (first_whole total n before used a left (texts_of lines ++ (text ++ rest)) (first_asked total n before used a lines are) all after) (λ same. cc same)
     where
-      behind : left ≡ a.text ++ (texts_of lines ++ (text ++ rest))
-      behind = is ∙ append_assoc a.text (texts_of lines) (text ++ rest)
+      after : left ≡ a.text ++ (texts_of lines ++ (text ++ rest))
+      after = is ∙ append_assoc a.text (texts_of lines) (text ++ rest)
   none_is_bad n before used left (a ∷ lines) (g ∷ good) are others all wanted is bad =
       none_is_bad (suc n) a.line.time.0 (used + length a.text) (texts_of good) lines good (later_asked total n before used a lines are)
-      (subst (λ (t : ℕ). AskedBehind total (suc n) t (used + length a.text) good) (ap (λ (l : Line). l.time.0) (sym same_line))
-      (subst (λ (l : List ℕ). AskedBehind total (suc n) g.line.time.0 (used + length l) good) (sym same_text) (later_asked total n before used g good others)))
+      (subst (λ (t : ℕ). AskedAfter total (suc n) t (used + length a.text) good) (ap (λ (l : Line). l.time.0) (sym same_line))
+      (subst (λ (l : List ℕ). AskedAfter total (suc n) g.line.time.0 (used + length l) good) (sym same_text) (later_asked total n before used g good others)))
       (omega (arith, all, ap length wanted, length-append g.text (texts_of good), ap length same_text)) refl
-      (append_cancel_left a.text (texts_of good) (texts_of lines ++ (text ++ rest)) (ap (λ (l : List ℕ). l ++ texts_of good) same_text ∙ sym wanted ∙ behind))
+      (append_cancel_left a.text (texts_of good) (texts_of lines ++ (text ++ rest)) (ap (λ (l : List ℕ). l ++ texts_of good) same_text ∙ sym wanted ∙ after))
       (subst (λ (k : ℕ). IsNextLine tells k (fold (λ t x. x.line.time.0) a.line.time.0 lines) text rest Bad) (let e : n + suc (length lines) + 1 ≡ suc n + length lines + 1 = omega arith in e) bad)
     where
-      behind : left ≡ a.text ++ (texts_of lines ++ (text ++ rest))
-      behind = is ∙ append_assoc a.text (texts_of lines) (text ++ rest)
+      after : left ≡ a.text ++ (texts_of lines ++ (text ++ rest))
+      after = is ∙ append_assoc a.text (texts_of lines) (text ++ rest)
 
       mine : IsAsked n before (nat_eq (used + length a.text) total) a
       mine = first_asked total n before used a lines are
@@ -206,17 +206,17 @@ module _ (tells : Type 0) (told : tells) (total : ℕ) (text rest : List ℕ) wh
 
       same_text : a.text ≡ g.text
       same_text =
-          (told_apart left a.text g.text (texts_of lines ++ (text ++ rest)) (texts_of good) Whole Whole behind wanted (first_whole total n before used a left (texts_of lines ++ (text ++ rest)) mine all behind)
+          (told_apart left a.text g.text (texts_of lines ++ (text ++ rest)) (texts_of good) Whole Whole after wanted (first_whole total n before used a left (texts_of lines ++ (text ++ rest)) mine all after)
           (first_whole total n before used g left (texts_of good) its all wanted)).1
 
       same_line : a.line ≡ g.line
       same_line =
-          let one = asks_line total n before used a left (texts_of lines ++ (text ++ rest)) mine all behind in
+          let one = asks_line total n before used a left (texts_of lines ++ (text ++ rest)) mine all after in
           let two = asks_line total n before used g left (texts_of good) its all wanted in
           let texts = ap (λ (l : List ℕ). later_line n before (line_spelled (first_line l))) same_text in
           cc (one, two, texts)
 
--- Lines that were asked of a script of lines that count: what was heard behind them is no bad line.
+-- Lines that were asked of a script of lines that count: what was heard after them is no bad line.
 pub no_bad_line : (tells : Type 0) → tells → (script : List ℕ) (lines good : List Answered) (text rest : List ℕ) → AreAsked script lines → AreAsked script good → texts_of good ≡ script → script ≡ texts_of lines ++ text ++ rest
     → IsNextLine tells (length lines + 1) (last_line_time lines (length lines)) text rest Bad → ⊥
 no_bad_line tells told script lines good text rest are others whole is bad =

@@ -11,7 +11,7 @@ use Rattle.xrc_status.specs.declared.stop.Stop.{Stop}
 use Rattle.xrc_status.specs.declared.stop.Stop.TheVariants.{NoMemory, BadWords, ConsoleFault, BadLine, JournalFault, ControlFault, StateFault, BadHeader, HeaderFault, NoSession, OtherSession, Damaged, VolumeFault, TooSmall, BadSite, Spent}
 use Rattle.xrc_status.specs.Stops.{details, device_text, last_line, status_line, status_of}
 use Rattle.consistency.specs.Replies.{are_reply, has_reply, is_reply_line}
-use Rattle.consistency.specs.Times.{time_behind, time_in_word, times_in_words, times_said, words}
+use Rattle.consistency.specs.Times.{time_after, time_in_word, times_in_words, times_said, words}
 use Rattle.consistency.proofs.Pieces.{line_ended}
 use Rattle.consistency.proofs.Spelled.{AreWords, HasNo, IsWord, no_feed_spelled, spelled, words_spelled}
 use Rattle.consistency.proofs.Spelled.AreWords.{no_word, one_more}
@@ -25,15 +25,15 @@ digit_is_not : (d byte : ℕ) → d < 10 → (byte < 48) ⊎ (57 < byte) → nat
 digit_is_not d byte small (inl low) = ne_eqb (digit_glyph false d) byte (grind (arith, nat_tests))
 digit_is_not d byte small (inr high) = ne_eqb (digit_glyph false d) byte (grind (arith, nat_tests))
 
-digits_have_no : (byte : ℕ) → (byte < 48) ⊎ (57 < byte) → (count n : ℕ) (behind : List ℕ) → HasNo byte behind → HasNo byte (digits_onto count 10 false n behind)
-digits_have_no byte no_digit zero n behind none = none
-digits_have_no byte no_digit (suc count) n behind none =
+digits_have_no : (byte : ℕ) → (byte < 48) ⊎ (57 < byte) → (count n : ℕ) (after : List ℕ) → HasNo byte after → HasNo byte (digits_onto count 10 false n after)
+digits_have_no byte no_digit zero n after none = none
+digits_have_no byte no_digit (suc count) n after none =
     let digit = digit_glyph false (n % 10) in
-    let one : HasNo byte (digit ∷ behind) = or_from (nat_eq digit byte) (list_any (λ b. nat_eq b byte) behind) (digit_is_not (n % 10) byte (omega arith) no_digit) none in
-    choose (nat_eq (n / 10) 0) one (digits_have_no byte no_digit count (n / 10) (digit ∷ behind) one)
+    let one : HasNo byte (digit ∷ after) = or_from (nat_eq digit byte) (list_any (λ b. nat_eq b byte) after) (digit_is_not (n % 10) byte (omega arith) no_digit) none in
+    choose (nat_eq (n / 10) 0) one (digits_have_no byte no_digit count (n / 10) (digit ∷ after) one)
   where
-    choose : (t : Bool) → HasNo byte (digit_glyph false (n % 10) ∷ behind) → HasNo byte (digits_onto count 10 false (n / 10) (digit_glyph false (n % 10) ∷ behind))
-        → HasNo byte (cond t (digit_glyph false (n % 10) ∷ behind) (digits_onto count 10 false (n / 10) (digit_glyph false (n % 10) ∷ behind)))
+    choose : (t : Bool) → HasNo byte (digit_glyph false (n % 10) ∷ after) → HasNo byte (digits_onto count 10 false (n / 10) (digit_glyph false (n % 10) ∷ after))
+        → HasNo byte (cond t (digit_glyph false (n % 10) ∷ after) (digits_onto count 10 false (n / 10) (digit_glyph false (n % 10) ∷ after)))
     choose true one more = one
     choose false one more = more
 
@@ -45,11 +45,11 @@ decimal_has_no byte no_digit n = digits_have_no byte no_digit 64 n [] refl
 decimal_is_word : (n : ℕ) → IsWord (decimal n)
 decimal_is_word n = (decimal_has_no 32 (inl (omega arith)) n, decimal_has_no 10 (inl (omega arith)) n)
 
--- ---- words that tell no time
+-- ---- words that say no time
 
--- A word that doesn't hold an equals sign, and isn't the word behind which a time stands.
-abbrev TellsNone : (word : List ℕ) → Type 0
-TellsNone word = HasNo 61 word × (bytes_eq word (codes "JOURNALED") ≡ false)
+-- A word that doesn't hold an equals sign, and isn't the word after which a time stands.
+abbrev SaysNone : (word : List ℕ) → Type 0
+SaysNone word = HasNo 61 word × (bytes_eq word (codes "JOURNALED") ≡ false)
 
 none_in : (word : List ℕ) → HasNo 61 word → time_in_word word ≡ []
 none_in [] none = refl
@@ -58,31 +58,31 @@ none_in (x ∷ y ∷ word) none =
     let second = (or_parts (nat_eq y 61) (list_any (λ b. nat_eq b 61) word) (or_parts (nat_eq x 61) (list_any (λ b. nat_eq b 61) (y ∷ word)) none).1).0 in
     rw (and_right (nat_eq x 84) (nat_eq y 61 && true) (and_left (nat_eq y 61) true second)) refl
 
-none_behind : (before word : List ℕ) → bytes_eq before (codes "JOURNALED") ≡ false → time_behind before word ≡ []
-none_behind before word other = rw other refl
+none_after : (before word : List ℕ) → bytes_eq before (codes "JOURNALED") ≡ false → time_after before word ≡ []
+none_after before word other = rw other refl
 
 data AreQuiet : List (List ℕ) → Type 0 where
   no_more : AreQuiet []
-  quiet_then : {word : List ℕ} {others : List (List ℕ)} → IsWord word → TellsNone word → AreQuiet others → AreQuiet (word ∷ others)
+  quiet_then : {word : List ℕ} {others : List (List ℕ)} → IsWord word → SaysNone word → AreQuiet others → AreQuiet (word ∷ others)
 
 quiet_words : {others : List (List ℕ)} → AreQuiet others → AreWords others
 quiet_words no_more = no_word
 quiet_words (quiet_then is tells rest) = one_more is (quiet_words rest)
 
--- Words that tell none tell none together.
+-- Words that say none say none together.
 times_quiet : (before : List ℕ) (others : List (List ℕ)) → bytes_eq before (codes "JOURNALED") ≡ false → AreQuiet others → times_in_words before others ≡ []
 times_quiet before [] other no_more = refl
 times_quiet before (word ∷ others) other (quiet_then is tells rest) =
-    ap (λ (l : List ℕ). l ++ time_behind before word ++ times_in_words word others) (none_in word tells.0) ∙ ap (λ (l : List ℕ). l ++ times_in_words word others) (none_behind before word other) ∙ times_quiet word others tells.1 rest
+    ap (λ (l : List ℕ). l ++ time_after before word ++ times_in_words word others) (none_in word tells.0) ∙ ap (λ (l : List ℕ). l ++ times_in_words word others) (none_after before word other) ∙ times_quiet word others tells.1 rest
 
--- ---- which words tell none
+-- ---- which words say none
 
 no_first : (word : List ℕ) → HasNo 74 word → bytes_eq word (codes "JOURNALED") ≡ false
 no_first [] none = refl
 no_first (x ∷ word) none = rw (or_parts (nat_eq x 74) (list_any (λ b. nat_eq b 74) word) none).0 refl
 
-decimal_tells_none : (n : ℕ) → TellsNone (decimal n)
-decimal_tells_none n = (decimal_has_no 61 (inr (omega arith)) n, no_first (decimal n) (decimal_has_no 74 (inr (omega arith)) n))
+decimal_says_none : (n : ℕ) → SaysNone (decimal n)
+decimal_says_none n = (decimal_has_no 61 (inr (omega arith)) n, no_first (decimal n) (decimal_has_no 74 (inr (omega arith)) n))
 
 -- ---- the lines of stops
 
@@ -93,37 +93,37 @@ device_words State = codes "STATE" ∷ []
 device_words (Journal j) = codes "JOURNAL" ∷ decimal j ∷ []
 device_words (Volume v) = codes "VOLUME" ∷ decimal v ∷ []
 
--- the words behind a status
-abbrev words_behind : Stop → List (List ℕ)
-words_behind (BadLine n) = decimal n ∷ []
-words_behind (JournalFault j) = decimal j ∷ []
-words_behind (BadHeader trace place) = decimal trace ∷ decimal place ∷ []
-words_behind (HeaderFault trace) = decimal trace ∷ []
-words_behind (OtherSession name) = name ∷ []
-words_behind (Damaged d place) = device_words d ++ decimal place ∷ []
-words_behind (TooSmall d needed) = device_words d ++ decimal needed ∷ []
-words_behind NoMemory = []
-words_behind BadWords = []
-words_behind ConsoleFault = []
-words_behind ControlFault = []
-words_behind StateFault = []
-words_behind NoSession = []
-words_behind VolumeFault = []
-words_behind BadSite = []
-words_behind Spent = []
+-- the words after a status
+abbrev words_after : Stop → List (List ℕ)
+words_after (BadLine n) = decimal n ∷ []
+words_after (JournalFault j) = decimal j ∷ []
+words_after (BadHeader trace place) = decimal trace ∷ decimal place ∷ []
+words_after (HeaderFault trace) = decimal trace ∷ []
+words_after (OtherSession name) = name ∷ []
+words_after (Damaged d place) = device_words d ++ decimal place ∷ []
+words_after (TooSmall d needed) = device_words d ++ decimal needed ∷ []
+words_after NoMemory = []
+words_after BadWords = []
+words_after ConsoleFault = []
+words_after ControlFault = []
+words_after StateFault = []
+words_after NoSession = []
+words_after VolumeFault = []
+words_after BadSite = []
+words_after Spent = []
 
--- words, each behind a space
+-- words, each after a space
 abbrev spaced : List (List ℕ) → List ℕ
 spaced words = flat_map (λ w. 32 ∷ w) words
 
-device_spaced : (d : Device) (behind : List ℕ) → spaced (device_words d ++ behind ∷ []) ≡ device_text d ++ 32 ∷ behind
-device_spaced Control behind = simp append-nil
-device_spaced State behind = simp append-nil
-device_spaced (Journal j) behind = simp append-nil
-device_spaced (Volume v) behind = simp append-nil
+device_spaced : (d : Device) (after : List ℕ) → spaced (device_words d ++ after ∷ []) ≡ device_text d ++ 32 ∷ after
+device_spaced Control after = simp append-nil
+device_spaced State after = simp append-nil
+device_spaced (Journal j) after = simp append-nil
+device_spaced (Volume v) after = simp append-nil
 
--- What stands behind a status is these words.
-details_spaced : (stop : Stop) → spaced (words_behind stop) ≡ details stop
+-- What stands after a status is these words.
+details_spaced : (stop : Stop) → spaced (words_after stop) ≡ details stop
 details_spaced (BadLine n) = append-nil (32 ∷ decimal n)
 details_spaced (JournalFault j) = append-nil (32 ∷ decimal j)
 details_spaced (BadHeader trace place) = ap (λ (l : List ℕ). 32 ∷ (decimal trace ++ l)) (append-nil (32 ∷ decimal place))
@@ -143,7 +143,7 @@ details_spaced Spent = refl
 
 -- They tell no time.
 number_quiet : (n : ℕ) {others : List (List ℕ)} → AreQuiet others → AreQuiet (decimal n ∷ others)
-number_quiet n rest = quiet_then (decimal_is_word n) (decimal_tells_none n) rest
+number_quiet n rest = quiet_then (decimal_is_word n) (decimal_says_none n) rest
 
 device_quiet : (d : Device) (n : ℕ) → AreQuiet (device_words d ++ decimal n ∷ [])
 device_quiet Control n = quiet_then (refl, refl) (refl, refl) (number_quiet n no_more)
@@ -151,7 +151,7 @@ device_quiet State n = quiet_then (refl, refl) (refl, refl) (number_quiet n no_m
 device_quiet (Journal j) n = quiet_then (refl, refl) (refl, refl) (number_quiet j (number_quiet n no_more))
 device_quiet (Volume v) n = quiet_then (refl, refl) (refl, refl) (number_quiet v (number_quiet n no_more))
 
-words_quiet : (stop : Stop) → may_end_run (status_of stop) ≡ true → AreQuiet (words_behind stop)
+words_quiet : (stop : Stop) → may_end_run (status_of stop) ≡ true → AreQuiet (words_after stop)
 words_quiet (BadLine n) told = number_quiet n no_more
 words_quiet (JournalFault j) told = number_quiet j no_more
 words_quiet (BadHeader trace place) told = number_quiet trace (number_quiet place no_more)
@@ -202,7 +202,7 @@ by_words : (stop : Stop) → may_end_run (status_of stop) ≡ true → (has_repl
 by_words stop told =
     let quiet = words_quiet stop told in
     let said = ap (status_line (status_of stop)) (details_spaced stop) in
-    (sym (ap has_reply said) ∙ status_is_none (status_of stop) (words_behind stop) quiet, sym (ap times_said said) ∙ status_says_none (status_of stop) (words_behind stop) quiet)
+    (sym (ap has_reply said) ∙ status_is_none (status_of stop) (words_after stop) quiet, sym (ap times_said said) ∙ status_says_none (status_of stop) (words_after stop) quiet)
 
 -- A stop's line is no reply and says no time.
 pub stop_says_none : (stop : Stop) → may_end_run (status_of stop) ≡ true → (has_reply (last_line stop) ≡ false) × (times_said (last_line stop) ≡ [])

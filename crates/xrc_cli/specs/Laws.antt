@@ -23,7 +23,7 @@ pub record NoStoreRose (old new : PlantState) : Type 0 where
   pub console : ¬ Rose old.console_faults new.console_faults
 
 -- Where nothing calls for a stop the run is done, but for want of memory and for numbers that are spent: numbers, lengths and headers are good, each
--- line counts, and no count of the console, the control, the state or a journal rose. Faults of volumes, and of sources behind the headers, don't
+-- line counts, and no count of the console, the control, the state or a journal rose. Faults of volumes, and of sources after the headers, don't
 -- take this away.
 abbrev pub RunsAreComplete : {S P : Type 0} → (tells : Type 0) → (state : P → PlantState) → (left : S → Option (List ℕ)) → (faults : S → ℕ) → (old new : P) → Type 0
 RunsAreComplete {S} {P} tells state left faults old new = (session : List ℕ) (storage : ℕ) (before now : List (Lane S)) (status : ℕ) (sources : List SourceBytes) → EndsScriptRun tells state left faults session storage before now old new status

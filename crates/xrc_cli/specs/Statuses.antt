@@ -18,14 +18,14 @@ use Rattle.xrc_status.specs.declared.stop.Stop.TheVariants.{BadLine, ConsoleFaul
 use Rattle.xrc_status.specs.Saying.{SaysLast}
 use Rattle.xrc_status.specs.Stops.{last_line, status_of}
 use Rattle.xrc_session.specs.AppliedEnds.{StaysApplied}
-use Rattle.xrc_session.specs.LinePauses.{stage_behind}
+use Rattle.xrc_session.specs.LinePauses.{stage_after_text}
 use Rattle.xrc_session.specs.Ends.{IsRunDone}
 use Rattle.xrc_session.specs.Frames.{ChangesRows, KeepsPlant, rows_passed}
 use Rattle.xrc_session.specs.Lanes.{AllTold, SourceBytes}
 use Rattle.xrc_session.specs.Openings.{IsOfHeaders, IsOfSite, opening_stop, stop_of_site}
-use Rattle.xrc_session.specs.Runs.{AreCountsBelow, IsBadBehind, IsRunOfScript}
+use Rattle.xrc_session.specs.Runs.{AreCountsBelow, IsBadAfter, IsRunOfScript}
 use Rattle.xrc_session.specs.Starting.{AreOwnSpent, BeginsRun}
-use Rattle.xrc_session.specs.Stops.{HasRunCause, IsStopBehindEnd, stop_of_device}
+use Rattle.xrc_session.specs.Stops.{HasRunCause, IsStopAfterEnd, stop_of_device}
 use Rattle.xrc_session.specs.Trails.{AreExact, GoesForth, Trail, HasBegunTrail, StandsOnTrail}
 
 -- ---- causes
@@ -67,23 +67,23 @@ pub record OpensFirst {S : Type 0} (tells : Type 0) (left : S → Option (List �
 
 -- ---- the end of a run
 
--- A stop's line was said behind the replies: whole, with the console's count as it was, or a front of it where that count rose.
-pub record SaidBehind (lines : List Answered) (text : List ℕ) (old new : PlantState) : Type 0 where
+-- A stop's line was said after the replies: whole, with the console's count as it was, or a front of it where that count rose.
+pub record SaidAfter (lines : List Answered) (text : List ℕ) (old new : PlantState) : Type 0 where
   pub said : (k : ℕ) × (k ≤ length text) × (new.said new.clock ≡ old.said old.clock ++ (replies_of lines ++ take k text))
   pub whole : ((new.said new.clock ≡ old.said old.clock ++ (replies_of lines ++ text)) × (new.console_faults ≡ old.console_faults)) ⊎ Rose old.console_faults new.console_faults
 
--- Nothing was said behind the replies to these lines. Or of the last reply a front was said, and nothing else.
+-- Nothing was said after the replies to these lines. Or of the last reply a front was said, and nothing else.
 pub data SaidInPart (lines : List Answered) (old new : PlantState) : Type 0 where
   AllReplies : new.said new.clock ≡ old.said old.clock ++ replies_of lines → SaidInPart lines old new
   LastInPart : (before : List Answered) (a : Answered) (k : ℕ) → lines ≡ before ++ a ∷ [] → k ≤ length a.reply → new.said new.clock ≡ old.said old.clock ++ (replies_of before ++ take k a.reply) → SaidInPart lines old new
 
--- A run that isn't done ended by a stop, with its own cause. Behind the answered lines so much was heard, of one line at most, and this is left of
+-- A run that isn't done ended by a stop, with its own cause. After the answered lines so much was heard, of one line at most, and this is left of
 -- the script.
 --   counts: no count of the control, the state or a journal changes but with its own stop
 --   spent: 24 comes only once the session has started, or in the work for its start, where its own numbers are spent
---   bears_now: whatever a crash leaves bears a time, not before any that the replies tell, also on a plant that keeps no past
+--   bears_now: whatever a crash leaves bears a time, not before any that the replies say, also on a plant that keeps no past
 --   in_part: at 3 the console failed in hearing, or in saying the reply to the last of the lines
---   behind_end: once the session has ended no device stops the run
+--   after_end: once the session has ended no device stops the run
 pub record StopsWith (tells : Type 0) (run : ScriptRun) (lines : List Answered) (old new : PlantState) (status : ℕ) : Type 0 where
   pub stop : Stop
   pub status_is : status ≡ status_of stop
@@ -93,19 +93,19 @@ pub record StopsWith (tells : Type 0) (run : ScriptRun) (lines : List Answered) 
   pub heard : new.heard new.clock ≡ old.heard old.clock ++ (texts_of lines ++ text)
   pub script : old.script ≡ texts_of lines ++ text ++ new.script
   pub one_line : lines_begun text ≤ 1
-  pub said : status ≢ 3 → SaidBehind lines (last_line stop) old new
+  pub said : status ≢ 3 → SaidAfter lines (last_line stop) old new
   pub in_part : status ≡ 3 → SaidInPart lines old new
-  pub bad : IsBadBehind tells lines text new.script → (stop ≡ BadLine (length lines + 1)) ⊎ ((stop ≡ ConsoleFault) × (has_feed text ≡ false))
-  pub of_bad : (n : ℕ) → stop ≡ BadLine n → (n ≡ length lines + 1) × IsBadBehind tells lines text new.script
-  pub spent : status ≡ 24 → AreOwnSpent run (stage_behind run lines text old) old new
-  pub bears_now : let s = stage_behind run lines text old in IsTrue s.table.is_started → AtNow (BearsTime run s (replies_of lines) new) new
-  pub behind_end : IsTrue (stage_behind run lines text old).table.is_ended → IsStopBehindEnd stop
+  pub bad : IsBadAfter tells lines text new.script → (stop ≡ BadLine (length lines + 1)) ⊎ ((stop ≡ ConsoleFault) × (has_feed text ≡ false))
+  pub of_bad : (n : ℕ) → stop ≡ BadLine n → (n ≡ length lines + 1) × IsBadAfter tells lines text new.script
+  pub spent : status ≡ 24 → AreOwnSpent run (stage_after_text run lines text old) old new
+  pub bears_now : let s = stage_after_text run lines text old in IsTrue s.table.is_started → AtNow (BearsTime run s (replies_of lines) new) new
+  pub after_end : IsTrue (stage_after_text run lines text old).table.is_ended → IsStopAfterEnd stop
 
 -- ---- the whole
 
--- A line is the one that was heard whole behind the answered ones, if there is one.
-abbrev pub IsHeardBehind : ScriptRun → List Answered → (old new : PlantState) → Option Line → Type 0
-IsHeardBehind run lines old new heard = (text : List ℕ) × (new.heard new.clock ≡ old.heard old.clock ++ (texts_of lines ++ text)) × ((stage_behind run lines text old).next ≡ heard)
+-- A line is the one that was heard whole after the answered ones, if there is one.
+abbrev pub IsHeardAfter : ScriptRun → List Answered → (old new : PlantState) → Option Line → Type 0
+IsHeardAfter run lines old new heard = (text : List ℕ) × (new.heard new.clock ≡ old.heard old.clock ++ (texts_of lines ++ text)) × ((stage_after_text run lines text old).next ≡ heard)
 
 -- What a session has done when its run ends with a status: over the traces of what the sources gave, the labels that volumes had, and as many
 -- faults of volumes as their counts rose by, it answered these lines, and its devices went this way.
@@ -124,16 +124,16 @@ pub record Ran (tells : Type 0) (session : List ℕ) (sources : List SourceBytes
   pub unstarted : trail.started ≡ 0 → trail.points ≡ []
   pub begun : HasBegunTrail run lines trail
   -- From the start's reply on the devices go from point to point and never back.
-  pub goes_forth : 0 < old.clock → 0 < trail.started → (heard : Option Line) × IsHeardBehind run lines old new heard × ((next : Option Point) × GoesForth run lines heard trail next old new)
+  pub goes_forth : 0 < old.clock → 0 < trail.started → (heard : Option Line) × IsHeardAfter run lines old new heard × ((next : Option Point) × GoesForth run lines heard trail next old new)
   -- So they stand at its end, also on a plant that keeps no past.
-  pub on_trail : 0 < trail.started → (heard : Option Line) × IsHeardBehind run lines old new heard × ((next : Option Point) × StandsOnTrail run lines heard trail next new)
-  -- From the first byte of the reply to a line behind which the session has ended, all stays applied and marked, to the end of the run.
+  pub on_trail : 0 < trail.started → (heard : Option Line) × IsHeardAfter run lines old new heard × ((next : Option Point) × StandsOnTrail run lines heard trail next new)
+  -- From the first byte of the reply to a line after which the session has ended, all stays applied and marked, to the end of the run.
   pub applied : StaysApplied run lines old new
   -- Of the volumes only the slots of pairs that had a row are written.
   pub volumes : ChangesRows (rows_passed trail.points) old new
   -- Done: the script was heard to its end, so much was said, and all is applied.
   pub done : status ≡ 0 → IsRunDone run lines trail old new
-  -- Not done: the line of the status was said behind the replies. 4 is a bad line, and nothing else.
+  -- Not done: the line of the status was said after the replies. 4 is a bad line, and nothing else.
   pub stopped : status ≢ 0 → StopsWith tells run lines old new status
 
 -- What is so where a run of a session over lanes that had no readers has ended with a status. What it says of what was heard and of what a crash

@@ -60,7 +60,7 @@ pub fn xrc<R: Threads + Wait + Sync, S: Source + Send, P: Plant>(
     ensures refused { result ≡ 2 → SaysLineOnly P.tells BadWordsStop (P.state plant.old) (P.state plant.new) result }
     ensures traces { ((session : List ℕ) (storage : ℕ) → asked_by_words (map string_bytes words.now) ≢ Some (RunAsked session storage)) → traces.new ≡ traces.old }
 
-    // With the words of a run: what opens it, what a start leaves before its answer, that each moment behind it bears one time, what was
+    // With the words of a run: what opens it, what a start leaves before its answer, that each moment after it bears one time, what was
     // said, what holds where it is done, and each status with its cause and its line.
     ensures ran { (session : List ℕ) (storage : ℕ) → asked_by_words (map string_bytes words.now) ≡ Some (RunAsked session storage) → EndsScriptRun P.tells P.state S.left S.faults session storage traces.old.items traces.new.items plant.old plant.new result }
 

@@ -32,7 +32,7 @@ pulled {A} key x rest (y ∷ items) e =
           record { front = y ∷ tail.front; back = tail.back; whole = ap (λ (t : List A). y ∷ t) tail.whole; others = simp is tail.others; same = tail.same }
     ]
 
--- An item may be put in before items of other keys or behind them.
+-- An item may be put in before items of other keys or after them.
 put_past : {A : Type 0} (below : A → A → Bool) → IsOrder below → (key : A → ℕ) → ((a b : A) → (key a == key b) ≡ false → below a b ≡ false → below b a ≡ true)
     → (x : A) (front back : List A) → of_key key (key x) front ≡ [] → in_order below (front ++ x ∷ back) ≡ put_in_order below x (in_order below (front ++ back))
 put_past below order key apart x [] back e = refl

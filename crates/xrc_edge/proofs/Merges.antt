@@ -12,19 +12,19 @@ below_through below order a b c ab bc =
 
 -- ---- one more item
 
--- An item goes behind the last that it isn't below.
-abbrev pub put_behind : {A : Type 0} → (below : A → A → Bool) → A → List A → List A
-put_behind below e [] = e ∷ []
-put_behind below e (b ∷ items) = cond (below e b) (e ∷ b ∷ items) (b ∷ put_behind below e items)
+-- An item goes after the last that it isn't below.
+abbrev pub put_after : {A : Type 0} → (below : A → A → Bool) → A → List A → List A
+put_after below e [] = e ∷ []
+put_after below e (b ∷ items) = cond (below e b) (e ∷ b ∷ items) (b ∷ put_after below e items)
 
--- An item that goes before others and one that goes behind them may be put in either way.
-front_and_behind : {A : Type 0} (below : A → A → Bool) → IsOrder below → (a e : A) (items : List A) → put_in_order below a (put_behind below e items) ≡ put_behind below e (put_in_order below a items)
-front_and_behind below order a e [] = elim (cases_Bool (below e a)) [ inl ea ↦ simp ea | inr ea ↦ simp ea ]
-front_and_behind below order a e (b ∷ items) =
+-- An item that goes before others and one that goes after them may be put in either way.
+front_and_after : {A : Type 0} (below : A → A → Bool) → IsOrder below → (a e : A) (items : List A) → put_in_order below a (put_after below e items) ≡ put_after below e (put_in_order below a items)
+front_and_after below order a e [] = elim (cases_Bool (below e a)) [ inl ea ↦ simp ea | inr ea ↦ simp ea ]
+front_and_after below order a e (b ∷ items) =
     elim (cases_Bool (below b a)) [
       | inl ba ↦ elim (cases_Bool (below e b)) [
         | inl eb ↦ let ea = below_through below order e b a eb ba in simp (ba, eb, ea)
-        | inr eb ↦ simp (ba, eb, front_and_behind below order a e items)
+        | inr eb ↦ simp (ba, eb, front_and_after below order a e items)
       ]
       | inr ba ↦ elim (cases_Bool (below e b)) [
         | inl eb ↦ elim (cases_Bool (below e a)) [ inl ea ↦ simp (ba, eb, ea) | inr ea ↦ simp (ba, eb, ea) ]
@@ -32,16 +32,16 @@ front_and_behind below order a e (b ∷ items) =
       ]
     ]
 
-pub order_one_more : {A : Type 0} (below : A → A → Bool) → IsOrder below → (items : List A) (e : A) → in_order below (items ++ e ∷ []) ≡ put_behind below e (in_order below items)
+pub order_one_more : {A : Type 0} (below : A → A → Bool) → IsOrder below → (items : List A) (e : A) → in_order below (items ++ e ∷ []) ≡ put_after below e (in_order below items)
 order_one_more below order [] e = refl
 order_one_more below order (a ∷ items) e =
-    ap (put_in_order below a) (order_one_more below order items e) ∙ front_and_behind below order a e (in_order below items)
+    ap (put_in_order below a) (order_one_more below order items e) ∙ front_and_after below order a e (in_order below items)
 
 -- ---- the place of one more item
 
 put_at : {A : Type 0} (below : A → A → Bool) (e : A) (items : List A) (i : ℕ) → i ≤ length items
     → ((k : ℕ) → k < i → below e (get_or items k e) ≡ false) → (i < length items → below e (get_or items i e) ≡ true)
-    → put_behind below e items ≡ take i items ++ e ∷ drop i items
+    → put_after below e items ≡ take i items ++ e ∷ drop i items
 put_at below e [] zero le before at = refl
 put_at below e [] (suc i) le before at = absurd (omega arith)
 put_at below e (b ∷ items) zero le before at = let eb : below e b ≡ true = at (omega arith) in simp eb
@@ -55,7 +55,7 @@ pub order_put_at : {A : Type 0} (below : A → A → Bool) → IsOrder below →
     → ((k : ℕ) → k < i → below e (get_or items k e) ≡ false) → (i < length items → below e (get_or items i e) ≡ true)
     → in_order below (items ++ e ∷ []) ≡ take i items ++ e ∷ drop i items
 order_put_at below order e items i ordered le before at =
-    order_one_more below order items e ∙ ap (put_behind below e) (order_stays below items ordered) ∙ put_at below e items i le before at
+    order_one_more below order items e ∙ ap (put_after below e) (order_stays below items ordered) ∙ put_at below e items i le before at
 
 -- ---- more items
 

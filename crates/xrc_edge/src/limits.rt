@@ -1,10 +1,10 @@
 //! The limits of a session, of its site, of its script and of its traces. Each is said here alone. What follows from a format stands with
 //! that format.
 
-/// The most controls of a session, which has one trace for each.
+/// The most controllers of a session, which has one trace for each.
 pub const MOST_CONTROLS: usize = 16;
 
-/// The most volumes of a control: as many as the header of its trace may name.
+/// The most volumes of a controller: as many as the header of its trace may name.
 pub const MOST_CONTROL_VOLUMES: u16 = 32;
 
 /// The most volumes of a site. Arrays with a place for each device are that long, so no call takes memory for them.
@@ -22,7 +22,7 @@ pub const MOST_CYLINDERS: u16 = 65_520;
 /// A cylinder has this many tracks.
 pub const TRACKS_OF_CYLINDER: u32 = 15;
 
-/// The most bytes of a trace that are read: a field that ends behind them is cut there.
+/// The most bytes of a trace that are read: a field that ends after them is cut there.
 pub const LONGEST_TRACE: u64 = 1 << 40;
 
 /// The most lines of a script.

@@ -12,7 +12,7 @@ pub trait Source {
     ghost faults: { Self → ℕ };
 
     /// Puts the next bytes at the front of `into`, and says how many: none at the end alone, which is told again at each
-    /// later pull. A pull fails only where it raised the count of faults; it then gives nothing. What stands in `into` behind
+    /// later pull. A pull fails only where it raised the count of faults; it then gives nothing. What stands in `into` after
     /// the bytes given is free.
     fn pull(&mut self, into: &mut [u8]) -> Result<usize, Failed>
         requires { 0 < length into.old }

@@ -15,9 +15,9 @@ use Rattle.xrc_journal.specs.Appending.{PutsRecord}
 zero_is_not : (n : ℕ) → n ≡ 0 → n ≢ 1
 zero_is_not n e = omega (arith, e)
 
--- the byte behind a front that stands at a place
-byte_behind : (place : ℕ) (c front rest : List ℕ) (n : ℕ) → drop place c ≡ front ++ rest → n ≡ place + length front → slice_index c n ≡ slice_index rest 0
-byte_behind place c front rest n is end =
+-- the byte after a front that stands at a place
+byte_after : (place : ℕ) (c front rest : List ℕ) (n : ℕ) → drop place c ≡ front ++ rest → n ≡ place + length front → slice_index c n ≡ slice_index rest 0
+byte_after place c front rest n is end =
     let whole : n ≡ place + (length front + 0) = omega (arith, end) in
     ap (λ (k : ℕ). slice_index c k) whole ∙ sym (get_or-drop place c (length front + 0) 0) ∙ ap (λ (l : List ℕ). slice_index l (length front + 0)) is ∙ get_or-append-add front rest 0 0
 
@@ -33,11 +33,11 @@ module _ (at : Spot) (g : Logged) where
   abbrev pub behind_gate : List ℕ
   behind_gate = group_spelling at.number g.time g.items ++ 0 ∷ []
 
-  pub behind_length : length behind_gate ≡ length (body_spelling g.items) + 22
-  behind_length = omega (arith, length-append (group_spelling at.number g.time g.items) (0 ∷ []), length-append (record_header_spelling 1 at.number g.time (length (body_spelling g.items))) (body_spelling g.items))
+  pub after_length : length behind_gate ≡ length (body_spelling g.items) + 22
+  after_length = omega (arith, length-append (group_spelling at.number g.time g.items) (0 ∷ []), length-append (record_header_spelling 1 at.number g.time (length (body_spelling g.items))) (body_spelling g.items))
 
   pub range_torn : (b c : List ℕ) → Torn at.place (1 + length behind_gate) b c → Torn at.place (length (body_spelling g.items) + 23) b c
-  range_torn b c torn = subst (λ (n : ℕ). Torn at.place n b c) (omega (arith, behind_length)) torn
+  range_torn b c torn = subst (λ (n : ℕ). Torn at.place n b c) (omega (arith, after_length)) torn
 
   module _ (c : List ℕ) (stands : HasRecordAt at.place behind_gate c) where
     all : drop at.place c ≡ (1 ∷ group_spelling at.number g.time g.items) ++ 0 ∷ stands.0
@@ -47,7 +47,7 @@ module _ (at : Spot) (g : Logged) where
     group_stands = (0 ∷ stands.0, all)
 
     pub next_shut : slice_index c (at.place + 22 + length (body_spelling g.items)) ≢ 1
-    next_shut = zero_is_not _ (byte_behind at.place c (1 ∷ group_spelling at.number g.time g.items) (0 ∷ stands.0) (at.place + 22 + length (body_spelling g.items)) all
+    next_shut = zero_is_not _ (byte_after at.place c (1 ∷ group_spelling at.number g.time g.items) (0 ∷ stands.0) (at.place + 22 + length (body_spelling g.items)) all
         (omega (arith, length-append (record_header_spelling 1 at.number g.time (length (body_spelling g.items))) (body_spelling g.items))))
 
   module _ (form : Form) (may : MayPut form at g) (size : ℕ) (b c : List ℕ) (puts : PutsRecord size (22 + length (body_spelling g.items) + 24) at.place behind_gate b c) (gate : slice_index c at.place ≡ 1) where

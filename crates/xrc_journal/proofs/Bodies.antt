@@ -4,7 +4,7 @@ use Rattle.std.proofs.lemmas.Bool.{lt-ltb}
 use Rattle.std.proofs.lemmas.List.{take_at, drop_at, get_or-drop, length-replicate}
 use Rattle.crash_plant.specs.Bytes.{patched}
 use Rattle.crash_plant.proofs.Patches.{patched_torn, patched_twice}
-use Rattle.xrc_journal.specs.Items.{Item, Form, Earlier, none_earlier, behind, behind_all, anywhere, may_draw, is_item, are_items_behind, item_spelling, body_spelling}
+use Rattle.xrc_journal.specs.Items.{Item, Form, Earlier, none_earlier, earlier_after, earlier_after_all, anywhere, may_draw, is_item, are_items_after, item_spelling, body_spelling}
 use Rattle.xrc_journal.specs.Reading.{Items}
 use Rattle.ckd_track.specs.declared.rec.Rec.{Rec}
 use Rattle.ckd_track.specs.Tracks.{is_track}
@@ -17,14 +17,14 @@ pub body_push : (items : List Item) (item : Item) → body_spelling (items ++ it
 body_push [] item = append-nil (item_spelling item)
 body_push (i ∷ items) item = ap (λ (l : List ℕ). item_spelling i ++ l) (body_push items item) ∙ sym (append_assoc (item_spelling i) (body_spelling items) (item_spelling item))
 
-pub are_push : (form : Form) (earlier : Earlier) (items : List Item) (item : Item) → are_items_behind form earlier items ≡ true → is_item form (behind_all items earlier) item ≡ true → are_items_behind form earlier (items ++ item ∷ []) ≡ true
+pub are_push : (form : Form) (earlier : Earlier) (items : List Item) (item : Item) → are_items_after form earlier items ≡ true → is_item form (earlier_after_all items earlier) item ≡ true → are_items_after form earlier (items ++ item ∷ []) ≡ true
 are_push form earlier [] item are is = and_true (is_item form earlier item) true is refl
 are_push form earlier (i ∷ items) item are is =
-    let parts = both_true (is_item form earlier i) (are_items_behind form (behind i earlier) items) are in
-    and_true (is_item form earlier i) (are_items_behind form (behind i earlier) (items ++ item ∷ [])) parts.0 (are_push form (behind i earlier) items item parts.1 is)
+    let parts = both_true (is_item form earlier i) (are_items_after form (earlier_after i earlier) items) are in
+    and_true (is_item form earlier i) (are_items_after form (earlier_after i earlier) (items ++ item ∷ [])) parts.0 (are_push form (earlier_after i earlier) items item parts.1 is)
 
 -- items that are spelled at the front
-pub items_are : (items : List Item) (bytes : List ℕ) → are_items_behind anywhere none_earlier items ≡ true → bytes ≡ body_spelling items → items_of bytes ≡ items
+pub items_are : (items : List Item) (bytes : List ℕ) → are_items_after anywhere none_earlier items ≡ true → bytes ≡ body_spelling items → items_of bytes ≡ items
 items_are items bytes are spelled = ap (λ (l : List ℕ). items_of l) spelled ∙ ap (λ (r : Items). r.good) (bodies_again anywhere 0 items are)
 
 -- a buffer with other bytes, of which the first are used
@@ -32,11 +32,11 @@ pub record Holds (used : ℕ) (buffer : List ℕ) (items : List Item) (room : �
   pub holds : HoldsItems used buffer
   pub seen : held_in used buffer ≡ record { items = items; room = room }
 
-pub holds_by : (items : List Item) (used : ℕ) (buffer : List ℕ) → are_items_behind anywhere none_earlier items ≡ true → used + 1 ≤ length buffer → take used buffer ≡ body_spelling items → slice_index buffer used ≡ 0 → Holds used buffer items (length buffer - 1)
+pub holds_by : (items : List Item) (used : ℕ) (buffer : List ℕ) → are_items_after anywhere none_earlier items ≡ true → used + 1 ≤ length buffer → take used buffer ≡ body_spelling items → slice_index buffer used ≡ 0 → Holds used buffer items (length buffer - 1)
 holds_by items used buffer are within spelled shut =
     let is = items_are items (take used buffer) are spelled in
     record {
-      holds = record { within = within; shut = shut; keep = subst (λ (l : List Item). are_items_behind anywhere none_earlier l ≡ true) (sym is) are; spelled = spelled ∙ ap body_spelling (sym is) };
+      holds = record { within = within; shut = shut; keep = subst (λ (l : List Item). are_items_after anywhere none_earlier l ≡ true) (sym is) are; spelled = spelled ∙ ap body_spelling (sym is) };
       seen = ap (λ (l : List Item). let h : BodyState = record { items = l; room = length buffer - 1 } in h) is;
     }
 
@@ -65,7 +65,7 @@ module _ (place : ℕ) (bytes old new : List ℕ) (fits : place + length bytes +
   put_size = (patched_torn place (bytes ++ 0 ∷ []) old new (omega (arith, fits, length-append bytes (0 ∷ []))) is).size
 
 -- one item more
-pub holds_more : (item : Item) (used : ℕ) (bytes old new : List ℕ) → HoldsItems used old → is_item anywhere (behind_all (items_of (take used old)) none_earlier) item ≡ true → bytes ≡ item_spelling item → used + length bytes + 1 ≤ length old
+pub holds_more : (item : Item) (used : ℕ) (bytes old new : List ℕ) → HoldsItems used old → is_item anywhere (earlier_after_all (items_of (take used old)) none_earlier) item ≡ true → bytes ≡ item_spelling item → used + length bytes + 1 ≤ length old
     → new ≡ patched used (bytes ++ 0 ∷ []) old → Holds (used + length bytes) new (items_of (take used old) ++ item ∷ []) (length old - 1)
 holds_more item used bytes old new held is spelled fits put =
     let items = items_of (take used old) in
@@ -106,7 +106,7 @@ pub record PutIn (item : Item) (held : BodyState) (used : ℕ) (old new : List �
   pub holds : HoldsItems used new
   pub seen : held_in used new ≡ with_item item held
 
-pub put_in : (item : Item) (held : BodyState) (used : ℕ) (front back old new : List ℕ) → held ≡ held_in used old → HoldsItems used old → is_item anywhere (behind_all held.items none_earlier) item ≡ true → front ++ back ≡ item_spelling item
+pub put_in : (item : Item) (held : BodyState) (used : ℕ) (front back old new : List ℕ) → held ≡ held_in used old → HoldsItems used old → is_item anywhere (earlier_after_all held.items none_earlier) item ≡ true → front ++ back ≡ item_spelling item
     → length (body_spelling held.items) + length front + length back ≤ held.room → new ≡ patched used (front ++ back ++ 0 ∷ []) old → PutIn item held (used + (length front + length back)) old new
 put_in item held used front back old new view holds is spelled fits put =
     let items_is : held.items ≡ items_of (take used old) = ap (λ (h : BodyState). h.items) view in
@@ -114,7 +114,7 @@ put_in item held used front back old new view holds is spelled fits put =
     let used_is : length (body_spelling held.items) ≡ used = ap (λ (l : List Item). length (body_spelling l)) items_is ∙ sym (ap length holds.spelled) ∙ omega (arith, holds.within, length-take used old) in
     let len = length-append front back in
     let within : used + length (front ++ back) + 1 ≤ length old = omega (arith, fits, used_is, room_is, len, holds.within) in
-    let more = holds_more item used (front ++ back) old new holds (ap (λ (l : List Item). is_item anywhere (behind_all l none_earlier) item) (sym items_is) ∙ is) spelled within put in
+    let more = holds_more item used (front ++ back) old new holds (ap (λ (l : List Item). is_item anywhere (earlier_after_all l none_earlier) item) (sym items_is) ∙ is) spelled within put in
     let end : used + length (front ++ back) ≡ used + (length front + length back) = omega (arith, len) in
     record {
       size = put_size used (front ++ back) old new within put;
@@ -126,8 +126,8 @@ put_in item held used front back old new view holds is spelled fits put =
 pub image_next : (items : List Item) (device track : ℕ) (recs : List Rec) (bytes : List ℕ) → are_late items ≡ false → have_image items device track ≡ false → device < 2 ^ 16 → track < 2 ^ 32 → is_track recs ≡ true → bytes ≡ item_spelling (Image device track recs) → IsNextItem items bytes
 image_next items device track recs bytes early first device_fits track_fits are spelled = record {
   item = Image device track recs;
-  keeps = and_true (not (are_late items) && nat_lt device (2 ^ 16) && nat_lt track (2 ^ 32) && may_draw anywhere (behind_all items none_earlier) device track) (is_track recs)
-      (and_true (not (are_late items) && nat_lt device (2 ^ 16) && nat_lt track (2 ^ 32)) (may_draw anywhere (behind_all items none_earlier) device track)
+  keeps = and_true (not (are_late items) && nat_lt device (2 ^ 16) && nat_lt track (2 ^ 32) && may_draw anywhere (earlier_after_all items none_earlier) device track) (is_track recs)
+      (and_true (not (are_late items) && nat_lt device (2 ^ 16) && nat_lt track (2 ^ 32)) (may_draw anywhere (earlier_after_all items none_earlier) device track)
       (and_true (not (are_late items) && nat_lt device (2 ^ 16)) (nat_lt track (2 ^ 32)) (and_true (not (are_late items)) (nat_lt device (2 ^ 16)) (ap not early) (lt-ltb device (2 ^ 16) device_fits)) (lt-ltb track (2 ^ 32) track_fits))
       (ap not first)) are;
   spelled = spelled;

@@ -23,7 +23,7 @@ fault_grows among old new set is rose others = record {
   others = λ d none. others d (none set refl);
 }
 
--- Counts stay in a call that doesn't fail and in one behind it, but for those of that one's device.
+-- Counts stay in a call that doesn't fail and in one after it, but for those of that one's device.
 pub counts_still : (device : Device) (old mid new : PlantState) → ((d : Device) → ¬ (d ≡ device) → mid.faults d ≡ old.faults d) → mid.faults device ≡ old.faults device → (other : Device) → ((d : Device) → ¬ (d ≡ other) → new.faults d ≡ mid.faults d)
     → (d : Device) → ¬ (d ≡ other) → new.faults d ≡ old.faults d
 counts_still device old mid new first same other then d not = elim (device_cases d device) [

@@ -14,7 +14,7 @@ use Rattle.ckd_track.specs.Entries.{tag_of, kind_spelling, delta_spelling, chang
 use Rattle.ckd_track.specs.Images.{record_spelling, records_at}
 use Rattle.ckd_track.proofs.ImageLaws.{records_again, records_take}
 use Rattle.xrc_journal.specs.Deltas.{as_body_field, body_format_at, change_at}
-use Rattle.xrc_journal.proofs.Fields.{both_true, and_true, given_is, one_byte, byte_again, field_ok, behind_takes}
+use Rattle.xrc_journal.proofs.Fields.{both_true, and_true, given_is, one_byte, byte_again, field_ok, after_takes}
 use Rattle.ckd_track.specs.Fields.{update_at}
 
 -- ---- read again
@@ -48,7 +48,7 @@ format_again place low recs rest ok =
     let three = records_back (place + 1 + 1) low recs rest are.0 are.1 in
     rw (one, two, three) refl
 
--- a change behind its tag
+-- a change after its tag
 update_tagged : (place : ℕ) (fields : List ℕ) → change_at (at_place place (2 ∷ fields)) ≡ update_at (at_place (place + 1) fields)
 unfolding change_at
 update_tagged place fields = rw (byte_again (within 2 3) place 2 fields refl) refl
@@ -108,7 +108,7 @@ format_takes left kind next fits e =
     let recs = three.0.0 in
     let read = field_ok two.0.1 (records_at two.0.0 two.0.1.place one.0.0 capacity two.0.1.bytes) recs three.0.1 three.1 in
     let taken = records_take two.0.0 two.0.1.place one.0.0 capacity two.0.1.bytes recs read.0 count.takes.rest_bytes read.1 in
-    let body = subst (λ (n : Left). Takes two.0.1 (flat_map record_spelling recs) n) read.2 (behind_takes two.0.1 (flat_map record_spelling recs) read.0 count.takes.rest_bytes taken.parts) in
+    let body = subst (λ (n : Left). Takes two.0.1 (flat_map record_spelling recs) n) read.2 (after_takes two.0.1 (flat_map record_spelling recs) read.0 count.takes.rest_bytes taken.parts) in
     let whole = Takes-then left (to_be_bytes w8 one.0.0 ++ to_be_bytes w8 two.0.0) two.0.1 (flat_map record_spelling recs) three.0.1
     (Takes-then left (to_be_bytes w8 one.0.0) one.0.1 (to_be_bytes w8 two.0.0) two.0.1 low.takes count.takes) body in
     let spelled : (to_be_bytes w8 one.0.0 ++ to_be_bytes w8 two.0.0) ++ flat_map record_spelling recs ≡ kind_spelling (Format one.0.0 recs) =

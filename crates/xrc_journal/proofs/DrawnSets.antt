@@ -10,7 +10,7 @@ use Rattle.std.specs.Prelude.{IfSome}
 use Rattle.std.specs.Int.{w16, w32, from_be_bytes}
 use Rattle.pair_table.proofs.PutLaws.{number_sym}
 use Rattle.xrc_journal.specs.declared.drawn.DrawnTracks.{DrawnTracks}
-use Rattle.xrc_journal.specs.Items.{Item, Earlier, behind, is_drawn}
+use Rattle.xrc_journal.specs.Items.{Item, Earlier, earlier_after, is_drawn}
 use Rattle.xrc_journal.specs.Items.Item.{Image, Delta, Pair, Gone}
 use Rattle.xrc_journal.specs.Bodies.{BeginsWith}
 use Rattle.xrc_journal.specs.Drawn.{AreDrawn, track_in}
@@ -54,25 +54,25 @@ one_more old new drawn d t updates same device track =
     by_test true b = refl
     by_test false b = refl
 
--- ---- behind an item
+-- ---- after an item
 
 -- the track of an image is in the set
-pub behind_image : (bytes fields : List ℕ) (earlier : Earlier) (known : DrawnTracks) (item : Item) → bytes ≡ 1 ∷ fields → BeginsWith bytes item → AreDrawn known (track_in fields ∷ earlier.drawn) → AreDrawn known (behind item earlier).drawn
-behind_image bytes fields earlier known (Image d x recs) whole b drawn =
+pub after_image : (bytes fields : List ℕ) (earlier : Earlier) (known : DrawnTracks) (item : Item) → bytes ≡ 1 ∷ fields → BeginsWith bytes item → AreDrawn known (track_in fields ∷ earlier.drawn) → AreDrawn known (earlier_after item earlier).drawn
+after_image bytes fields earlier known (Image d x recs) whole b drawn =
     let found = image_fields bytes d x recs b in
     let device : (track_in fields).0 ≡ d = ap (λ (l : List ℕ). from_be_bytes w16 (take 2 (drop 1 l))) (sym whole) ∙ found.0 in
     let track : (track_in fields).1 ≡ x = ap (λ (l : List ℕ). from_be_bytes w32 (take 4 (drop 3 l))) (sym whole) ∙ found.1 in
     subst (λ (t : ℕ × ℕ). AreDrawn known (t ∷ earlier.drawn)) (λ i. (device i, track i)) drawn
-behind_image bytes fields earlier known (Delta d x kind) whole b drawn = absurd (omega (arith, tag_is bytes (Delta d x kind) b, ap (λ (l : List ℕ). slice_index l 0) whole))
-behind_image bytes fields earlier known (Pair row) whole b drawn = absurd (omega (arith, tag_is bytes (Pair row) b, ap (λ (l : List ℕ). slice_index l 0) whole))
-behind_image bytes fields earlier known (Gone d) whole b drawn = absurd (omega (arith, tag_is bytes (Gone d) b, ap (λ (l : List ℕ). slice_index l 0) whole))
+after_image bytes fields earlier known (Delta d x kind) whole b drawn = absurd (omega (arith, tag_is bytes (Delta d x kind) b, ap (λ (l : List ℕ). slice_index l 0) whole))
+after_image bytes fields earlier known (Pair row) whole b drawn = absurd (omega (arith, tag_is bytes (Pair row) b, ap (λ (l : List ℕ). slice_index l 0) whole))
+after_image bytes fields earlier known (Gone d) whole b drawn = absurd (omega (arith, tag_is bytes (Gone d) b, ap (λ (l : List ℕ). slice_index l 0) whole))
 
 -- no other item draws a track
-pub behind_other : (bytes fields : List ℕ) (tag : ℕ) (earlier : Earlier) (known : DrawnTracks) (item : Item) → tag ≢ 1 → bytes ≡ tag ∷ fields → BeginsWith bytes item → AreDrawn known earlier.drawn → AreDrawn known (behind item earlier).drawn
-behind_other bytes fields tag earlier known (Image d x recs) other whole b drawn = absurd (other (ap (λ (l : List ℕ). slice_index l 0) (sym whole) ∙ tag_is bytes (Image d x recs) b))
-behind_other bytes fields tag earlier known (Delta d x kind) other whole b drawn = drawn
-behind_other bytes fields tag earlier known (Pair row) other whole b drawn = drawn
-behind_other bytes fields tag earlier known (Gone d) other whole b drawn = drawn
+pub after_other : (bytes fields : List ℕ) (tag : ℕ) (earlier : Earlier) (known : DrawnTracks) (item : Item) → tag ≢ 1 → bytes ≡ tag ∷ fields → BeginsWith bytes item → AreDrawn known earlier.drawn → AreDrawn known (earlier_after item earlier).drawn
+after_other bytes fields tag earlier known (Image d x recs) other whole b drawn = absurd (other (ap (λ (l : List ℕ). slice_index l 0) (sym whole) ∙ tag_is bytes (Image d x recs) b))
+after_other bytes fields tag earlier known (Delta d x kind) other whole b drawn = drawn
+after_other bytes fields tag earlier known (Pair row) other whole b drawn = drawn
+after_other bytes fields tag earlier known (Gone d) other whole b drawn = drawn
 
 pub then_there : {P Q : Type 0} (r : Option ℕ) → IfSome r (λ n. P) → (P → Q) → IfSome r (λ n. Q)
 then_there (Some n) p then = then p

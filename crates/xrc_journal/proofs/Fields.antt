@@ -48,9 +48,9 @@ IsBytes-front front rest fits = subst (λ (t : List ℕ). IsBytes t) (take_at fr
 
 -- ---- images
 
--- what is left behind so many bytes
-abbrev pub behind_these : Left → List ℕ → Left
-behind_these left rest = record { place = left.place + (length left.bytes - length rest); bytes = rest }
+-- what is left after so many bytes
+abbrev pub after_these : Left → List ℕ → Left
+after_these left rest = record { place = left.place + (length left.bytes - length rest); bytes = rest }
 
 pub image_back : (place : ℕ) (track : List Rec) (rest : List ℕ) → is_track track ≡ true → body_image_field (at_place place (image track ++ rest)) ≡ Ok (track, at_place (place + length (image track)) rest)
 image_back place track rest ok =
@@ -59,14 +59,14 @@ image_back place track rest ok =
     rw (again, len) refl
 
 pub field_ok : (left : Left) (read : Result (List Rec × List ℕ) ImageError) (recs : List Rec) (next : Left) → as_body_field left read ≡ Ok (recs, next)
-    → (rest : List ℕ) × (read ≡ Ok (recs, rest)) × (behind_these left rest ≡ next)
+    → (rest : List ℕ) × (read ≡ Ok (recs, rest)) × (after_these left rest ≡ next)
 field_ok left (Ok found) recs next e =
-    let is = given_is (found.0, behind_these left found.1) (recs, next) e in
+    let is = given_is (found.0, after_these left found.1) (recs, next) e in
     (found.1, ap (λ (t : List Rec). Ok (t, found.1)) (ap (λ (p : List Rec × Left). p.0) is), ap (λ (p : List Rec × Left). p.1) is)
 field_ok left (Err bad) recs next e = absurd cc
 
-pub behind_takes : (left : Left) (text rest : List ℕ) → IsBytes left.bytes → left.bytes ≡ text ++ rest → Takes left text (behind_these left rest)
-behind_takes left text rest fits e = record {
+pub after_takes : (left : Left) (text rest : List ℕ) → IsBytes left.bytes → left.bytes ≡ text ++ rest → Takes left text (after_these left rest)
+after_takes left text rest fits e = record {
   parts = e;
   place = omega (arith, ap length e, length-append text rest);
   rest_bytes = IsBytes-rest text rest (subst (λ (t : List ℕ). IsBytes t) e fits);
@@ -77,7 +77,7 @@ pub image_takes : (left : Left) (track : List Rec) (next : Left) → IsBytes lef
 image_takes left track next fits e =
     let read = field_ok left (image_at left.bytes) track next e in
     let taken = image_taken left.bytes read.0 track fits read.1 in
-    (subst (λ (n : Left). Takes left (image track) n) read.2 (behind_takes left (image track) read.0 fits taken.1), taken.0)
+    (subst (λ (n : Left). Takes left (image track) n) read.2 (after_takes left (image track) read.0 fits taken.1), taken.0)
 
 -- ---- rows
 

@@ -6,7 +6,7 @@ use Rattle.std.proofs.lemmas.List.{take_all, take_at, drop_at}
 use Rattle.tod_stamp.specs.Fields.{IsBytes, Left, Bad}
 use Rattle.tod_stamp.proofs.FieldLaws.{at_place, IsBytes-drop}
 use Rattle.ckd_track.specs.Tracks.{is_track}
-use Rattle.xrc_journal.specs.Items.{Item, Form, Earlier, none_earlier, behind, behind_all, anywhere, may_draw, is_drawn, is_item, are_items_behind, item_spelling, body_spelling}
+use Rattle.xrc_journal.specs.Items.{Item, Form, Earlier, none_earlier, earlier_after, earlier_after_all, anywhere, may_draw, is_drawn, is_item, are_items_after, item_spelling, body_spelling}
 use Rattle.xrc_journal.specs.Items.Item.{Image, Delta, Pair, Gone}
 use Rattle.xrc_journal.specs.Reading.{Items, item_at, no_items, first_and_rest, items_from, items_at}
 use Rattle.xrc_journal.specs.Bodies.{items_of, BeginsWith, IsBody, GoodFront, are_late, earlier_of}
@@ -15,7 +15,7 @@ use Rattle.xrc_journal.proofs.Fields.{both_true, and_true, some_is}
 use Rattle.xrc_journal.proofs.ItemsAgain.{items_again, bodies_again, first_is, some_bytes, image_rules}
 use Rattle.xrc_journal.proofs.ItemsRead.{item_takes}
 use Rattle.xrc_journal.proofs.Bodies.{body_push, are_push, items_are}
-use Rattle.xrc_journal.proofs.Scans.{behind_push}
+use Rattle.xrc_journal.proofs.Scans.{after_push}
 
 -- ---- the rules of a form are those of any tracks
 
@@ -37,11 +37,11 @@ item_anywhere form earlier (Delta device track kind) no_deltas is = absurd (bad 
 item_anywhere form earlier (Pair row) no_deltas is = is
 item_anywhere form earlier (Gone device) no_deltas is = is
 
-pub are_anywhere : (form : Form) (earlier : Earlier) (items : List Item) → form.deltas ≡ false → are_items_behind form earlier items ≡ true → are_items_behind anywhere earlier items ≡ true
+pub are_anywhere : (form : Form) (earlier : Earlier) (items : List Item) → form.deltas ≡ false → are_items_after form earlier items ≡ true → are_items_after anywhere earlier items ≡ true
 are_anywhere form earlier [] no_deltas are = refl
 are_anywhere form earlier (i ∷ items) no_deltas are =
-    let parts = both_true (is_item form earlier i) (are_items_behind form (behind i earlier) items) are in
-    and_true (is_item anywhere earlier i) (are_items_behind anywhere (behind i earlier) items) (item_anywhere form earlier i no_deltas parts.0) (are_anywhere form (behind i earlier) items no_deltas parts.1)
+    let parts = both_true (is_item form earlier i) (are_items_after form (earlier_after i earlier) items) are in
+    and_true (is_item anywhere earlier i) (are_items_after anywhere (earlier_after i earlier) items) (item_anywhere form earlier i no_deltas parts.0) (are_anywhere form (earlier_after i earlier) items no_deltas parts.1)
 
 -- ---- items before one that is bad
 
@@ -52,11 +52,11 @@ bad_first place (Err bad) rest none = refl
 bad_here : (turns : ℕ) (form : Form) (earlier : Earlier) (place : ℕ) (rest : List ℕ) → 1 ≤ length rest → length_of (item_at form earlier (at_place place rest)) ≡ None → items_from (suc turns) form earlier (at_place place rest) ≡ record { good = []; bad = Some place }
 unfolding items_from
 bad_here turns form earlier place rest some none =
-    ap (λ (b : Bool). cond b no_items (first_and_rest place (item_at form earlier (at_place place rest)) (λ i. items_from turns form (behind i.0 earlier) i.1))) (ne_eqb (length rest) 0 (omega (arith, some)))
-    ∙ bad_first place (item_at form earlier (at_place place rest)) (λ i. items_from turns form (behind i.0 earlier) i.1) none
+    ap (λ (b : Bool). cond b no_items (first_and_rest place (item_at form earlier (at_place place rest)) (λ i. items_from turns form (earlier_after i.0 earlier) i.1))) (ne_eqb (length rest) 0 (omega (arith, some)))
+    ∙ bad_first place (item_at form earlier (at_place place rest)) (λ i. items_from turns form (earlier_after i.0 earlier) i.1) none
 
-pub front_again : (turns : ℕ) (form : Form) (earlier : Earlier) (place : ℕ) (items : List Item) (rest : List ℕ) → are_items_behind form earlier items ≡ true → length (body_spelling items ++ rest) ≤ turns → 1 ≤ length rest
-    → length_of (item_at form (behind_all items earlier) (at_place (place + length (body_spelling items)) rest)) ≡ None
+pub front_again : (turns : ℕ) (form : Form) (earlier : Earlier) (place : ℕ) (items : List Item) (rest : List ℕ) → are_items_after form earlier items ≡ true → length (body_spelling items ++ rest) ≤ turns → 1 ≤ length rest
+    → length_of (item_at form (earlier_after_all items earlier) (at_place (place + length (body_spelling items)) rest)) ≡ None
     → items_from turns form earlier (at_place place (body_spelling items ++ rest)) ≡ record { good = items; bad = Some (place + length (body_spelling items)) }
 front_again zero form earlier place [] rest are le some none = absurd (omega (arith, le, some))
 front_again (suc turns) form earlier place [] rest are le some none =
@@ -64,14 +64,14 @@ front_again (suc turns) form earlier place [] rest are le some none =
     bad_here turns form earlier place rest some (ap (λ (n : ℕ). length_of (item_at form earlier (at_place n rest))) (sym here) ∙ none) ∙ ap (λ (n : ℕ). let r : Items = record { good = []; bad = Some n } in r) (sym here)
 front_again zero form earlier place (i ∷ items) rest are le some none = absurd (omega (arith, le, some, length-append (body_spelling (i ∷ items)) rest))
 front_again (suc turns) form earlier place (i ∷ items) rest are le some none =
-    let parts = both_true (is_item form earlier i) (are_items_behind form (behind i earlier) items) are in
+    let parts = both_true (is_item form earlier i) (are_items_after form (earlier_after i earlier) items) are in
     let len = length-append (item_spelling i) (body_spelling items) in
     let next = place + length (item_spelling i) in
     let end : next + length (body_spelling items) ≡ place + length (body_spelling (i ∷ items)) = omega (arith, len) in
     let split = append_assoc (item_spelling i) (body_spelling items) rest in
     let size = length-append (item_spelling i) (body_spelling items ++ rest) in
-    let more = front_again turns form (behind i earlier) next items rest parts.1 (omega (arith, le, some_bytes i, ap length split, size)) some
-    (ap (λ (n : ℕ). length_of (item_at form (behind_all items (behind i earlier)) (at_place n rest))) end ∙ none) in
+    let more = front_again turns form (earlier_after i earlier) next items rest parts.1 (omega (arith, le, some_bytes i, ap length split, size)) some
+    (ap (λ (n : ℕ). length_of (item_at form (earlier_after_all items (earlier_after i earlier)) (at_place n rest))) end ∙ none) in
     ap (λ (l : List ℕ). items_from (suc turns) form earlier (at_place place l)) split
     ∙ first_is turns form earlier (at_place place (item_spelling i ++ (body_spelling items ++ rest))) i (at_place next (body_spelling items ++ rest)) (omega (arith, size, some_bytes i)) (items_again form earlier place i (body_spelling items ++ rest) parts.0)
     ∙ ap (λ (r : Items). let q : Items = record { good = i ∷ r.good; bad = r.bad } in q) more
@@ -81,18 +81,18 @@ front_again (suc turns) form earlier place (i ∷ items) rest are le some none =
 
 pub record ReadsTo (form : Form) (bytes : List ℕ) (n : ℕ) (late : Bool) : Type 0 where
   pub within : n ≤ length bytes
-  pub keep : are_items_behind form none_earlier (items_of (take n bytes)) ≡ true
+  pub keep : are_items_after form none_earlier (items_of (take n bytes)) ≡ true
   pub spelled : take n bytes ≡ body_spelling (items_of (take n bytes))
   pub late_is : late ≡ are_late (items_of (take n bytes))
 
--- the item behind the first n bytes, of that many bytes
+-- the item after the first n bytes, of that many bytes
 pub record OneMore (form : Form) (bytes : List ℕ) (n size : ℕ) : Type 0 where
   pub reads : ReadsTo form bytes (n + size) (not (nat_eq (slice_index (drop n bytes) 0) 1))
   pub some : 1 ≤ size
   pub within : n + size ≤ length bytes
   pub item : Item
   pub begins : BeginsWith (drop n bytes) item
-  pub earlier_is : earlier_of (take (n + size) bytes) ≡ behind item (earlier_of (take n bytes))
+  pub earlier_is : earlier_of (take (n + size) bytes) ≡ earlier_after item (earlier_of (take n bytes))
 
 pub reads_none : (form : Form) (bytes : List ℕ) → ReadsTo form bytes 0 false
 unfolding items_from
@@ -115,7 +115,7 @@ module _ (form : Form) (no_deltas : form.deltas ≡ false) (bytes : List ℕ) (n
         ∙ ap (λ (b : Bool). let q : Items = record { good = items_of (take n bytes); bad = cond b None (Some (place + n)) } in q) (sym (eq-eqb n (length bytes) (omega (arith, all, reads.within))));
   }
 
-  -- a bad item begins behind them
+  -- a bad item begins after them
   pub reads_bad : n < length bytes → ((place : ℕ) → length_of (item_at form (earlier_of (take n bytes)) (at_place place (drop n bytes))) ≡ None) → GoodFront form bytes n
   reads_bad some none = record {
     within = reads.within;
@@ -131,7 +131,7 @@ module _ (form : Form) (no_deltas : form.deltas ≡ false) (bytes : List ℕ) (n
       split : bytes ≡ body_spelling (items_of (take n bytes)) ++ drop n bytes
       split = sym (take-append-drop n bytes) ∙ ap (λ (l : List ℕ). l ++ drop n bytes) reads.spelled
 
-  late_by : (item : Item) → is_item form (earlier_of (take n bytes)) item ≡ true → (drop n bytes ≡ item_spelling item ++ drop (length (item_spelling item)) (drop n bytes)) → not (nat_eq (slice_index (drop n bytes) 0) 1) ≡ (behind item (earlier_of (take n bytes))).late
+  late_by : (item : Item) → is_item form (earlier_of (take n bytes)) item ≡ true → (drop n bytes ≡ item_spelling item ++ drop (length (item_spelling item)) (drop n bytes)) → not (nat_eq (slice_index (drop n bytes) 0) 1) ≡ (earlier_after item (earlier_of (take n bytes))).late
   late_by (Image device track recs) is parts = early_is (earlier_of (take n bytes)).late (image_rules form (earlier_of (take n bytes)) device track recs is).early (slice_index (drop n bytes) 0) (ap (λ (l : List ℕ). slice_index l 0) parts)
     where
       early_is : (late : Bool) → not late ≡ true → (tag : ℕ) → tag ≡ 1 → not (nat_eq tag 1) ≡ late
@@ -157,11 +157,11 @@ module _ (form : Form) (no_deltas : form.deltas ≡ false) (bytes : List ℕ) (n
       let read : items_of (take (n + size) bytes) ≡ items ++ item ∷ [] = items_are (items ++ item ∷ []) (take (n + size) bytes) (are_anywhere form none_earlier (items ++ item ∷ []) no_deltas pushed) front in
       let tail : drop n bytes ≡ item_spelling item ++ drop (length (item_spelling item)) (drop n bytes) = parts ∙ ap (λ (l : List ℕ). item_spelling item ++ l) (sym (ap (λ (l : List ℕ). drop (length (item_spelling item)) l) parts ∙ drop_at (item_spelling item) next.bytes (length (item_spelling item)) refl)) in
       let earlier = earlier_of (take n bytes) in
-      let pushed_is = behind_push items item none_earlier in
+      let pushed_is = after_push items item none_earlier in
       record {
         reads = record {
           within = size_le;
-          keep = ap (λ (l : List Item). are_items_behind form none_earlier l) read ∙ pushed;
+          keep = ap (λ (l : List Item). are_items_after form none_earlier l) read ∙ pushed;
           spelled = front ∙ ap body_spelling (sym read);
           late_is = late_by item taken.kept tail ∙ ap (λ (e : Earlier). e.late) (sym pushed_is) ∙ ap are_late (sym read);
         };
@@ -169,7 +169,7 @@ module _ (form : Form) (no_deltas : form.deltas ≡ false) (bytes : List ℕ) (n
         within = size_le;
         item = item;
         begins = record { earlier = earlier; rest = next.bytes; keeps = item_anywhere form earlier item no_deltas taken.kept; parts = parts };
-        earlier_is = ap (λ (l : List Item). behind_all l none_earlier) read ∙ pushed_is;
+        earlier_is = ap (λ (l : List Item). earlier_after_all l none_earlier) read ∙ pushed_is;
       }
 
   -- one item more

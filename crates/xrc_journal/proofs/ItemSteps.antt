@@ -135,7 +135,7 @@ module _ (form : Form) (earlier : Earlier) (p : ℕ) (fields : List ℕ) (device
 pub short_image : (bytes : List ℕ) (recs : List Rec) (rest : List ℕ) → IsBytes bytes → image_at (take (length bytes - 6) (drop 6 bytes)) ≡ Ok (recs, rest) → length (image recs) ≤ longest_image
 short_image bytes recs rest fits is = length-image recs (image_taken (take (length bytes - 6) (drop 6 bytes)) rest recs (IsBytes-take (length bytes - 6) (drop 6 bytes) (IsBytes-drop 6 bytes fits)) is).0
 
--- ---- behind a tag
+-- ---- after a tag
 
 module _ (form : Form) (earlier : Earlier) (no_deltas : form.deltas ≡ false) (p : ℕ) (fields : List ℕ) where
   tagged : (tag : ℕ) (b : Bool) → is_tag form.deltas earlier.late tag ≡ b
@@ -171,7 +171,7 @@ module _ (form : Form) (earlier : Earlier) (no_deltas : form.deltas ≡ false) (
       by_two true = refl
       by_two false = refl
 
--- bytes that were split behind their tag
+-- bytes that were split after their tag
 pub split_tag : (bytes front fields : List ℕ) (tag : ℕ) → 1 ≤ length bytes → front ≡ take 1 bytes → fields ≡ drop 1 bytes → slice_index front 0 ≡ tag → bytes ≡ tag ∷ fields
 split_tag [] front fields tag some first rest is = absurd (omega (arith, some))
 split_tag (b ∷ bytes) front fields tag some first rest is = let same : b ≡ tag = ap (λ (l : List ℕ). slice_index l 0) (sym first) ∙ is in (λ i. same i ∷ rest' i)

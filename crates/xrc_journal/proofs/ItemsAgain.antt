@@ -13,7 +13,7 @@ use Rattle.ckd_track.specs.Images.{image}
 use Rattle.pair_table.specs.declared.row.PairRow.{PairRow}
 use Rattle.pair_table.specs.Rows.{is_row, row_spelling}
 use Rattle.pair_table.proofs.RowsAgain.{rows_back}
-use Rattle.xrc_journal.specs.Items.{Item, Form, Earlier, none_earlier, behind, may_draw, is_item, are_items_behind, item_spelling, body_spelling, AreItems}
+use Rattle.xrc_journal.specs.Items.{Item, Form, Earlier, none_earlier, earlier_after, may_draw, is_item, are_items_after, item_spelling, body_spelling, AreItems}
 use Rattle.xrc_journal.specs.Items.Item.{Image, Delta, Pair, Gone}
 use Rattle.xrc_journal.specs.Reading.{Items, track_at, image_item_at, delta_item_at, pair_item_at, gone_item_at, is_tag, item_at, items_from, items_at}
 use Rattle.xrc_journal.proofs.Changes.{changes_again}
@@ -96,7 +96,7 @@ tag_delta true true e = absurd cc
 tag_delta true false e = refl
 tag_delta false late e = absurd cc
 
--- each behind its tag
+-- each after its tag
 image_tagged : (form : Form) (earlier : Earlier) (place : ℕ) (fields : List ℕ) → not earlier.late ≡ true → item_at form earlier (at_place place (1 ∷ fields)) ≡ image_item_at form earlier (at_place (place + 1) fields)
 unfolding item_at
 image_tagged form earlier place fields early = rw (byte_again (is_tag form.deltas earlier.late) place 1 fields (tag_early form.deltas earlier.late early)) refl
@@ -139,9 +139,9 @@ items_again form earlier place (Gone device) rest is =
 
 -- ---- bodies
 
--- the first item and what is read behind it
+-- the first item and what is read after it
 pub first_is : (turns : ℕ) (form : Form) (earlier : Earlier) (left : Left) (item : Item) (next : Left) → 1 ≤ length left.bytes → item_at form earlier left ≡ Ok (item, next)
-    → items_from (suc turns) form earlier left ≡ record { good = item ∷ (items_from turns form (behind item earlier) next).good; bad = (items_from turns form (behind item earlier) next).bad }
+    → items_from (suc turns) form earlier left ≡ record { good = item ∷ (items_from turns form (earlier_after item earlier) next).good; bad = (items_from turns form (earlier_after item earlier) next).bad }
 unfolding items_from
 first_is turns form earlier left item next some is = grind (arith, some, is)
 
@@ -151,16 +151,16 @@ some_bytes (Delta device track kind) = omega arith
 some_bytes (Pair row) = omega arith
 some_bytes (Gone device) = omega arith
 
-pub body_again : (turns : ℕ) (form : Form) (earlier : Earlier) (place : ℕ) (items : List Item) → are_items_behind form earlier items ≡ true → length (body_spelling items) ≤ turns
+pub body_again : (turns : ℕ) (form : Form) (earlier : Earlier) (place : ℕ) (items : List Item) → are_items_after form earlier items ≡ true → length (body_spelling items) ≤ turns
     → items_from turns form earlier (at_place place (body_spelling items)) ≡ record { good = items; bad = None }
 unfolding items_from
 body_again zero form earlier place [] are le = refl
 body_again (suc turns) form earlier place [] are le = refl
 body_again zero form earlier place (i ∷ items) are le = absurd (omega (arith, le, some_bytes i, length-append (item_spelling i) (body_spelling items)))
 body_again (suc turns) form earlier place (i ∷ items) are le =
-    let parts = both_true (is_item form earlier i) (are_items_behind form (behind i earlier) items) are in
+    let parts = both_true (is_item form earlier i) (are_items_after form (earlier_after i earlier) items) are in
     let len = length-append (item_spelling i) (body_spelling items) in
-    let rest = body_again turns form (behind i earlier) (place + length (item_spelling i)) items parts.1 (omega (arith, le, len, some_bytes i)) in
+    let rest = body_again turns form (earlier_after i earlier) (place + length (item_spelling i)) items parts.1 (omega (arith, le, len, some_bytes i)) in
     first_is turns form earlier (at_place place (item_spelling i ++ body_spelling items)) i (at_place (place + length (item_spelling i)) (body_spelling items)) (omega (arith, len, some_bytes i)) (items_again form earlier place i (body_spelling items) parts.0)
     ∙ ap (λ (r : Items). record { good = i ∷ r.good; bad = r.bad }) rest
 

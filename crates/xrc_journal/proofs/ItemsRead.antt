@@ -10,7 +10,7 @@ use Rattle.ckd_track.specs.Tracks.{is_track}
 use Rattle.ckd_track.specs.Images.{image}
 use Rattle.pair_table.specs.Rows.{row_at}
 use Rattle.pair_table.proofs.RowReads.{rows_keep, rows_spelled}
-use Rattle.xrc_journal.specs.Items.{AreItems, Item, Form, Earlier, none_earlier, behind, behind_all, may_draw, is_item, are_items_behind, item_spelling, body_spelling}
+use Rattle.xrc_journal.specs.Items.{AreItems, Item, Form, Earlier, none_earlier, earlier_after, earlier_after_all, may_draw, is_item, are_items_after, item_spelling, body_spelling}
 use Rattle.xrc_journal.specs.Items.Item.{Image, Delta, Pair, Gone}
 use Rattle.xrc_journal.specs.Deltas.{change_at}
 use Rattle.xrc_journal.specs.Reading.{Items, track_at, body_image_field, row_or, image_item_at, delta_item_at, pair_item_at, gone_item_at, is_tag, item_at, no_items, first_and_rest, items_from, items_at}
@@ -23,7 +23,7 @@ pub record ItemTaken (form : Form) (earlier : Earlier) (left : Left) (item : Ite
   pub takes : Takes left (item_spelling item) next
   pub kept : is_item form earlier item ≡ true
 
--- ---- each kind, behind its tag
+-- ---- each kind, after its tag
 
 -- what was read as a track of a device
 record TrackTaken (rule : ℕ → ℕ → Bool) (start left : Left) (at : ℕ × ℕ) (next : Left) : Type 0 where
@@ -154,12 +154,12 @@ item_takes form earlier left item next fits e =
 
 -- what was read as the items of a body
 pub record BodyTaken (form : Form) (earlier : Earlier) (left : Left) (items : Items) : Type 0 where
-  pub keep : are_items_behind form earlier items.good ≡ true
+  pub keep : are_items_after form earlier items.good ≡ true
   pub rest : List ℕ
   pub parts : left.bytes ≡ body_spelling items.good ++ rest
   pub all : items.bad ≡ None → rest ≡ []
   pub others : (at : ℕ) → items.bad ≡ Some at → at ≡ left.place + length (body_spelling items.good)
-  pub refused : (at : ℕ) → items.bad ≡ Some at → (item : Item) (more : List ℕ) → is_item form (behind_all items.good earlier) item ≡ true → rest ≢ item_spelling item ++ more
+  pub refused : (at : ℕ) → items.bad ≡ Some at → (item : Item) (more : List ℕ) → is_item form (earlier_after_all items.good earlier) item ≡ true → rest ≢ item_spelling item ++ more
 
 no_bytes : (bytes : List ℕ) → length bytes ≡ 0 → bytes ≡ []
 no_bytes [] len = refl
@@ -172,14 +172,14 @@ ok_or_err : (read : Result (Item × Left) Bad) (found : Item × Left) (bad : Bad
 ok_or_err read found bad is not = absurd cc
 
 first_taken : (form : Form) (earlier : Earlier) (left : Left) (read : Result (Item × Left) Bad) (rest : Item × Left → Items) → IsBytes left.bytes → item_at form earlier left ≡ read
-    → ((i : Item × Left) → IsBytes i.1.bytes → item_at form earlier left ≡ Ok i → BodyTaken form (behind i.0 earlier) i.1 (rest i)) → BodyTaken form earlier left (first_and_rest left.place read rest)
+    → ((i : Item × Left) → IsBytes i.1.bytes → item_at form earlier left ≡ Ok i → BodyTaken form (earlier_after i.0 earlier) i.1 (rest i)) → BodyTaken form earlier left (first_and_rest left.place read rest)
 first_taken form earlier left (Err bad) rest fits is more = record { keep = refl; rest = left.bytes; parts = refl; all = λ none. absurd cc; others = λ at some. omega (arith, some_is left.place at some); refused = λ at some item more keeps spelled. ok_or_err (item_at form earlier left) _ bad ((λ i. item_at form earlier (record { place = left.place; bytes = spelled i })) ∙ items_again form earlier left.place item more keeps) is }
 first_taken form earlier left (Ok i) rest fits is more =
     let first = item_takes form earlier left i.0 i.1 fits is in
     let others = more i first.takes.rest_bytes is in
     let len = length-append (item_spelling i.0) (body_spelling (rest i).good) in
     record {
-      keep = and_true (is_item form earlier i.0) (are_items_behind form (behind i.0 earlier) (rest i).good) first.kept others.keep;
+      keep = and_true (is_item form earlier i.0) (are_items_after form (earlier_after i.0 earlier) (rest i).good) first.kept others.keep;
       rest = others.rest;
       parts = first.takes.parts ∙ ap (λ (t : List ℕ). item_spelling i.0 ++ t) others.parts ∙ sym (append_assoc (item_spelling i.0) (body_spelling (rest i).good) others.rest);
       all = others.all;
@@ -188,7 +188,7 @@ first_taken form earlier left (Ok i) rest fits is more =
     }
 
 by_end : (form : Form) (earlier : Earlier) (left : Left) (rest : Item × Left → Items) → IsBytes left.bytes
-    → ((i : Item × Left) → IsBytes i.1.bytes → item_at form earlier left ≡ Ok i → BodyTaken form (behind i.0 earlier) i.1 (rest i))
+    → ((i : Item × Left) → IsBytes i.1.bytes → item_at form earlier left ≡ Ok i → BodyTaken form (earlier_after i.0 earlier) i.1 (rest i))
     → (empty : Bool) → nat_eq (length left.bytes) 0 ≡ empty → BodyTaken form earlier left (cond empty no_items (first_and_rest left.place (item_at form earlier left) rest))
 by_end form earlier left rest fits more true is = end_taken form earlier left (eqb-true (length left.bytes) 0 is)
 by_end form earlier left rest fits more false is = first_taken form earlier left (item_at form earlier left) rest fits refl more
@@ -197,12 +197,12 @@ pub body_takes : (turns : ℕ) (form : Form) (earlier : Earlier) (left : Left) �
 unfolding items_from
 body_takes zero form earlier left fits le = end_taken form earlier left (omega (arith, le))
 body_takes (suc turns) form earlier left fits le =
-    by_end form earlier left (λ i. items_from turns form (behind i.0 earlier) i.1) fits
+    by_end form earlier left (λ i. items_from turns form (earlier_after i.0 earlier) i.1) fits
     (λ i i_fits read. let taken = item_takes form earlier left i.0 i.1 fits read in
-    body_takes turns form (behind i.0 earlier) i.1 i_fits (omega (arith, le, some_bytes i.0, ap length taken.takes.parts, length-append (item_spelling i.0) i.1.bytes)))
+    body_takes turns form (earlier_after i.0 earlier) i.1 i_fits (omega (arith, le, some_bytes i.0, ap length taken.takes.parts, length-append (item_spelling i.0) i.1.bytes)))
     (nat_eq (length left.bytes) 0) refl
 
--- These items stand spelled at the front, and they are all, or another that is bad begins behind them.
+-- These items stand spelled at the front, and they are all, or another that is bad begins after them.
 pub record BeginWith (form : Form) (place : ℕ) (bytes : List ℕ) (items : Items) : Type 0 where
   pub keep : AreItems form items.good
   pub rest : List ℕ
@@ -210,7 +210,7 @@ pub record BeginWith (form : Form) (place : ℕ) (bytes : List ℕ) (items : Ite
   pub all : items.bad ≡ None → rest ≡ []
   pub others : (at : ℕ) → items.bad ≡ Some at → at ≡ place + length (body_spelling items.good)
   -- No item that may follow these stands there.
-  pub refused : (at : ℕ) → items.bad ≡ Some at → (item : Item) (more : List ℕ) → IsTrue (is_item form (behind_all items.good none_earlier) item) → rest ≢ item_spelling item ++ more
+  pub refused : (at : ℕ) → items.bad ≡ Some at → (item : Item) (more : List ℕ) → IsTrue (is_item form (earlier_after_all items.good none_earlier) item) → rest ≢ item_spelling item ++ more
 
 -- What is read as the items of a body keeps the rules and was spelled so.
 pub bodies_spelled : (form : Form) (place : ℕ) (bytes : List ℕ) → IsBytes bytes → BeginWith form place bytes (items_at form place bytes)

@@ -5,7 +5,7 @@ use Rattle.crash_plant.specs.Bytes.{patched, Torn}
 use Rattle.crash_plant.specs.Moments.{Standing, SamePast, Follows}
 use Rattle.crash_plant.proofs.Patches.{patched_torn, torn_more, torn_twice}
 use Rattle.crash_plant.proofs.Steps.{follows_then}
-use Rattle.crash_plant.proofs.Behind.{byte_before, from_gate, torn_again, torn_here}
+use Rattle.crash_plant.proofs.BehindGates.{byte_before, from_gate, torn_again, torn_here}
 use Rattle.xrc_journal.specs.Appending.{IsShutAt, PutsRecord}
 
 -- the first byte of what was written at a place
@@ -38,8 +38,8 @@ module _ (size needed place : ℕ) (behind : List ℕ) where
 
   -- what is read, once it is written behind the gate
   module _ (b y : List ℕ) (long : length b ≡ size) (range : place + 1 + length behind ≤ size) (fits : place + needed ≤ size) (is : y ≡ patched (place + 1) behind b) where
-    behind_stands : drop (place + 1) y ≡ behind ++ drop (place + 1 + length behind) b
-    behind_stands = ap (λ (l : List ℕ). drop (place + 1) l) (is ∙ append_assoc (take (place + 1) b) behind (drop (place + 1 + length behind) b))
+    after_stands : drop (place + 1) y ≡ behind ++ drop (place + 1 + length behind) b
+    after_stands = ap (λ (l : List ℕ). drop (place + 1) l) (is ∙ append_assoc (take (place + 1) b) behind (drop (place + 1 + length behind) b))
         ∙ drop_at (take (place + 1) b) (behind ++ drop (place + 1 + length behind) b) (place + 1) (omega (arith, length-take (place + 1) b, range, long))
 
     same_size : length y ≡ size
@@ -49,4 +49,4 @@ module _ (size needed place : ℕ) (behind : List ℕ) where
     follows_opened a d e shut past torn durable kept gate = follows_then a d e (Torn (place + 1) (length behind)) (Torn place 1) (PutsRecord size needed place behind) past.later torn kept gate
         (λ x z here first. puts_staged x z (shut x here) first)
         (λ x z w here there first second.
-        puts_opened (drop (place + 1 + length behind) b) x z w (ap length (durable z there) ∙ same_size) (omega (arith, range)) fits first (ap (λ (l : List ℕ). drop (place + 1) l) (durable z there) ∙ behind_stands) second)
+        puts_opened (drop (place + 1 + length behind) b) x z w (ap length (durable z there) ∙ same_size) (omega (arith, range)) fits first (ap (λ (l : List ℕ). drop (place + 1) l) (durable z there) ∙ after_stands) second)

@@ -294,13 +294,13 @@ same_part m from count b c le same =
 same_byte : (m place : ℕ) (b c : List ℕ) → place < m → take m c ≡ take m b → slice_index c place ≡ slice_index b place
 same_byte m place b c lt same = sym (get_or-take m c place 0 lt) ∙ ap (λ (l : List ℕ). slice_index l place) same ∙ get_or-take m b place 0 lt
 
--- A group that is found depends on no byte behind its body.
+-- A group that is found depends on no byte after its body.
 pub found_again : (form : Form) (m : ℕ) (b c : List ℕ) (at : Spot) (last time : ℕ) (items : List Item) (after : Spot) → take m c ≡ take m b → length c ≡ length b → after.place ≤ m → GroupFound form b at last time items after → GroupFound form c at last time items after
 found_again form m b c at last time items after same size le f =
-    let behind : at.place + 22 + f.head.len ≡ after.place = ap (λ (s : Spot). s.place) f.after_is in
-    let byte = same_byte m at.place b c (omega (arith, le, behind)) same in
-    let header = same_part m (at.place + 1) 21 b c (omega (arith, le, behind)) same in
-    let body = same_part m (at.place + 22) f.head.len b c (omega (arith, le, behind)) same in
+    let place_is : at.place + 22 + f.head.len ≡ after.place = ap (λ (s : Spot). s.place) f.after_is in
+    let byte = same_byte m at.place b c (omega (arith, le, place_is)) same in
+    let header = same_part m (at.place + 1) 21 b c (omega (arith, le, place_is)) same in
+    let body = same_part m (at.place + 22) f.head.len b c (omega (arith, le, place_is)) same in
     record {
       gate = byte ∙ f.gate;
       head = f.head;

@@ -11,7 +11,7 @@ use Rattle.crash_plant.specs.Choices.{AllFollow, Choice, IsChoice}
 use Rattle.crash_plant.proofs.Choices.{device_cases, part_still, some_choice, works_on_choices}
 use Rattle.xrc_journal.specs.Items.{Form, form_of}
 use Rattle.xrc_journal.specs.Walks.{Logged}
-use Rattle.xrc_journal.specs.RingWalks.{AddsThrough, AllEndThrough, EndsThrough, HasGroup, PutsGroup, behind_logged, journal_images, walk_at}
+use Rattle.xrc_journal.specs.RingWalks.{AddsThrough, AllEndThrough, EndsThrough, HasGroup, PutsGroup, journal_images, spot_after_logged, walk_at}
 use Rattle.xrc_journal.specs.RingWalks.WalkRecord.{OfGroup}
 use Rattle.xrc_journal.specs.RingLaws.{SameUpTo}
 use Rattle.xrc_journal.specs.Appending.{GroupIsPut, IsShutAt, PutsRecord, room_for}
@@ -64,7 +64,7 @@ module _ (form : Form) (sets : ℕ) (from at : Spot) (g : Logged) (may : MayPut 
   same_before : (entered : List ℕ) (time : ℕ) → SameUpTo (walk_at entered at time) (journal_images b) (journal_images c)
   same_before entered time = record { left = λ set is other. others (Journal set) (λ e. other (journal_is set at.set e)); before = puts.torn.before; size = puts.torn.size }
 
-  opened_adds : slice_index (c (Journal at.set)) at.place ≡ 1 → AddsThrough form sets from at (OfGroup g) (behind_logged g at) (journal_images b) (journal_images c)
+  opened_adds : slice_index (c (Journal at.set)) at.place ≡ 1 → AddsThrough form sets from at (OfGroup g) (spot_after_logged g at) (journal_images b) (journal_images c)
   opened_adds gate last time records entered walks later =
       groups_added form sets (journal_images b) (journal_images c) from last records (walk_at entered at time) g (same_before entered time)
       (record {
@@ -86,8 +86,8 @@ module _ (form : Form) (sets : ℕ) (from at : Spot) (g : Logged) (may : MayPut 
   pub has_group : slice_index (c (Journal at.set)) at.place ≡ 1 → HasGroup form sets from at g b c
   has_group gate = record { walk = opened_adds gate; range = record { torn = range_torn at g (b (Journal at.set)) (c (Journal at.set)) puts.torn; others = others } }
 
-  pub ends_behind_group : slice_index (c (Journal at.set)) at.place ≡ 1 → EndsThrough form sets from at g.time (journal_images b) → EndsThrough form sets from (behind_logged g at) g.time (journal_images c)
-  ends_behind_group gate e = record {
+  pub ends_after_group : slice_index (c (Journal at.set)) at.place ≡ 1 → EndsThrough form sets from at g.time (journal_images b) → EndsThrough form sets from (spot_after_logged g at) g.time (journal_images c)
+  ends_after_group gate e = record {
     last = e.last;
     records = e.records ++ OfGroup g ∷ [];
     entered = e.entered;
@@ -119,13 +119,13 @@ module _ (tells : Type 0) (told : tells) (old new : PlantState) (from at : Spot)
     before : (c : Choice) → IsChoice new new.clock c → (b : Choice) × IsChoice old old.clock b × Step b c
     before c is = comes new.clock ((only.elapses told).kept (Journal at.set)).later (omega arith) c is
 
-    ends_there : (c : Choice) → IsChoice new new.clock c → EndsThrough (form_of new) new.journals from (behind_logged g at) g.time (journal_images c)
+    ends_there : (c : Choice) → IsChoice new new.clock c → EndsThrough (form_of new) new.journals from (spot_after_logged g at) g.time (journal_images c)
     ends_there c is =
         let came = before c is in
         let form = sym (same_form old new only.site) in
         let sets = sym only.site.journals in
-        subst (λ (x : Type 0). x) (λ i. EndsThrough (form i) (sets i) from (behind_logged g at) g.time (journal_images c))
-        (ends_behind_group (form_of old) old.journals from at g may (old.lengths (Journal at.set)) came.0 c came.2.0 came.2.1 (gate c is) (ends came.0 came.1))
+        subst (λ (x : Type 0). x) (λ i. EndsThrough (form i) (sets i) from (spot_after_logged g at) g.time (journal_images c))
+        (ends_after_group (form_of old) old.journals from at g may (old.lengths (Journal at.set)) came.0 c came.2.0 came.2.1 (gate c is) (ends came.0 came.1))
 
     pub group_is_put : GroupIsPut from at g old new
     group_is_put = record {

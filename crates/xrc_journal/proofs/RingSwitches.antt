@@ -9,7 +9,7 @@ use Rattle.crash_plant.specs.Bytes.{Torn, patched}
 use Rattle.crash_plant.specs.Moments.{IsDurable, PlantState, Follows, Stays, on}
 use Rattle.crash_plant.specs.Calls.{IsPart, WorksOn}
 use Rattle.crash_plant.specs.Choices.{AllFollow, Choice, IsChoice}
-use Rattle.crash_plant.proofs.Behind.{torn_here}
+use Rattle.crash_plant.proofs.BehindGates.{torn_here}
 use Rattle.crash_plant.proofs.Choices.{choices_here, choices_then, some_choice, works_on_choices}
 use Rattle.crash_plant.proofs.Patches.{patched_torn}
 use Rattle.crash_plant.proofs.Steps.{works_on_more, works_on_trans}
@@ -126,8 +126,8 @@ module _ (form : Form) (sets : ℕ) (from at : Spot) (time : ℕ) (low : at.set 
     pub has_switch : slice_index (c (Journal at.set)) at.place ≡ 1 → HasSwitch form sets from at time b c
     has_switch is = record { walk = adds is; range = range }
 
-    pub ends_behind_switch : slice_index (c (Journal at.set)) at.place ≡ 1 → SWITCH ≤ length (c (Journal next)) → EndsThrough form sets from at time (journal_images b) → EndsThrough form sets from (spot_in next at) time (journal_images c)
-    ends_behind_switch is long e = record {
+    pub ends_after_switch : slice_index (c (Journal at.set)) at.place ≡ 1 → SWITCH ≤ length (c (Journal next)) → EndsThrough form sets from at time (journal_images b) → EndsThrough form sets from (spot_in next at) time (journal_images c)
+    ends_after_switch is long e = record {
       last = e.last;
       records = e.records ++ OfSwitch time ∷ [];
       entered = e.entered ++ next ∷ [];
@@ -250,7 +250,7 @@ module _ (tells : Type 0) (told : tells) (old mid : PlantState) (from at : Spot)
           let form = sym (same_form old mid first.only.site) ∙ sym (same_form mid new second.only.site) in
           let sets = sym first.only.site.journals ∙ sym second.only.site.journals in
           subst (λ (x : Type 0). x) (λ i. EndsThrough (form i) (sets i) from (spot_in (next_set old.journals at.set) at) time (journal_images c))
-          (ends_behind_switch (form_of old) old.journals from at time there other apart f.before f.between f.closing.0 f.closing.1 few number stamp (mid.lengths (Journal at.set)) c (closed f.between f.is_between) f.leading.0 f.leading.1 (gate c is) (long_there c f)
+          (ends_after_switch (form_of old) old.journals from at time there other apart f.before f.between f.closing.0 f.closing.1 few number stamp (mid.lengths (Journal at.set)) c (closed f.between f.is_between) f.leading.0 f.leading.1 (gate c is) (long_there c f)
           (ends f.before f.is_before))
 
       pub switch_is_put : SwitchIsPut from at time old new

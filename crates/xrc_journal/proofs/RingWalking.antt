@@ -7,7 +7,7 @@ use Rattle.xrc_journal.specs.Items.{Form}
 use Rattle.xrc_journal.specs.Records.{Found, next_set, spot_in, walk_one}
 use Rattle.xrc_journal.specs.Records.Found.{Group, Switch}
 use Rattle.xrc_journal.specs.Walks.{Logged}
-use Rattle.xrc_journal.specs.RingWalks.{LeadsTo, WalkPlace, WalkRecord, WalksThrough, behind_logged, found_there, is_entered, walk_at, walk_behind, walk_start}
+use Rattle.xrc_journal.specs.RingWalks.{LeadsTo, WalkPlace, WalkRecord, WalksThrough, found_there, is_entered, spot_after_logged, walk_after, walk_at, walk_start}
 use Rattle.xrc_journal.specs.RingWalks.WalkRecord.{OfGroup, OfSwitch}
 use Rattle.xrc_journal.specs.RingLaws.{GroupsAreAdded, SameUpTo, SetsComeInTurn, SwitchesAreAdded, WalksAreKept}
 use Rattle.xrc_journal.proofs.RecordsAgain.{groups_walked, switches_walked}
@@ -58,33 +58,33 @@ module _ (form : Form) (sets : ℕ) where
   -- what was entered stays so
   pub entered_kept : (images : ℕ → List ℕ) (from to : WalkPlace) (records : List WalkRecord) (j : ℕ) → LeadsTo form sets images from records to → is_entered j from.entered ≡ true → is_entered j to.entered ≡ true
   entered_kept images from to [] j leads is = ap (λ (p : WalkPlace). is_entered j p.entered) leads ∙ is
-  entered_kept images from to (OfGroup g ∷ records) j leads is = entered_kept images (walk_behind (OfGroup g) leads.0 from) to records j leads.2 is
-  entered_kept images from to (OfSwitch time ∷ records) j leads is = entered_kept images (walk_behind (OfSwitch time) leads.0 from) to records j leads.3 (entered_more j leads.0.set from.entered is)
+  entered_kept images from to (OfGroup g ∷ records) j leads is = entered_kept images (walk_after (OfGroup g) leads.0 from) to records j leads.2 is
+  entered_kept images from to (OfSwitch time ∷ records) j leads is = entered_kept images (walk_after (OfSwitch time) leads.0 from) to records j leads.3 (entered_more j leads.0.set from.entered is)
 
   -- The data set where a walk stands was entered.
   pub stands_entered : (images : ℕ → List ℕ) (from to : WalkPlace) (records : List WalkRecord) → LeadsTo form sets images from records to → is_entered from.at.set from.entered ≡ true → is_entered to.at.set to.entered ≡ true
   stands_entered images from to [] leads here = ap (λ (p : WalkPlace). is_entered p.at.set p.entered) leads ∙ here
   stands_entered images from to (OfGroup g ∷ records) leads here =
-      stands_entered images (walk_behind (OfGroup g) leads.0 from) to records leads.2 (ap (λ (n : ℕ). is_entered n from.entered) (group_set form sets images from g leads.0 leads.1) ∙ here)
-  stands_entered images from to (OfSwitch time ∷ records) leads here = stands_entered images (walk_behind (OfSwitch time) leads.0 from) to records leads.3 (entered_last leads.0.set from.entered)
+      stands_entered images (walk_after (OfGroup g) leads.0 from) to records leads.2 (ap (λ (n : ℕ). is_entered n from.entered) (group_set form sets images from g leads.0 leads.1) ∙ here)
+  stands_entered images from to (OfSwitch time ∷ records) leads here = stands_entered images (walk_after (OfSwitch time) leads.0 from) to records leads.3 (entered_last leads.0.set from.entered)
 
   -- It never comes back to one that it left.
   never_back : (images : ℕ → List ℕ) (from to : WalkPlace) (records : List WalkRecord) (j : ℕ) → LeadsTo form sets images from records to → is_entered j from.entered ≡ true → j ≢ from.at.set → j ≢ to.at.set
   never_back images from to [] j leads is other = λ same. other (same ∙ ap (λ (p : WalkPlace). p.at.set) leads)
   never_back images from to (OfGroup g ∷ records) j leads is other =
-      never_back images (walk_behind (OfGroup g) leads.0 from) to records j leads.2 is (λ same. other (same ∙ group_set form sets images from g leads.0 leads.1))
+      never_back images (walk_after (OfGroup g) leads.0 from) to records j leads.2 is (λ same. other (same ∙ group_set form sets images from g leads.0 leads.1))
   never_back images from to (OfSwitch time ∷ records) j leads is other =
-      never_back images (walk_behind (OfSwitch time) leads.0 from) to records j leads.3 (entered_more j leads.0.set from.entered is) (entered_differs j leads.0.set from.entered is leads.2)
+      never_back images (walk_after (OfSwitch time) leads.0 from) to records j leads.3 (entered_more j leads.0.set from.entered is) (entered_differs j leads.0.set from.entered is leads.2)
 
   -- While it stays in one, it goes forth.
   goes_forth : (images : ℕ → List ℕ) (from to : WalkPlace) (records : List WalkRecord) → LeadsTo form sets images from records to → is_entered from.at.set from.entered ≡ true → from.at.set ≡ to.at.set → from.at.place ≤ to.at.place
   goes_forth images from to [] leads here same = omega (arith, ap (λ (p : WalkPlace). p.at.place) leads)
   goes_forth images from to (OfGroup g ∷ records) leads here same =
       let set = group_set form sets images from g leads.0 leads.1 in
-      let rest = goes_forth images (walk_behind (OfGroup g) leads.0 from) to records leads.2 (ap (λ (n : ℕ). is_entered n from.entered) set ∙ here) (set ∙ same) in
+      let rest = goes_forth images (walk_after (OfGroup g) leads.0 from) to records leads.2 (ap (λ (n : ℕ). is_entered n from.entered) set ∙ here) (set ∙ same) in
       omega (arith, group_forth form sets images from g leads.0 leads.1, rest)
   goes_forth images from to (OfSwitch time ∷ records) leads here same =
-      absurd (never_back images (walk_behind (OfSwitch time) leads.0 from) to records from.at.set leads.3 (entered_more from.at.set leads.0.set from.entered here) (entered_differs from.at.set leads.0.set from.entered here leads.2) same)
+      absurd (never_back images (walk_after (OfSwitch time) leads.0 from) to records from.at.set leads.3 (entered_more from.at.set leads.0.set from.entered here) (entered_differs from.at.set leads.0.set from.entered here leads.2) same)
 
   -- ---- on which bytes it depends
 
@@ -104,35 +104,35 @@ module _ (form : Form) (sets : ℕ) where
     pub leads_again : (from : WalkPlace) (records : List WalkRecord) → is_entered from.at.set from.entered ≡ true → LeadsTo form sets old from records to → LeadsTo form sets new from records to
     leads_again from [] here leads = leads
     leads_again from (OfGroup g ∷ records) here leads =
-        let behind = walk_behind (OfGroup g) leads.0 from in
+        let after = walk_after (OfGroup g) leads.0 from in
         let set = group_set form sets old from g leads.0 leads.1 in
-        let next : is_entered behind.at.set behind.entered ≡ true = ap (λ (n : ℕ). is_entered n from.entered) set ∙ here in
+        let next : is_entered after.at.set after.entered ≡ true = ap (λ (n : ℕ). is_entered n from.entered) set ∙ here in
         let found : found_there form sets new from ≡ Group g.time g.items leads.0 = elim (cases_eq from.at.set to.at.set) [
-          | inl is ↦ last_again from g leads.0 is (goes_forth old behind to records leads.2 next (set ∙ is)) leads.1
+          | inl is ↦ last_again from g leads.0 is (goes_forth old after to records leads.2 next (set ∙ is)) leads.1
           | inr other ↦ left_again from (Group g.time g.items leads.0) (entered_kept old from to (OfGroup g ∷ records) from.at.set leads here) other leads.1
         ] in
-        (leads.0, found, leads_again behind records next leads.2)
+        (leads.0, found, leads_again after records next leads.2)
     leads_again from (OfSwitch time ∷ records) here leads =
-        let behind = walk_behind (OfSwitch time) leads.0 from in
-        let other = never_back old behind to records from.at.set leads.3 (entered_more from.at.set leads.0.set from.entered here) (entered_differs from.at.set leads.0.set from.entered here leads.2) in
+        let after = walk_after (OfSwitch time) leads.0 from in
+        let other = never_back old after to records from.at.set leads.3 (entered_more from.at.set leads.0.set from.entered here) (entered_differs from.at.set leads.0.set from.entered here leads.2) in
         let found = left_again from (Switch time leads.0) (entered_kept old from to (OfSwitch time ∷ records) from.at.set leads here) other leads.1 in
-        (leads.0, found, leads.2, leads_again behind records (entered_last leads.0.set from.entered) leads.3)
+        (leads.0, found, leads.2, leads_again after records (entered_last leads.0.set from.entered) leads.3)
 
   -- ---- a record more
 
   leads_to_group : (images : ℕ → List ℕ) (from to : WalkPlace) (records : List WalkRecord) (g : Logged) (after : Spot) → LeadsTo form sets images from records to → found_there form sets images to ≡ Group g.time g.items after
-      → LeadsTo form sets images from (records ++ OfGroup g ∷ []) (walk_behind (OfGroup g) after to)
+      → LeadsTo form sets images from (records ++ OfGroup g ∷ []) (walk_after (OfGroup g) after to)
   leads_to_group images from to [] g after leads found =
-      subst (λ (p : WalkPlace). LeadsTo form sets images p (OfGroup g ∷ []) (walk_behind (OfGroup g) after to)) {x = to} {y = from} leads (after, found, refl)
-  leads_to_group images from to (OfGroup h ∷ records) g after leads found = (leads.0, leads.1, leads_to_group images (walk_behind (OfGroup h) leads.0 from) to records g after leads.2 found)
-  leads_to_group images from to (OfSwitch time ∷ records) g after leads found = (leads.0, leads.1, leads.2, leads_to_group images (walk_behind (OfSwitch time) leads.0 from) to records g after leads.3 found)
+      subst (λ (p : WalkPlace). LeadsTo form sets images p (OfGroup g ∷ []) (walk_after (OfGroup g) after to)) {x = to} {y = from} leads (after, found, refl)
+  leads_to_group images from to (OfGroup h ∷ records) g after leads found = (leads.0, leads.1, leads_to_group images (walk_after (OfGroup h) leads.0 from) to records g after leads.2 found)
+  leads_to_group images from to (OfSwitch time ∷ records) g after leads found = (leads.0, leads.1, leads.2, leads_to_group images (walk_after (OfSwitch time) leads.0 from) to records g after leads.3 found)
 
   leads_to_switch : (images : ℕ → List ℕ) (from to : WalkPlace) (records : List WalkRecord) (time : ℕ) (after : Spot) → LeadsTo form sets images from records to → found_there form sets images to ≡ Switch time after → is_entered after.set to.entered ≡ false
-      → LeadsTo form sets images from (records ++ OfSwitch time ∷ []) (walk_behind (OfSwitch time) after to)
+      → LeadsTo form sets images from (records ++ OfSwitch time ∷ []) (walk_after (OfSwitch time) after to)
   leads_to_switch images from to [] time after leads found fresh =
-      subst (λ (p : WalkPlace). LeadsTo form sets images p (OfSwitch time ∷ []) (walk_behind (OfSwitch time) after to)) {x = to} {y = from} leads (after, found, fresh, refl)
-  leads_to_switch images from to (OfGroup h ∷ records) time after leads found fresh = (leads.0, leads.1, leads_to_switch images (walk_behind (OfGroup h) leads.0 from) to records time after leads.2 found fresh)
-  leads_to_switch images from to (OfSwitch then ∷ records) time after leads found fresh = (leads.0, leads.1, leads.2, leads_to_switch images (walk_behind (OfSwitch then) leads.0 from) to records time after leads.3 found fresh)
+      subst (λ (p : WalkPlace). LeadsTo form sets images p (OfSwitch time ∷ []) (walk_after (OfSwitch time) after to)) {x = to} {y = from} leads (after, found, fresh, refl)
+  leads_to_switch images from to (OfGroup h ∷ records) time after leads found fresh = (leads.0, leads.1, leads_to_switch images (walk_after (OfGroup h) leads.0 from) to records time after leads.2 found fresh)
+  leads_to_switch images from to (OfSwitch then ∷ records) time after leads found fresh = (leads.0, leads.1, leads.2, leads_to_switch images (walk_after (OfSwitch then) leads.0 from) to records time after leads.3 found fresh)
 
 -- ---- the data sets come in turn
 
@@ -181,7 +181,7 @@ turn_group sets first time after p set turn = record {
   after = λ j is other. let before = turn.after j is other in (before.0, before.1, (λ same. before.2 (same ∙ set)), before.3);
 }
 
-turn_switch : (sets first time : ℕ) (after : Spot) (p : WalkPlace) → after.set ≡ next_set sets p.at.set → is_entered after.set p.entered ≡ false → InTurn sets first p → InTurn sets first (walk_behind (OfSwitch time) after p)
+turn_switch : (sets first time : ℕ) (after : Spot) (p : WalkPlace) → after.set ≡ next_set sets p.at.set → is_entered after.set p.entered ≡ false → InTurn sets first p → InTurn sets first (walk_after (OfSwitch time) after p)
 turn_switch sets first time after p set fresh turn = record {
   here = entered_last after.set p.entered;
   within = λ low j is. elim (entered_split j after.set p.entered is) [
@@ -199,9 +199,9 @@ turn_switch sets first time after p set fresh turn = record {
 turn_kept : (form : Form) (sets first : ℕ) (images : ℕ → List ℕ) (from to : WalkPlace) (records : List WalkRecord) → LeadsTo form sets images from records to → InTurn sets first from → InTurn sets first to
 turn_kept form sets first images from to [] leads turn = subst (λ (p : WalkPlace). InTurn sets first p) (sym leads) turn
 turn_kept form sets first images from to (OfGroup g ∷ records) leads turn =
-    turn_kept form sets first images (walk_behind (OfGroup g) leads.0 from) to records leads.2 (turn_group sets first g.time leads.0 from (group_set form sets images from g leads.0 leads.1) turn)
+    turn_kept form sets first images (walk_after (OfGroup g) leads.0 from) to records leads.2 (turn_group sets first g.time leads.0 from (group_set form sets images from g leads.0 leads.1) turn)
 turn_kept form sets first images from to (OfSwitch time ∷ records) leads turn =
-    turn_kept form sets first images (walk_behind (OfSwitch time) leads.0 from) to records leads.3 (turn_switch sets first time leads.0 from (switch_set form sets images from time leads.0 leads.1) leads.2 turn)
+    turn_kept form sets first images (walk_after (OfSwitch time) leads.0 from) to records leads.3 (turn_switch sets first time leads.0 from (switch_set form sets images from time leads.0 leads.1) leads.2 turn)
 
 pub sets_in_turn : SetsComeInTurn
 sets_in_turn form sets images from last records to low walks = (
@@ -232,7 +232,7 @@ walks_kept form sets old new from last records to same shut walks = record {
 
 pub groups_added : GroupsAreAdded
 groups_added form sets old new from last records to g same holds walks =
-    let after = behind_logged g to.at in
+    let after = spot_after_logged g to.at in
     let leads = leads_again form sets old new to same (walk_start from last) records (entered_here from.set) walks.leads in
     record {
       leads = leads_to_group form sets new (walk_start from last) to records g after leads (groups_walked form sets (new to.at.set) to.at to.last g.time g.items holds.may holds.stands);

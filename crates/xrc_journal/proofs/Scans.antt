@@ -7,7 +7,7 @@ use Rattle.ckd_track.specs.declared.fault.ImageError.{ImageError}
 use Rattle.ckd_track.specs.Images.{image, image_at, longest_image}
 use Rattle.ckd_track.proofs.ImageLaws.{image_again}
 use Rattle.ckd_track.proofs.Parts.{length-image}
-use Rattle.xrc_journal.specs.Items.{Item, Earlier, none_earlier, behind, behind_all, anywhere, is_drawn, is_item, are_items_behind, item_spelling, body_spelling}
+use Rattle.xrc_journal.specs.Items.{Item, Earlier, none_earlier, earlier_after, earlier_after_all, anywhere, is_drawn, is_item, are_items_after, item_spelling, body_spelling}
 use Rattle.xrc_journal.specs.Items.Item.{Image, Delta, Pair, Gone}
 use Rattle.xrc_journal.specs.Bodies.{items_of, have_image, IsBody, BeginsWith, BeginsWithItem, draws}
 use Rattle.xrc_journal.proofs.Fields.{both_true}
@@ -71,11 +71,11 @@ image_bad bytes item bad tag b read = clash (sym (image_first bytes item tag b).
 
 -- ---- images among items
 
-pub behind_push : (items : List Item) (item : Item) (earlier : Earlier) → behind_all (items ++ item ∷ []) earlier ≡ behind item (behind_all items earlier)
-behind_push [] item earlier = refl
-behind_push (i ∷ items) item earlier = behind_push items item (behind i earlier)
+pub after_push : (items : List Item) (item : Item) (earlier : Earlier) → earlier_after_all (items ++ item ∷ []) earlier ≡ earlier_after item (earlier_after_all items earlier)
+after_push [] item earlier = refl
+after_push (i ∷ items) item earlier = after_push items item (earlier_after i earlier)
 
-drawn_by : (item : Item) (earlier : Earlier) (device track : ℕ) → is_drawn (behind item earlier).drawn device track ≡ (draws device track item || is_drawn earlier.drawn device track)
+drawn_by : (item : Item) (earlier : Earlier) (device track : ℕ) → is_drawn (earlier_after item earlier).drawn device track ≡ (draws device track item || is_drawn earlier.drawn device track)
 drawn_by (Image d x recs) earlier device track = refl
 drawn_by (Delta d x kind) earlier device track = refl
 drawn_by (Pair row) earlier device track = refl
@@ -85,13 +85,13 @@ or_true : (a b : Bool) → b ≡ true → (a || b) ≡ true
 or_true true b e = refl
 or_true false b e = e
 
-drawn_stays : (items : List Item) (earlier : Earlier) (device track : ℕ) → is_drawn earlier.drawn device track ≡ true → is_drawn (behind_all items earlier).drawn device track ≡ true
+drawn_stays : (items : List Item) (earlier : Earlier) (device track : ℕ) → is_drawn earlier.drawn device track ≡ true → is_drawn (earlier_after_all items earlier).drawn device track ≡ true
 drawn_stays [] earlier device track is = is
-drawn_stays (i ∷ items) earlier device track is = drawn_stays items (behind i earlier) device track (drawn_by i earlier device track ∙ or_true (draws device track i) (is_drawn earlier.drawn device track) is)
+drawn_stays (i ∷ items) earlier device track is = drawn_stays items (earlier_after i earlier) device track (drawn_by i earlier device track ∙ or_true (draws device track i) (is_drawn earlier.drawn device track) is)
 
-behind_both : (done todo : List Item) (earlier : Earlier) → behind_all (done ++ todo) earlier ≡ behind_all todo (behind_all done earlier)
-behind_both [] todo earlier = refl
-behind_both (i ∷ done) todo earlier = behind_both done todo (behind i earlier)
+after_both : (done todo : List Item) (earlier : Earlier) → earlier_after_all (done ++ todo) earlier ≡ earlier_after_all todo (earlier_after_all done earlier)
+after_both [] todo earlier = refl
+after_both (i ∷ done) todo earlier = after_both done todo (earlier_after i earlier)
 
 -- how far a search has come: no item before what is left is an image of the track
 pub record Scan (body rest : List ℕ) (device track : ℕ) : Type 0 where
@@ -99,7 +99,7 @@ pub record Scan (body rest : List ℕ) (device track : ℕ) : Type 0 where
   pub todo : List Item
   pub whole : items_of body ≡ done ++ todo
   pub left : rest ≡ body_spelling todo
-  pub keep : are_items_behind anywhere (behind_all done none_earlier) todo ≡ true
+  pub keep : are_items_after anywhere (earlier_after_all done none_earlier) todo ≡ true
   pub none : have_image done device track ≡ false
 
 pub scan_start : (body : List ℕ) (device track : ℕ) → IsBody body → Scan body body device track
@@ -121,15 +121,15 @@ no_more (i ∷ todo) rest left len = absurd (omega (arith, len, ap length left, 
 pub scan_end : (body rest : List ℕ) (device track : ℕ) → Scan body rest device track → length rest ≡ 0 → have_image (items_of body) device track ≡ false
 scan_end body rest device track s len = ap (λ (l : List Item). have_image l device track) (s.whole ∙ ap (λ (l : List Item). s.done ++ l) (no_more s.todo rest s.left len) ∙ append-nil s.done) ∙ s.none
 
-first_by : (body rest : List ℕ) (device track : ℕ) (done todo : List Item) → items_of body ≡ done ++ todo → rest ≡ body_spelling todo → are_items_behind anywhere (behind_all done none_earlier) todo ≡ true → have_image done device track ≡ false → 1 ≤ length rest → ScanFirst body rest device track
+first_by : (body rest : List ℕ) (device track : ℕ) (done todo : List Item) → items_of body ≡ done ++ todo → rest ≡ body_spelling todo → are_items_after anywhere (earlier_after_all done none_earlier) todo ≡ true → have_image done device track ≡ false → 1 ≤ length rest → ScanFirst body rest device track
 first_by body rest device track done [] whole left keep none some = absurd (omega (arith, some, ap length left))
 first_by body rest device track done (i ∷ todo) whole left keep none some =
-    let parts = both_true (is_item anywhere (behind_all done none_earlier) i) (are_items_behind anywhere (behind i (behind_all done none_earlier)) todo) keep in
-    let pushed = behind_push done i none_earlier in
-    let drawn = drawn_by i (behind_all done none_earlier) device track in
+    let parts = both_true (is_item anywhere (earlier_after_all done none_earlier) i) (are_items_after anywhere (earlier_after i (earlier_after_all done none_earlier)) todo) keep in
+    let pushed = after_push done i none_earlier in
+    let drawn = drawn_by i (earlier_after_all done none_earlier) device track in
     record {
       item = i;
-      begins = record { earlier = behind_all done none_earlier; rest = body_spelling todo; keeps = parts.0; parts = left };
+      begins = record { earlier = earlier_after_all done none_earlier; rest = body_spelling todo; keeps = parts.0; parts = left };
       some = some_bytes i;
       long = omega (arith, ap length left, length-append (item_spelling i) (body_spelling todo));
       next = λ other. record {
@@ -137,11 +137,11 @@ first_by body rest device track done (i ∷ todo) whole left keep none some =
         todo = todo;
         whole = whole ∙ sym (append_assoc done (i ∷ []) todo);
         left = ap (λ (l : List ℕ). drop (length (item_spelling i)) l) left ∙ drop_at (item_spelling i) (body_spelling todo) (length (item_spelling i)) refl;
-        keep = ap (λ (e : Earlier). are_items_behind anywhere e todo) pushed ∙ parts.1;
+        keep = ap (λ (e : Earlier). are_items_after anywhere e todo) pushed ∙ parts.1;
         none = ap (λ (e : Earlier). is_drawn e.drawn device track) pushed ∙ drawn ∙ (λ j. other j || none j);
       };
-      found = λ is. ap (λ (l : List Item). have_image l device track) whole ∙ ap (λ (e : Earlier). is_drawn e.drawn device track) (behind_both done (i ∷ todo) none_earlier)
-          ∙ drawn_stays todo (behind i (behind_all done none_earlier)) device track (drawn ∙ ap (λ (b : Bool). b || is_drawn (behind_all done none_earlier).drawn device track) is);
+      found = λ is. ap (λ (l : List Item). have_image l device track) whole ∙ ap (λ (e : Earlier). is_drawn e.drawn device track) (after_both done (i ∷ todo) none_earlier)
+          ∙ drawn_stays todo (earlier_after i (earlier_after_all done none_earlier)) device track (drawn ∙ ap (λ (b : Bool). b || is_drawn (earlier_after_all done none_earlier).drawn device track) is);
     }
 
 pub scan_first : (body rest : List ℕ) (device track : ℕ) → Scan body rest device track → 1 ≤ length rest → ScanFirst body rest device track

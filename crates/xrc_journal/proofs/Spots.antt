@@ -17,7 +17,7 @@ use Rattle.xrc_edge.specs.Causes.{Rose}
 use Rattle.crash_plant.specs.declared.device.Device.{Device}
 use Rattle.crash_plant.specs.Moments.{PlantState, on, Same}
 use Rattle.crash_plant.proofs.Steps.{works_on_trans}
-use Rattle.crash_plant.proofs.Behind.{same_after}
+use Rattle.crash_plant.proofs.BehindGates.{same_after}
 use Rattle.xrc_journal.specs.declared.spot.Walked.{Walked}
 use Rattle.xrc_journal.specs.Bodies.{BodyState}
 use Rattle.xrc_journal.specs.declared.spot.WalkError.{WalkError}

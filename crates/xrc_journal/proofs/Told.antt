@@ -9,7 +9,7 @@ use Rattle.pair_table.specs.declared.row.PairRow.{PairRow}
 use Rattle.pair_table.specs.Rows.{row_at, row_spelling}
 use Rattle.pair_table.proofs.RowsAgain.{rows_back}
 use Rattle.xrc_journal.specs.declared.reading.BodyItem.{BodyItem}
-use Rattle.xrc_journal.specs.Items.{Item, Earlier, anywhere, behind, is_item, are_items_behind, item_spelling, body_spelling}
+use Rattle.xrc_journal.specs.Items.{Item, Earlier, anywhere, earlier_after, is_item, are_items_after, item_spelling, body_spelling}
 use Rattle.xrc_journal.specs.Items.Item.{Image, Delta, Pair, Gone}
 use Rattle.xrc_journal.specs.Bodies.{BeginsWith, BeginsWithItem}
 use Rattle.xrc_journal.specs.Views.{told, first_told}
@@ -34,17 +34,17 @@ row_here bytes row b =
 
 -- ---- the first of some items
 
--- an item that bytes begin with, and those behind it
+-- an item that bytes begin with, and those after it
 pub record First (bytes : List ℕ) (items : List Item) : Type 0 where
   pub item : Item
   pub more : List Item
   pub are : items ≡ item ∷ more
   pub begins : BeginsWith bytes item
 
-pub first_of : (bytes : List ℕ) (earlier : Earlier) (items : List Item) → are_items_behind anywhere earlier items ≡ true → bytes ≡ body_spelling items → 1 ≤ length bytes → First bytes items
+pub first_of : (bytes : List ℕ) (earlier : Earlier) (items : List Item) → are_items_after anywhere earlier items ≡ true → bytes ≡ body_spelling items → 1 ≤ length bytes → First bytes items
 first_of bytes earlier [] keep spelled some = absurd (omega (arith, some, ap length spelled))
 first_of bytes earlier (i ∷ items) keep spelled some =
-    let parts = both_true (is_item anywhere earlier i) (are_items_behind anywhere (behind i earlier) items) keep in
+    let parts = both_true (is_item anywhere earlier i) (are_items_after anywhere (earlier_after i earlier) items) keep in
     record { item = i; more = items; are = refl; begins = record { earlier = earlier; rest = body_spelling items; keeps = parts.0; parts = spelled } }
 
 pub none_of : (bytes : List ℕ) (items : List Item) → bytes ≡ body_spelling items → length bytes ≡ 0 → items ≡ []

@@ -81,7 +81,7 @@ pub record WalkCause (set before now : ℕ) (result : Result Walked WalkError) :
   pub fault : (j : ℕ) → IsErrOf result (WalkFault j) → (j ≡ set) × Rose before now
   pub others : NoFault result → now ≡ before
 
--- Behind a group the walk goes on in the same data set, which has room for a switch there, and behind a switch at the start of a data
+-- After a group the walk goes on in the same data set, which has room for a switch there, and after a switch at the start of a data
 -- set of the plant. The number is one more.
 abbrev pub WalkGoesOn : PlantState → (at : Spot) → Walked → Type 0
 WalkGoesOn plant at WalkedEnd = Unit {0}

@@ -15,7 +15,7 @@ use Rattle.xrc_journal.specs.Items.{AreItems, Form, Item, body_spelling, form_of
 use Rattle.xrc_journal.specs.Records.{group_spelling, most_body, next_set, spot_in, switch_spelling}
 use Rattle.xrc_journal.specs.Walks.{Logged}
 use Rattle.xrc_journal.specs.Laws.{HasRecordAt}
-use Rattle.xrc_journal.specs.RingWalks.{AllEndThrough, HasGroup, HasSwitch, PutsGroup, PutsSwitch, behind_logged}
+use Rattle.xrc_journal.specs.RingWalks.{AllEndThrough, HasGroup, HasSwitch, PutsGroup, PutsSwitch, spot_after_logged}
 
 -- ---- what they ask
 
@@ -45,8 +45,8 @@ pub record PutsRecord (size needed place : ℕ) (behind old new : List ℕ) : Ty
   pub stands : slice_index new place ≡ 1 → HasRecordAt place behind new
 
 -- what is put behind a group's gate: the rest of the record, and a closed gate
-abbrev pub group_behind : Spot → (time : ℕ) → List Item → List ℕ
-group_behind at time items = group_spelling at.number time items ++ 0 ∷ []
+abbrev pub group_behind_gate : Spot → (time : ℕ) → List Item → List ℕ
+group_behind_gate at time items = group_spelling at.number time items ++ 0 ∷ []
 
 -- At every moment of calls on a spot's device, the record behind the gate there is put.
 abbrev pub AllPutRecord : (needed : ℕ) → Spot → (behind : List ℕ) → PlantState → PlantState → Type 0
@@ -72,9 +72,9 @@ NowFollow step old new = (c : Choice) → IsChoice new new.clock c → (b : Choi
 -- A group was put at a spot, and nothing else has changed. The walk to there has it at its end.
 pub record GroupIsPut (from at : Spot) (g : Logged) (old new : PlantState) : Type 0 where
   pub walk : NowFollow (HasGroup (form_of old) old.journals from at g) old new
-  pub written : IsWritten at (group_behind at g.time g.items) old new
+  pub written : IsWritten at (group_behind_gate at g.time g.items) old new
   pub durable : IsDurable (on new (Journal at.set))
-  pub ends : AllEndThrough new from (behind_logged g at) g.time
+  pub ends : AllEndThrough new from (spot_after_logged g at) g.time
 
 -- A switch was put at a spot, and the first gate of the next data set was closed before. The walk to there has it at its end.
 pub record SwitchIsPut (from at : Spot) (time : ℕ) (old new : PlantState) : Type 0 where
@@ -99,7 +99,7 @@ pub record RefusesRoom (why : Type 0) (needed free : ℕ) (result : Result (Unit
   pub refused : why → IsErrOf result (NoRoom needed free)
   pub only : (n f : ℕ) → IsErrOf result (NoRoom n f) → why × (n ≡ needed) × (f ≡ free)
 
--- the bytes that a group with these items needs, with those for a switch behind it
+-- the bytes that a group with these items needs, with those for a switch after it
 abbrev pub room_for : List Item → ℕ
 room_for items = FRONT + length (body_spelling items) + SWITCH
 
@@ -121,8 +121,8 @@ NextHasRoom plant at = SWITCH ≤ plant.lengths (Journal (next_set plant.journal
 
 -- A group with this time and these items was put at a spot, if it fits there; and what is so then on the spot's device.
 pub record PutsBody (tells : Type 0) (at : Spot) (time : ℕ) (items : List Item) (old new : PlantState) (result : Result (Unit {0}) AppendError) : Type 0 where
-  pub moments : tells → AllPutRecord (room_for items) at (group_behind at time items) old new
-  pub written : tells → OnOk result (IsWritten at (group_behind at time items) old new)
+  pub moments : tells → AllPutRecord (room_for items) at (group_behind_gate at time items) old new
+  pub written : tells → OnOk result (IsWritten at (group_behind_gate at time items) old new)
   pub durable : tells → OnOk result (IsDurable (on new (Journal at.set)))
   pub room : OnOk result (at.place + room_for items ≤ old.lengths (Journal at.set))
   pub fits : old.lengths (Journal at.set) < 2 ^ 64

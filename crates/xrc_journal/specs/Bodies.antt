@@ -1,6 +1,6 @@
--- A body: a buffer of items and a closed gate behind them, seen as the items.
+-- A body: a buffer of items and a closed gate after them, seen as the items.
 use Rattle.std.specs.Prelude.{◌≡◌, ◌≤◌, ℕ, ◌+◌, ◌-◌, ◌==◌, ◌&&◌, false, List, [], ◌∷◌, ◌++◌, length, take, slice_index, Bool, Option, Some, None, if◌then◌else◌, IsTrue}
-use Rattle.xrc_journal.specs.Items.{Item, Form, Earlier, AreItems, none_earlier, behind_all, anywhere, is_drawn, is_item, item_spelling, body_spelling}
+use Rattle.xrc_journal.specs.Items.{Item, Form, Earlier, AreItems, none_earlier, earlier_after_all, anywhere, is_drawn, is_item, item_spelling, body_spelling}
 use Rattle.xrc_journal.specs.Items.Item.{Image, Delta, Pair, Gone}
 use Rattle.xrc_journal.specs.Reading.{Items, items_at}
 
@@ -18,7 +18,7 @@ items_of bytes = (items_at anywhere 0 bytes).good
 abbrev pub held_in : (used : ℕ) → (buffer : List ℕ) → BodyState
 held_in used buffer = record { items = items_of (take used buffer); room = length buffer - 1 }
 
--- The used bytes are the items of a group, all of them, and a closed gate stands behind them.
+-- The used bytes are the items of a group, all of them, and a closed gate stands after them.
 pub record HoldsItems (used : ℕ) (buffer : List ℕ) : Type 0 where
   pub within : used + 1 ≤ length buffer
   pub shut : slice_index buffer used ≡ 0
@@ -35,11 +35,11 @@ with_item item held = record { items = held.items ++ item ∷ []; room = held.ro
 
 -- whether an item of a row is among them
 abbrev pub are_late : List Item → Bool
-are_late items = (behind_all items none_earlier).late
+are_late items = (earlier_after_all items none_earlier).late
 
 -- whether an image of a track is among them
 abbrev pub have_image : List Item → (device track : ℕ) → Bool
-have_image items device track = is_drawn (behind_all items none_earlier).drawn device track
+have_image items device track = is_drawn (earlier_after_all items none_earlier).drawn device track
 
 -- The item fits into the rest of the room.
 abbrev pub FitsInRoom : BodyState → Item → Type 0
@@ -48,12 +48,12 @@ FitsInRoom held item = length (body_spelling held.items) + length (item_spelling
 -- The bytes spell an item that may follow these.
 pub record IsNextItem (items : List Item) (bytes : List ℕ) : Type 0 where
   pub item : Item
-  pub keeps : IsTrue (is_item anywhere (behind_all items none_earlier) item)
+  pub keeps : IsTrue (is_item anywhere (earlier_after_all items none_earlier) item)
   pub spelled : bytes ≡ item_spelling item
 
--- The item that the bytes spell was put behind these.
+-- The item that the bytes spell was put after these.
 abbrev pub PutsItem : (bytes : List ℕ) → (old new : BodyState) → Type 0
-PutsItem bytes old new = (item : Item) → IsTrue (is_item anywhere (behind_all old.items none_earlier) item) → bytes ≡ item_spelling item → new ≡ with_item item old
+PutsItem bytes old new = (item : Item) → IsTrue (is_item anywhere (earlier_after_all old.items none_earlier) item) → bytes ≡ item_spelling item → new ≡ with_item item old
 
 -- ---- bytes of a body that is read
 
@@ -84,11 +84,11 @@ draws device track (Delta d x kind) = false
 draws device track (Pair row) = false
 draws device track (Gone d) = false
 
--- what the items of a body say to those behind them
+-- what the items of a body say to those after them
 abbrev pub earlier_of : List ℕ → Earlier
-earlier_of bytes = behind_all (items_of bytes) none_earlier
+earlier_of bytes = earlier_after_all (items_of bytes) none_earlier
 
--- The first n bytes are all good items, and a bad one begins behind them where they aren't all bytes.
+-- The first n bytes are all good items, and a bad one begins after them where they aren't all bytes.
 pub record GoodFront (form : Form) (bytes : List ℕ) (n : ℕ) : Type 0 where
   pub within : n ≤ length bytes
   pub keep : AreItems form (items_of (take n bytes))

@@ -1,4 +1,4 @@
--- Reading a change of a track: the fields of an update or of a format, behind their tag.
+-- Reading a change of a track: the fields of an update or of a format, after their tag.
 use Rattle.std.specs.Prelude.{ℕ, ◌+◌, ◌-◌, ◌==◌, List, length, Result, Ok, Err, if◌then◌else◌}
 use Rattle.std.specs.Int.{w8}
 use Rattle.tod_stamp.specs.Fields.{◌>>=◌, Left, Bad, number_at, within, any}

@@ -1,4 +1,4 @@
--- The items of a group: their one spelling, and the rules that each keeps behind the items before it.
+-- The items of a group: their one spelling, and the rules that each keeps after the items before it.
 use Rattle.std.specs.Prelude.{ℕ, ◌^◌, ◌==◌, ◌&&◌, ◌||◌, not, List, [], ◌∷◌, ◌++◌, Bool, true, false, nat_lt, nat_le, IsTrue}
 use Rattle.std.specs.List.{flat_map, list_any}
 use Rattle.std.specs.Int.{w16, w32, to_be_bytes}
@@ -59,16 +59,16 @@ pub record Earlier : Type 0 where
 abbrev pub none_earlier : Earlier
 none_earlier = record { late = false; drawn = [] }
 
-abbrev pub behind : Item → Earlier → Earlier
-behind (Image device track recs) earlier = record { late = earlier.late; drawn = (device, track) ∷ earlier.drawn }
-behind (Delta device track kind) earlier = earlier
-behind (Pair row) earlier = record { late = true; drawn = earlier.drawn }
-behind (Gone device) earlier = record { late = true; drawn = earlier.drawn }
+abbrev pub earlier_after : Item → Earlier → Earlier
+earlier_after (Image device track recs) earlier = record { late = earlier.late; drawn = (device, track) ∷ earlier.drawn }
+earlier_after (Delta device track kind) earlier = earlier
+earlier_after (Pair row) earlier = record { late = true; drawn = earlier.drawn }
+earlier_after (Gone device) earlier = record { late = true; drawn = earlier.drawn }
 
--- the same behind a list of items
-abbrev pub behind_all : List Item → Earlier → Earlier
-behind_all [] earlier = earlier
-behind_all (i ∷ items) earlier = behind_all items (behind i earlier)
+-- the same after a list of items
+abbrev pub earlier_after_all : List Item → Earlier → Earlier
+earlier_after_all [] earlier = earlier
+earlier_after_all (i ∷ items) earlier = earlier_after_all items (earlier_after i earlier)
 
 abbrev pub is_drawn : List (ℕ × ℕ) → (device track : ℕ) → Bool
 is_drawn drawn device track = list_any (λ t. t.0 == device && t.1 == track) drawn
@@ -84,10 +84,10 @@ is_item form earlier (Delta device track kind) = (form.deltas && not earlier.lat
 is_item form earlier (Pair row) = is_row row
 is_item form earlier (Gone device) = nat_lt device (2 ^ 16)
 
-abbrev pub are_items_behind : Form → Earlier → List Item → Bool
-are_items_behind form earlier [] = true
-are_items_behind form earlier (i ∷ items) = is_item form earlier i && are_items_behind form (behind i earlier) items
+abbrev pub are_items_after : Form → Earlier → List Item → Bool
+are_items_after form earlier [] = true
+are_items_after form earlier (i ∷ items) = is_item form earlier i && are_items_after form (earlier_after i earlier) items
 
 -- The items are those of a group.
 abbrev pub AreItems : Form → List Item → Type 0
-AreItems form items = IsTrue (are_items_behind form none_earlier items)
+AreItems form items = IsTrue (are_items_after form none_earlier items)

@@ -14,7 +14,7 @@ use Rattle.xrc_journal.specs.Walks.{Logged, Walks}
 abbrev pub HasRecordAt : (place : ℕ) → (behind : List ℕ) → (journal : List ℕ) → Type 0
 HasRecordAt place behind journal = (rest : List ℕ) × (drop place journal ≡ 1 ∷ behind ++ rest)
 
--- a group that may stand at a spot of a data set of so many bytes, behind a record of a time
+-- a group that may stand at a spot of a data set of so many bytes, after a record of a time
 pub record MayStand (form : Form) (size : ℕ) (at : Spot) (last time : ℕ) (items : List Item) : Type 0 where
   pub keep : AreItems form items
   pub short : length (body_spelling items) ≤ most_body
@@ -38,7 +38,7 @@ abbrev pub SwitchesAreWalked : Type 0
 SwitchesAreWalked = (form : Form) (sets : ℕ) (journal : List ℕ) (at : Spot) (last time : ℕ) → next_set sets at.set < 2 ^ 16 → at.number < 2 ^ 64 - 1 → last ≤ time → time < 2 ^ 64
     → HasRecordAt at.place (switch_spelling at.number time (next_set sets at.set)) journal → walk_one form sets journal at last ≡ Switch time (spot_in (next_set sets at.set) at)
 
--- a switch that may stand at a spot, behind a record of a time
+-- a switch that may stand at a spot, after a record of a time
 pub record MaySwitch (at : Spot) (last time : ℕ) : Type 0 where
   pub number : at.number < 2 ^ 64 - 1
   pub later : last ≤ time

@@ -8,7 +8,7 @@ use Rattle.ckd_track.specs.declared.rec.Rec.{Rec}
 use Rattle.ckd_track.specs.Images.{image_at}
 use Rattle.pair_table.specs.declared.row.PairRow.{PairRow}
 use Rattle.pair_table.specs.Rows.{row_at}
-use Rattle.xrc_journal.specs.Items.{Item, Form, Earlier, none_earlier, behind, may_draw}
+use Rattle.xrc_journal.specs.Items.{Item, Form, Earlier, none_earlier, earlier_after, may_draw}
 use Rattle.xrc_journal.specs.Deltas.{as_body_field, change_at}
 use Rattle.xrc_journal.specs.Items.Item.{Image, Delta, Pair, Gone}
 
@@ -75,7 +75,7 @@ pub record Items : Type 0 where
 abbrev pub no_items : Items
 no_items = record { good = []; bad = None }
 
--- a first item and those behind it
+-- a first item and those after it
 abbrev pub first_and_rest : (place : ℕ) → Result (Item × Left) Bad → (Item × Left → Items) → Items
 first_and_rest place (Ok first) rest = record { good = first.0 ∷ (rest first).good; bad = (rest first).bad }
 first_and_rest place (Err bad) rest = record { good = []; bad = Some place }
@@ -83,7 +83,7 @@ first_and_rest place (Err bad) rest = record { good = []; bad = Some place }
 -- Each item takes a byte at least, so as many turns as there are bytes reach the end.
 unfoldable pub items_from : (turns : ℕ) → Form → Earlier → Left → Items
 items_from zero form earlier left = no_items
-items_from (suc turns) form earlier left = if length left.bytes == 0 then no_items else first_and_rest left.place (item_at form earlier left) (λ i. items_from turns form (behind i.0 earlier) i.1)
+items_from (suc turns) form earlier left = if length left.bytes == 0 then no_items else first_and_rest left.place (item_at form earlier left) (λ i. items_from turns form (earlier_after i.0 earlier) i.1)
 
 -- the items of a body, whose first byte stands at a place
 abbrev pub items_at : Form → (place : ℕ) → List ℕ → Items

@@ -6,7 +6,7 @@ use Rattle.xrc_journal.specs.Items.{Form, body_spelling}
 use Rattle.xrc_journal.specs.Records.{group_spelling, next_set, spot_in, switch_spelling}
 use Rattle.xrc_journal.specs.Walks.{Logged, Walks}
 use Rattle.xrc_journal.specs.Laws.{HasRecordAt, MayStand, MaySwitch}
-use Rattle.xrc_journal.specs.RingWalks.{WalkPlace, WalkRecord, WalksThrough, behind_logged, is_entered, walk_at, walk_behind, walk_start}
+use Rattle.xrc_journal.specs.RingWalks.{WalkPlace, WalkRecord, WalksThrough, is_entered, spot_after_logged, walk_after, walk_at, walk_start}
 use Rattle.xrc_journal.specs.RingWalks.WalkRecord.{OfGroup, OfSwitch}
 
 -- The images are the same as far as a walk to this place depends on them: those of the data sets that it left, and the bytes before its
@@ -30,7 +30,7 @@ pub record HoldsGroupAt (form : Form) (to : WalkPlace) (g : Logged) (journal : L
 -- It is the walk's last record then.
 abbrev pub GroupsAreAdded : Type 0
 GroupsAreAdded = (form : Form) (sets : ℕ) (old new : ℕ → List ℕ) (from : Spot) (last : ℕ) (records : List WalkRecord) (to : WalkPlace) (g : Logged) → SameUpTo to old new → HoldsGroupAt form to g (new to.at.set)
-    → WalksThrough form sets old (walk_start from last) records to → WalksThrough form sets new (walk_start from last) (records ++ OfGroup g ∷ []) (walk_behind (OfGroup g) (behind_logged g to.at) to)
+    → WalksThrough form sets old (walk_start from last) records to → WalksThrough form sets new (walk_start from last) (records ++ OfGroup g ∷ []) (walk_after (OfGroup g) (spot_after_logged g to.at) to)
 
 -- A switch stands spelled at a walk's end, and leads to a data set that isn't that of the walk's start and whose first gate isn't 1.
 pub record HoldsSwitchAt (sets : ℕ) (from : Spot) (to : WalkPlace) (time : ℕ) (images : ℕ → List ℕ) : Type 0 where
@@ -45,7 +45,7 @@ pub record HoldsSwitchAt (sets : ℕ) (from : Spot) (to : WalkPlace) (time : ℕ
 abbrev pub SwitchesAreAdded : Type 0
 SwitchesAreAdded = (form : Form) (sets : ℕ) (old new : ℕ → List ℕ) (from : Spot) (last time : ℕ) (records : List WalkRecord) (to : WalkPlace) → SameUpTo to old new → HoldsSwitchAt sets from to time new
     → WalksThrough form sets old (walk_start from last) records to
-    → WalksThrough form sets new (walk_start from last) (records ++ OfSwitch time ∷ []) (walk_behind (OfSwitch time) (spot_in (next_set sets to.at.set) to.at) to)
+    → WalksThrough form sets new (walk_start from last) (records ++ OfSwitch time ∷ []) (walk_after (OfSwitch time) (spot_in (next_set sets to.at.set) to.at) to)
 
 -- Data sets are entered in turn. So the one after the walk's last was entered exactly where the walk began there.
 abbrev pub SetsComeInTurn : Type 0

@@ -38,10 +38,10 @@ walk_at entered at last = record { entered = entered; at = at; last = last }
 abbrev pub walk_start : Spot → (last : ℕ) → WalkPlace
 walk_start from last = walk_at (from.set ∷ []) from last
 
--- where it stands behind a record that leads to a spot
-abbrev pub walk_behind : WalkRecord → (after : Spot) → WalkPlace → WalkPlace
-walk_behind (OfGroup g) after p = walk_at p.entered after g.time
-walk_behind (OfSwitch time) after p = walk_at (p.entered ++ after.set ∷ []) after time
+-- where it stands after a record that leads to a spot
+abbrev pub walk_after : WalkRecord → (after : Spot) → WalkPlace → WalkPlace
+walk_after (OfGroup g) after p = walk_at p.entered after g.time
+walk_after (OfSwitch time) after p = walk_at (p.entered ++ after.set ∷ []) after time
 
 -- whether a data set was entered
 abbrev pub is_entered : (set : ℕ) → (entered : List ℕ) → Bool
@@ -54,9 +54,9 @@ found_there form sets images p = walk_one form sets (images p.at.set) p.at p.las
 -- These records in turn lead from one place to another. A data set that was entered before is not entered again.
 abbrev pub LeadsTo : Form → (sets : ℕ) → (images : ℕ → List ℕ) → (from : WalkPlace) → List WalkRecord → (to : WalkPlace) → Type 0
 LeadsTo form sets images from [] to = to ≡ from
-LeadsTo form sets images from (OfGroup g ∷ records) to = (after : Spot) × (found_there form sets images from ≡ Group g.time g.items after) × LeadsTo form sets images (walk_behind (OfGroup g) after from) records to
+LeadsTo form sets images from (OfGroup g ∷ records) to = (after : Spot) × (found_there form sets images from ≡ Group g.time g.items after) × LeadsTo form sets images (walk_after (OfGroup g) after from) records to
 LeadsTo form sets images from (OfSwitch time ∷ records) to =
-    (after : Spot) × (found_there form sets images from ≡ Switch time after) × (is_entered after.set from.entered ≡ false) × LeadsTo form sets images (walk_behind (OfSwitch time) after from) records to
+    (after : Spot) × (found_there form sets images from ≡ Switch time after) × (is_entered after.set from.entered ≡ false) × LeadsTo form sets images (walk_after (OfSwitch time) after from) records to
 
 -- The walk from one place has these records, and a gate that isn't 1 at another place ends it.
 pub record WalksThrough (form : Form) (sets : ℕ) (images : ℕ → List ℕ) (from : WalkPlace) (records : List WalkRecord) (to : WalkPlace) : Type 0 where
@@ -91,18 +91,18 @@ KeepsThrough form sets from to old new = (last time : ℕ) (records : List WalkR
     → WalksThrough form sets new (walk_start from last) records (walk_at entered to time)
 
 -- Whatever the walk to a spot over the old images is, up to the record's time, that over the new ones has the record at its end, and
--- ends behind it.
+-- ends after it.
 abbrev pub AddsThrough : Form → (sets : ℕ) → (from to : Spot) → WalkRecord → (after : Spot) → (old new : ℕ → List ℕ) → Type 0
 AddsThrough form sets from to r after old new = (last time : ℕ) (records : List WalkRecord) (entered : List ℕ) → WalksThrough form sets old (walk_start from last) records (walk_at entered to time) → time ≤ record_time r
-    → WalksThrough form sets new (walk_start from last) (records ++ r ∷ []) (walk_behind r after (walk_at entered to time))
+    → WalksThrough form sets new (walk_start from last) (records ++ r ∷ []) (walk_after r after (walk_at entered to time))
 
 -- The walk is the old one, or has the record at its end.
 abbrev pub KeepsOrAdds : Form → (sets : ℕ) → (from to : Spot) → WalkRecord → (after : Spot) → (old new : Choice) → Type 0
 KeepsOrAdds form sets from to r after old new = KeepsThrough form sets from to (journal_images old) (journal_images new) ⊎ AddsThrough form sets from to r after (journal_images old) (journal_images new)
 
--- the spot behind a group that is put at one
-abbrev pub behind_logged : Logged → Spot → Spot
-behind_logged g at = spot_after at (length (body_spelling g.items))
+-- the spot after a group that is put at one
+abbrev pub spot_after_logged : Logged → Spot → Spot
+spot_after_logged g at = spot_after at (length (body_spelling g.items))
 
 -- All but the range of a group's record and of the next gate is as it was.
 pub record GroupRange (to : Spot) (g : Logged) (old new : Choice) : Type 0 where
@@ -111,12 +111,12 @@ pub record GroupRange (to : Spot) (g : Logged) (old new : Choice) : Type 0 where
 
 -- While a group is put at the end, the walk is the old one, or has the group at its end.
 pub record PutsGroup (form : Form) (sets : ℕ) (from to : Spot) (g : Logged) (old new : Choice) : Type 0 where
-  pub walk : KeepsOrAdds form sets from to (OfGroup g) (behind_logged g to) old new
+  pub walk : KeepsOrAdds form sets from to (OfGroup g) (spot_after_logged g to) old new
   pub range : GroupRange to g old new
 
 -- Once it was put there, it is the walk's last.
 pub record HasGroup (form : Form) (sets : ℕ) (from to : Spot) (g : Logged) (old new : Choice) : Type 0 where
-  pub walk : AddsThrough form sets from to (OfGroup g) (behind_logged g to) (journal_images old) (journal_images new)
+  pub walk : AddsThrough form sets from to (OfGroup g) (spot_after_logged g to) (journal_images old) (journal_images new)
   pub range : GroupRange to g old new
 
 -- All but the range of a switch and the first gate of the next data set is as it was.

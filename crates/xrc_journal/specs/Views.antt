@@ -1,8 +1,8 @@
--- The items of a body as its reader tells them.
+-- The items of a body as its reader reports them.
 use Rattle.std.specs.Prelude.{◌≡◌, ℕ, List, [], ◌∷◌, length, Option, Some, None, IsTrue}
 use Rattle.xrc_journal.specs.declared.reading.BodyItem.{BodyItem}
 use Rattle.xrc_journal.specs.declared.reading.BodyItem.TheVariants.{Image as ImageTold, Pair as PairTold, Gone as GoneTold}
-use Rattle.xrc_journal.specs.Items.{Item, Earlier, anywhere, are_items_behind, item_spelling, body_spelling}
+use Rattle.xrc_journal.specs.Items.{Item, Earlier, anywhere, are_items_after, item_spelling, body_spelling}
 use Rattle.xrc_journal.specs.Items.Item.{Image, Delta, Pair, Gone}
 
 -- What is told of an item. A change, which no body has yet, would be told as its track.
@@ -16,7 +16,7 @@ told (Gone device) = GoneTold device
 pub record AreItemBytes (bytes : List ℕ) : Type 0 where
   pub earlier : Earlier
   pub items : List Item
-  pub keep : IsTrue (are_items_behind anywhere earlier items)
+  pub keep : IsTrue (are_items_after anywhere earlier items)
   pub spelled : bytes ≡ body_spelling items
 
 -- what is told of the first of these items, and its length

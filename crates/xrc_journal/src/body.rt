@@ -49,7 +49,7 @@ fn zeros(alloc: Global, size: usize) -> Result<BoxedSlice<u8>, NoMemory>
     Ok(vec![in alloc; 0u8; size]?.into_boxed_slice())
 }
 
-/// The place behind the good bytes, where these aren't all.
+/// The place after the good bytes, where these aren't all.
 fn bad_place(place: u64, good: usize, count: usize) -> Option<u64>
     requires { place + good < 2 ^ 64 }
     ensures { result ≡ if good == count then None else Some (place + good) }
@@ -83,7 +83,7 @@ impl Body {
         &self.buffer.as_slice()[..self.used]
     }
 
-    /// The same with a closed gate behind it.
+    /// The same with a closed gate after it.
     pub(crate) fn shut_bytes(&self) -> &[u8]
         ensures { result.now ≡ body_spelling self.now.items ++ 0 ∷ [] }
     {
@@ -98,7 +98,7 @@ impl Body {
         self.used = 0;
     }
 
-    /// Puts an item, which is spelled in two parts, behind the others.
+    /// Puts an item, which is spelled in two parts, after the others.
     fn put(&mut self, front: &[u8], back: &[u8])
         requires next { IsNextItem self.old.items (front.now ++ back.now) }
         requires fits { length (body_spelling self.old.items) + length front.now + length back.now ≤ self.old.room }

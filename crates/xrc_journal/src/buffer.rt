@@ -15,7 +15,7 @@ fn put_bytes(buffer: &mut [u8], place: usize, bytes: &[u8])
     buffer[place..place + bytes.len()].copy_from_slice(bytes);
 }
 
-/// Writes two parts one behind the other at a place, and a closed gate behind them.
+/// Writes two parts one after the other at a place, and a closed gate after them.
 pub(crate) fn put_parts(buffer: &mut [u8], place: usize, front: &[u8], back: &[u8])
     requires { place + length front.now + length back.now + 1 ≤ length buffer.old }
     ensures { buffer.new ≡ patched place (front.now ++ back.now ++ 0 ∷ []) buffer.old }

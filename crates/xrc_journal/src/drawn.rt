@@ -53,8 +53,8 @@ fn has_image(body: &[u8], device: u16, track: u32) -> bool
         if draws(rest, device, track) {
             return true;
         }
-        let (_, behind) = rest.split_at(first_length(rest));
-        rest = behind;
+        let (_, after) = rest.split_at(first_length(rest));
+        rest = after;
     }
     false
 }

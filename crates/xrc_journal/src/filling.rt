@@ -14,7 +14,7 @@ use crash_plant::{Device, Plant};
 use std::alloc::Global;
 use xrc_edge::Failed;
 
-/// Reads bytes of a device into the front of a buffer, and closes the gate behind the good items at their front. Gives the
+/// Reads bytes of a device into the front of a buffer, and closes the gate after the good items at their front. Gives the
 /// length of these. Where it fails the gate is the first byte.
 pub(crate) fn fill<P: Plant>(
     plant: &mut P,

@@ -46,7 +46,7 @@ fn keeps_rules(bytes: &[u8; HEADER], at: Spot, last: Stamp, size: u64) -> bool
         && is_length(bytes[0], length, at, size)
 }
 
-/// What the header of a record says that stands at a spot of a data set of that many bytes, behind a record of the time `last`.
+/// What the header of a record says that stands at a spot of a data set of that many bytes, after a record of the time `last`.
 /// None where it breaks a rule.
 pub(crate) fn decode_header(
     bytes: &[u8; HEADER],

@@ -2,7 +2,7 @@
 
 ghost use Rattle.std.specs.Prelude.{◌≡◌, ◌≤◌, ◌+◌, ◌∷◌, ℕ, length, IfSome, IsTrue};
 ghost use Rattle.crash_plant.specs.Calls.{NoneLent};
-ghost use Rattle.xrc_journal.specs.Items.{Item, behind, form_of, is_within, may_draw};
+ghost use Rattle.xrc_journal.specs.Items.{Item, earlier_after, form_of, is_within, may_draw};
 ghost use Rattle.xrc_journal.specs.Reading.{gone_item_at, image_item_at, item_at, pair_item_at};
 ghost use Rattle.xrc_journal.specs.Bodies.{BeginsWith, GoodFront, IsBody, are_late, earlier_of, items_of};
 ghost use Rattle.xrc_journal.specs.Drawn.{AreDrawn, track_in};
@@ -31,7 +31,7 @@ pub(crate) fn has_slot<P: Plant>(plant: &P, device: u16, track: u32) -> bool
     device < plant.volumes() && is_within(plant.length(Device::Volume(device)), track)
 }
 
-/// The length of a pair's item with these fields behind its tag.
+/// The length of a pair's item with these fields after its tag.
 pub(crate) fn pair_length(fields: &[u8]) -> Option<usize>
     ensures { (place : ℕ) → result ≡ length_of (pair_item_at (record { place = place; bytes = fields.now })) }
 {
@@ -46,7 +46,7 @@ pub(crate) fn pair_length(fields: &[u8]) -> Option<usize>
     }
 }
 
-/// The length of the item of a device whose row goes, with these fields behind its tag.
+/// The length of the item of a device whose row goes, with these fields after its tag.
 pub(crate) fn gone_length(fields: &[u8]) -> Option<usize>
     ensures { (place : ℕ) → result ≡ length_of (gone_item_at (record { place = place; bytes = fields.now })) }
 {
@@ -70,7 +70,7 @@ fn may_draw<P: Plant>(
     has_slot(plant, device, track) && drawn.take(body, device, track)
 }
 
-/// The length of an image's item with these fields behind its tag, which stands behind the items of a body.
+/// The length of an image's item with these fields after its tag, which stands after the items of a body.
 fn image_length<P: Plant>(
     plant: &P,
     drawn: &mut DrawnTracks,
@@ -97,7 +97,7 @@ fn image_length<P: Plant>(
     }
 }
 
-/// The length of the item that the bytes begin with, which stands behind the items of a body. `late` says whether one of those
+/// The length of the item that the bytes begin with, which stands after the items of a body. `late` says whether one of those
 /// is of a row, and `drawn` which tracks have an image there. None where it breaks a rule.
 pub(crate) fn item_length<P: Plant>(
     plant: &P,
@@ -112,7 +112,7 @@ pub(crate) fn item_length<P: Plant>(
     requires late { late ≡ are_late (items_of body.now) }
     requires some { 1 ≤ length bytes.now }
     ensures length { (place : ℕ) → result ≡ length_of (item_at (form_of (P.state plant.now)) (earlier_of body.now) (record { place = place; bytes = bytes.now })) }
-    ensures known { IfSome result (λ length. (item : Item) → BeginsWith bytes.now item → AreDrawn drawn.new (behind item (earlier_of body.now)).drawn) }
+    ensures known { IfSome result (λ length. (item : Item) → BeginsWith bytes.now item → AreDrawn drawn.new (earlier_after item (earlier_of body.now)).drawn) }
 {
     let (tag, fields) = bytes.split_at(1);
     match tag[0] {

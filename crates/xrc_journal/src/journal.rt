@@ -13,7 +13,7 @@ ghost use Rattle.xrc_journal.specs.Records.{record_header_spelling, switch_spell
 ghost use Rattle.xrc_journal.specs.Walks.{Logged};
 ghost use Rattle.xrc_journal.specs.RingWalks.{AllEndThrough};
 ghost use Rattle.xrc_journal.specs.Appending.{AllPutGroup, AllPutRecord, AllPutSwitch, GroupIsPut, GrowCause, IsOfSwitch, IsShutAt, IsWholeBody};
-ghost use Rattle.xrc_journal.specs.Appending.{IsWritten, MayGrow, NextHasRoom, PutsBody, RefusesGroup, RefusesSwitch, SwitchIsPut, group_behind, room_for};
+ghost use Rattle.xrc_journal.specs.Appending.{IsWritten, MayGrow, NextHasRoom, PutsBody, RefusesGroup, RefusesSwitch, SwitchIsPut, group_behind_gate, room_for};
 
 use crate::Body;
 use crate::layout::{AROUND, BEHIND_GATE};
@@ -33,7 +33,7 @@ pub struct Journal {
 /// Why a record was not put at the end.
 #[derive(Clone, Copy, Debug, PartialEq, Eq)]
 pub enum AppendError {
-    /// It needs more bytes than are left in the data set, with those for a switch behind it.
+    /// It needs more bytes than are left in the data set, with those for a switch after it.
     NoRoom { needed: u64, free: u64 },
     /// The journal with this number has failed.
     Fault(u16),
@@ -51,7 +51,7 @@ fn header(number: u64, time: Stamp, length: u32) -> [u8; HEADER]
     bytes
 }
 
-/// Writes two parts one behind the other, and syncs them. Where it fails, their range may hold any bytes.
+/// Writes two parts one after the other, and syncs them. Where it fails, their range may hold any bytes.
 fn put_both<P: Plant>(
     plant: &mut P,
     device: Device,
@@ -72,7 +72,7 @@ fn put_both<P: Plant>(
     put_down(plant, device, place + front.len() as u64, back)
 }
 
-/// What stands between the gate of a switch and the record behind it.
+/// What stands between the gate of a switch and the record after it.
 fn switch_bytes(number: u64, time: Stamp, set: u16) -> [u8; BEHIND_GATE]
     ensures spelled { result ≡ switch_spelling number time.0 set }
     ensures stamp { time.0 < 2 ^ 64 }
@@ -85,15 +85,15 @@ fn switch_bytes(number: u64, time: Stamp, set: u16) -> [u8; BEHIND_GATE]
     bytes
 }
 
-/// Puts a group at a spot, with a closed gate behind it.
+/// Puts a group at a spot, with a closed gate after it.
 fn put_group<P: Plant>(plant: &mut P, at: Spot, cut: Stamp, body: &Body) -> Result<(), Failed>
     requires there { IsThere (P.state plant.old) (JournalDevice at.set) }
     requires fits { (P.state plant.old).lengths (JournalDevice at.set) < 2 ^ 64 }
     requires short { length (body_spelling body.now.items) ≤ most_body }
     requires room { at.place + room_for body.now.items ≤ (P.state plant.old).lengths (JournalDevice at.set) }
     requires shut { P.tells → IsShutAt at.place (on (P.state plant.old) (JournalDevice at.set)) }
-    ensures moments { P.tells → AllPutRecord (room_for body.now.items) at (group_behind at cut.0 body.now.items) (P.state plant.old) (P.state plant.new) }
-    ensures written { P.tells → OnOk result (IsWritten at (group_behind at cut.0 body.now.items) (P.state plant.old) (P.state plant.new)) }
+    ensures moments { P.tells → AllPutRecord (room_for body.now.items) at (group_behind_gate at cut.0 body.now.items) (P.state plant.old) (P.state plant.new) }
+    ensures written { P.tells → OnOk result (IsWritten at (group_behind_gate at cut.0 body.now.items) (P.state plant.old) (P.state plant.new)) }
     ensures durable { P.tells → OnOk result (IsDurable (on (P.state plant.new) (JournalDevice at.set))) }
     ensures stamp { cut.0 < 2 ^ 64 }
     ensures only { WorksOn P.tells (λ d. d ≡ JournalDevice at.set) (P.state plant.old) (P.state plant.new) }

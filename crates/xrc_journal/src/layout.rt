@@ -14,17 +14,17 @@ pub const IMAGE_FRONT: usize = 1 + TRACK;
 /// The bytes of a row's item.
 pub const ROW_ITEM: usize = 1 + ROW_LENGTH;
 
-/// The bytes of a gate and a header, and the room that is kept behind a group for a switch.
+/// The bytes of a gate and a header, and the room that is kept after a group for a switch.
 pub const AROUND: u64 = FRONT + SWITCH;
 
 /// The bytes of a switch behind its gate.
 pub(crate) const BEHIND_GATE: usize = HEADER + 2;
 
-/// The bytes of a journal beside those for the controls.
+/// The bytes of a journal beside those for the controllers.
 pub const BESIDE_CONTROLS: u64 = 8_192;
 
-/// The bytes of a journal for each control: the blocks of its longest entries that wait.
+/// The bytes of a journal for each controller: the blocks of its longest entries that wait.
 pub const OF_CONTROL: u64 = (BLOCKS_OF_QUEUE * BLOCK) as u64;
 
-/// The most bytes of a body: those of a journal of the most controls.
+/// The most bytes of a body: those of a journal of the most controllers.
 pub const MOST_BODY: u32 = (BESIDE_CONTROLS + MOST_CONTROLS as u64 * OF_CONTROL) as u32;

@@ -1,7 +1,7 @@
 //! The items of a body one after another, for those who go over them.
 
 ghost use Rattle.std.specs.Prelude.{◌≡◌, ◌≢◌, ℕ, List, length, slice_index, IsTrue};
-ghost use Rattle.xrc_journal.specs.Items.{Item, Earlier, anywhere, are_items_behind, item_spelling, body_spelling};
+ghost use Rattle.xrc_journal.specs.Items.{Item, Earlier, anywhere, are_items_after, item_spelling, body_spelling};
 ghost use Rattle.pair_table.specs.declared.row.PairRow.{PairRow as RowValue};
 ghost use Rattle.xrc_journal.specs.Items.Item.{Gone, Pair};
 ghost use Rattle.xrc_journal.specs.Bodies.{BeginsWith, BeginsWithItem};
@@ -12,7 +12,7 @@ use byteorder::{BigEndian, ByteOrder};
 use ckd_track::image_length;
 use pair_table::{PairRow, ROW_LENGTH, decode_row};
 
-/// An item of a body. The image of a track stands in the bytes behind `IMAGE_FRONT`, up to the item's end.
+/// An item of a body. The image of a track stands in the bytes after `IMAGE_FRONT`, up to the item's end.
 #[derive(Clone, Copy, Debug, PartialEq, Eq)]
 pub enum BodyItem {
     /// A whole track of a device.
@@ -64,7 +64,7 @@ fn gone(bytes: &[u8]) -> u16
 /// The item that bytes of a body begin with, and its length. None exactly where there are no bytes.
 pub fn first_item(bytes: &[u8]) -> Option<(BodyItem, usize)>
     requires { AreItemBytes bytes.now }
-    ensures item { (earlier : Earlier) (items : List Item) → IsTrue (are_items_behind anywhere earlier items) → bytes.now ≡ body_spelling items → result ≡ first_told items }
+    ensures item { (earlier : Earlier) (items : List Item) → IsTrue (are_items_after anywhere earlier items) → bytes.now ≡ body_spelling items → result ≡ first_told items }
 {
     if bytes.is_empty() {
         return None;

@@ -203,7 +203,7 @@ pub fn walk<P: Plant>(
     // What a read gives is walked by the rules on one record.
     ensures finds { P.tells → NoFault result → Finds at.set (walk_one (form_of (P.state plant.old)) (P.state plant.old).journals ((P.state plant.old).bytes (JournalDevice at.set)) at last.0) result into.old into.new }
     ensures room { into.new.room ≡ into.old.room }
-    // Whatever a read gave, the spot behind a record lies in a journal, and the items keep the rules of the plant.
+    // Whatever a read gave, the spot after a record lies in a journal, and the items keep the rules of the plant.
     ensures goes_on { IfOk result (WalkGoesOn (P.state plant.old) at) }
     ensures keep { AreItems (form_of (P.state plant.old)) into.new.items }
     // After a fault no items are held.

@@ -197,7 +197,7 @@ module _ (tells : Type 0) (old new : PlantState) where
   late_lasts Spent last is = absurd (omega (arith, is))
 
   module _ (session : List ℕ) (long : first_short old ≡ None) where
-    -- A volume is too small behind a meaning.
+    -- A volume is too small after a meaning.
     by_device : (d : Device) (needed : ℕ) → StopLasts tells old new (TooSmall d needed) → IsShort old d needed ⊎ IsTooSmall old session d needed → AtNow (MeansAsRead old) new
     by_device d needed last (inl short) = absurd (let same = sym long ∙ short.first in cc)
     by_device Control needed last (inr small) = absurd (let same = small.device in cc)
@@ -261,7 +261,7 @@ module _ (a b c : PlantState) (faults : (d : Device) → c.faults d ≡ b.faults
     console = λ rose. none.console (rose_still a.console_faults b.console_faults c.console_faults first later rose);
   }
 
--- One call on the console at most failed: behind one that did, no line is said.
+-- One call on the console at most failed: after one that did, no line is said.
 pub console_calls : (a b c : PlantState) (stop : Stop) → c.console_faults ≤ b.console_faults + 1 → (stop ≢ ConsoleFault → b.console_faults ≡ a.console_faults) → b.console_faults ≤ a.console_faults + 1 → (stop ≡ ConsoleFault → c.console_faults ≡ b.console_faults) → c.console_faults ≤ a.console_faults + 1
 console_calls a b c stop by_one same once quiet = elim (cases_eq (status_of stop) 3) [
   | inl is ↦ omega (arith, once, quiet (is_console stop is))
@@ -270,7 +270,7 @@ console_calls a b c stop by_one same once quiet = elim (cases_eq (status_of stop
 
 -- ---- what is said
 
--- A text, and a front of a line behind it.
+-- A text, and a front of a line after it.
 module _ (text line : List ℕ) (a b c : PlantState) (past : Elapses b c) (said : SaidWhole text a b) (p : Says text a b) (q : Says line b c) (later : a.clock ≤ b.clock) where
   front_then : (t : ℕ) → a.clock ≤ t → t ≤ c.clock → (k : ℕ) × (k ≤ length (text ++ line)) × (c.said t ≡ a.said a.clock ++ take k (text ++ line))
   front_then t from to = elim (cases_lt t b.clock) [
@@ -313,7 +313,7 @@ module _ (text line : List ℕ) (a b c : PlantState) (past : Elapses b c) (said 
   }
 
 module _ (tells : Type 0) (line : List ℕ) (a b c : PlantState) (last : SaysLast tells line b c) (told : tells) where
-  -- A last line behind a text.
+  -- A last line after a text.
   pub says_then_last : (text : List ℕ) → a.clock ≤ b.clock → a.console_faults ≤ b.console_faults → SaidWhole text a b → Says text a b → SaysThen text line a c
   says_then_last text later counts said says =
       let front = last.front.moments told in
@@ -327,7 +327,7 @@ module _ (tells : Type 0) (line : List ℕ) (a b c : PlantState) (last : SaysLas
         ];
       }
 
-  -- It alone, behind calls that said nothing.
+  -- It alone, after calls that said nothing.
   pub says_last_alone : (step : Device → List ℕ → List ℕ → Type 0) → Works tells step a b → SaysThen [] line a c
   says_last_alone step works =
       let later = ((works.elapses told).kept Control).later in
@@ -343,7 +343,7 @@ module _ (tells : Type 0) (line : List ℕ) (a b c : PlantState) (last : SaysLas
         ];
       }
 
-  -- It behind a report.
+  -- It after a report.
   pub report_then : (labelling : Labelling) (session failed : List ℕ) → a.clock ≤ b.clock → a.console_faults ≤ b.console_faults → ReportsAll labelling session failed a b → ReportsThen labelling session failed line a c
   report_then labelling session failed later counts all =
       let pairs = all.report.pairs in
@@ -390,7 +390,7 @@ ends_done tells labelling session a b v e = record {
   unwritten = λ other. absurd (other refl);
 }
 
--- Each stop has its status, and its line behind what was said.
+-- Each stop has its status, and its line after what was said.
 module _ (tells : Type 0) (labelling : Labelling) (session : List ℕ) (a b c : PlantState) (stop : Stop) (e : RecoversSession tells labelling session a b (Err stop)) (last : SaysLast tells (last_line stop) b c) where
   ends_so : EndsSo tells stop a c (status_of stop)
   ends_so = record { status_is = refl; says = λ told quiet. says_last_alone tells (last_line stop) a b c last told (RecoversMeant a) (e.silent quiet) }

@@ -18,9 +18,9 @@ lines_append failed (row ∷ rows) more = ap (λ (l : List ℕ). pair_line faile
 pub lines_more : (failed : List ℕ) (rows : List PairRow) (row : PairRow) → pair_lines failed (rows ++ row ∷ []) ≡ pair_lines failed rows ++ pair_line failed row
 lines_more failed rows row = lines_append failed rows (row ∷ []) ∙ ap (λ (l : List ℕ). pair_lines failed rows ++ l) (append-nil (pair_line failed row))
 
--- Four texts, put behind a text one after another.
-pub four_behind : (line a b c d : List ℕ) (w x y z : List ℕ) → w ≡ line ++ a → x ≡ w ++ b → y ≡ x ++ c → z ≡ y ++ d → z ≡ line ++ (a ++ b ++ c ++ d)
-four_behind line a b c d w x y z p q r s =
+-- Four texts, put after a text one after another.
+pub four_after : (line a b c d : List ℕ) (w x y z : List ℕ) → w ≡ line ++ a → x ≡ w ++ b → y ≡ x ++ c → z ≡ y ++ d → z ≡ line ++ (a ++ b ++ c ++ d)
+four_after line a b c d w x y z p q r s =
     s ∙ ap (λ (l : List ℕ). l ++ d) (r ∙ ap (λ (l : List ℕ). l ++ c) (q ∙ ap (λ (l : List ℕ). l ++ b) p ∙ append_assoc line a b) ∙ append_assoc line (a ++ b) c) ∙ append_assoc line (a ++ b ++ c) d
 
 -- ---- devices that failed

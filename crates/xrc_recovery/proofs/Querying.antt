@@ -292,7 +292,7 @@ query_done tells session a b v e = record {
   volumes = λ v. e.counts (Volume v) (λ no. cc);
 }
 
--- Each stop has its status, and its line behind what was said.
+-- Each stop has its status, and its line after what was said.
 module _ (tells : Type 0) (session : List ℕ) (a b c : PlantState) (stop : Stop) (e : QueriesSession tells session a b (Err stop)) (last : SaysLast tells (last_line stop) b c) where
   ends_so : EndsSo tells stop a c (status_of stop)
   ends_so = record { status_is = refl; says = λ told quiet. says_last_alone tells (last_line stop) a b c last told Nothing (e.silent quiet) }

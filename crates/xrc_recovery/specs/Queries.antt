@@ -32,7 +32,7 @@ pub record HasMeaning (plant : PlantState) (session : List ℕ) : Type 0 where
 
 -- ---- what is said
 
--- the report of what is meant, which has no line of a control
+-- the report of what is meant, which has no line of a controller
 abbrev pub meaning_report : Means → List ℕ
 meaning_report means = report_text means.table means.level means.time.0 []
 
@@ -85,7 +85,7 @@ pub record EndsQuery (tells : Type 0) (session : List ℕ) (old new : PlantState
   -- Done: the report of what the devices mean was said, and nothing else. Where the console failed it was said in part.
   pub done : tells → status ≡ 0 → SaysReportWhole session old new
   pub in_part : tells → status ≡ 3 → SaysReport session old new
-  -- Done, no count rose. No call on the console comes behind one that failed.
+  -- Done, no count rose. No call on the console comes after one that failed.
   pub counts : status ≡ 0 → (d : Device) → new.faults d ≡ old.faults d
   pub console_count : status ≡ 0 → new.console_faults ≡ old.console_faults
   pub console_once : new.console_faults ≤ old.console_faults + 1

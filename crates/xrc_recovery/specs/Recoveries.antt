@@ -27,7 +27,7 @@ use Rattle.xrc_recovery.specs.Reports.{Changes, Reports, ReportsAll}
 abbrev pub RecoversMeant : PlantState → Device → List ℕ → List ℕ → Type 0
 RecoversMeant plant = Recovers (meant_rows plant plant.bytes) (walked plant plant.bytes)
 
--- What a stop tells of the devices is so of whatever a crash leaves now. Behind a journal's fault nothing was written, or the rest is so.
+-- What a stop tells of the devices is so of whatever a crash leaves now. After a journal's fault nothing was written, or the rest is so.
 abbrev pub StopLasts : (tells : Type 0) → (old new : PlantState) → Stop → Type 0
 StopLasts tells old new NoSession = AtNow (MeansAsRead old) new
 StopLasts tells old new (OtherSession name) = AtNow (ChoosesAsRead old) new

@@ -23,23 +23,23 @@ use Rattle.xrc_recovery.specs.Reports.{Changes, RedoesPairs, Reports, ReportsAll
 
 -- ---- what was said
 
--- A text was said whole, and a front of a line behind it.
+-- A text was said whole, and a front of a line after it.
 abbrev pub SaidUpTo : (text line : List ℕ) → PlantState → PlantState → Type 0
 SaidUpTo text line old new = (k : ℕ) × (k ≤ length line) × (new.said new.clock ≡ old.said old.clock ++ (text ++ take k line))
 
--- A text was said whole, and a line behind it, whole too, or in part where the console's count rose.
+-- A text was said whole, and a line after it, whole too, or in part where the console's count rose.
 pub record SaysThen (text line : List ℕ) (old new : PlantState) : Type 0 where
   pub says : Says (text ++ line) old new
   pub whole : SaidWhole (text ++ line) old new ⊎ (SaidUpTo text line old new × Rose old.console_faults new.console_faults)
 
--- The pairs were redone but those of these devices; so it was said whole, and a line behind it.
+-- The pairs were redone but those of these devices; so it was said whole, and a line after it.
 pub record ReportsThen (labelling : Labelling) (session failed line : List ℕ) (old new : PlantState) : Type 0 where
   pub pairs : RedoesPairs labelling session failed old new
   pub says : SaysThen (report_of labelling session failed pairs) line old new
 
 -- ---- stops
 
--- The status is this stop's, and nothing but its line was said, unless the stop comes behind other lines.
+-- The status is this stop's, and nothing but its line was said, unless the stop comes after other lines.
 pub record EndsSo (tells : Type 0) (stop : Stop) (old new : PlantState) (status : ℕ) : Type 0 where
   pub status_is : status ≡ status_of stop
   pub says : tells → ¬ HasLines stop → SaysThen [] (last_line stop) old new
@@ -78,7 +78,7 @@ pub record EndsRecovery (tells : Type 0) (labelling : Labelling) (session : List
   pub done : tells → status ≡ 0 → ReportsAll labelling session [] old new
   pub failed : tells → status ≡ 13 → (failed : List ℕ) × (failed ≢ []) × ReportsThen labelling session failed (last_line VolumeFault) old new
   pub in_part : tells → status ≡ 3 → (failed : List ℕ) × Reports labelling session failed old new
-  -- Done, no count rose but those of volumes. No call on the console comes behind one that failed.
+  -- Done, no count rose but those of volumes. No call on the console comes after one that failed.
   pub counts : status ≡ 0 → (d : Device) → IsExamined d → new.faults d ≡ old.faults d
   pub console_count : status ≡ 0 → new.console_faults ≡ old.console_faults
   pub console_once : new.console_faults ≤ old.console_faults + 1

@@ -13,7 +13,7 @@ use Rattle.site_means.specs.Meaning.Meaning.{NoMark, DamagedAt}
 use Rattle.site_means.specs.Answers.{IsInTurn, first_short, need}
 use Rattle.xrecover.specs.declared.recover_error.RecoverError.{RecoverError}
 use Rattle.xrecover.specs.declared.recover_error.RecoverError.TheVariants.{Site, Other}
-use Rattle.xrecover.specs.Answers.{Behind, IsOf, IsOther, IsRecoverable, IsTooSmall}
+use Rattle.xrecover.specs.Answers.{After, IsOf, IsOther, IsRecoverable, IsTooSmall}
 use Rattle.xrc_status.specs.declared.stop.Stop.{Stop}
 use Rattle.xrc_status.specs.declared.stop.Stop.TheVariants.{NoMemory, BadWords, ConsoleFault, BadLine, JournalFault, ControlFault, StateFault, BadHeader, HeaderFault, NoSession, OtherSession, Damaged, VolumeFault, TooSmall, BadSite, Spent}
 
@@ -57,7 +57,7 @@ CallsFor plant session BadSite = ¬ IsSite plant
 CallsFor plant session (TooSmall d needed) = IsShort plant d needed ⊎ IsTooSmall plant session d needed
 CallsFor plant session ControlFault = IsInTurn plant Control
 CallsFor plant session NoSession = meaning plant plant.bytes ≡ NoMark
-CallsFor plant session (Damaged d place) = (meaning plant plant.bytes ≡ DamagedAt d place) × Behind plant session d
+CallsFor plant session (Damaged d place) = (meaning plant plant.bytes ≡ DamagedAt d place) × After plant session d
 CallsFor plant session (OtherSession name) = IsOther plant session name
 CallsFor plant session StateFault = IsOf plant session × IsInTurn plant State
 CallsFor plant session (JournalFault j) = IsOf plant session × IsInTurn plant (Journal j)

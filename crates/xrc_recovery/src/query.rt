@@ -16,7 +16,7 @@ use xrc_edge::{Bytes, NoMemory};
 use xrc_status::{Stop, say_text};
 use xrecover::examine_session;
 
-/// The report of what is meant. It has no line of a control.
+/// The report of what is meant. It has no line of a controller.
 fn meaning_report(alloc: Global, means: &Means) -> Result<Bytes, NoMemory>
     ensures { IfOk result (λ text. text ≡ meaning_report means.now) }
 {

@@ -21,10 +21,10 @@ pub record NextPoint : Type 0 where
 abbrev pub leg_next : Leg → NextPoint → Leg
 leg_next l n = leg_by l n.point n.way
 
--- the leg behind all of them
-abbrev pub leg_behind : Leg → List NextPoint → Leg
-leg_behind l [] = l
-leg_behind l (n ∷ ahead) = leg_behind (leg_next l n) ahead
+-- the leg after all of them
+abbrev pub leg_after_points : Leg → List NextPoint → Leg
+leg_after_points l [] = l
+leg_after_points l (n ∷ ahead) = leg_after_points (leg_next l n) ahead
 
 -- Each comes next by its way, hits are counted, and each may be meant.
 abbrev pub AreAhead : ScriptRun → Stage → LinesAsked → Leg → List NextPoint → Type 0
@@ -84,9 +84,9 @@ module _ (told : List Deed → Point) (way : PassedDeed → Way) where
       ∙ last_told moments (done ++ deed ∷ []) deeds ahead tell.2 (omega (arith, few))
       ∙ ap told (append_assoc done (deed ∷ []) (take (length moments) deeds))
 
-  -- The next one is on its way behind the first ones.
+  -- The next one is on its way after the first ones.
   pub next_on_its_way : (run : ScriptRun) (stage : Stage) (asked : LinesAsked) (moments : List ℕ) (done deeds : List Deed) (ahead : List NextPoint) (l : Leg) → TellOf told way done deeds ahead → AreAhead run stage asked l ahead
-      → MayBeMeant run stage (told done) → (leg_behind l ahead).point ≡ told (done ++ deeds) → length moments ≤ length deeds
+      → MayBeMeant run stage (told done) → (leg_after_points l ahead).point ≡ told (done ++ deeds) → length moments ≤ length deeds
       → IsOnItsWay run asked (fold leg_after l (passed_by moments ahead)) (told (done ++ with_next (length moments) deeds)) × MayBeMeant run stage (told (done ++ with_next (length moments) deeds))
   next_on_its_way run stage asked [] done [] [] l tell are may ends few =
       (inl (sym ends), subst (MayBeMeant run stage) (ap told (sym (append-nil done))) may)

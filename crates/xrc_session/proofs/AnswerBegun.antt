@@ -1,4 +1,4 @@
--- The rows that a command adds or resumes: their controls count, and their volumes have their tracks.
+-- The rows that a command adds or resumes: their controllers count, and their volumes have their tracks.
 use Rattle.std.proofs.Common.{◌≡◌, inl, inr, ℕ, zero, suc, ◌+◌, ◌*◌, ◌<◌, ◌==◌, Bool, true, false, not, cond, ◌&&◌, List, [], ◌∷◌, ◌++◌, length, map, Option, Some, None, refl, sym, ap, subst, ◌∙◌, arith, true≢false, slice_get, nat_lt}
 use Rattle.std.specs.Prelude.{bytes_eq, find, IfSome}
 use Rattle.std.specs.List.{Contains, list_all, list_any}
@@ -74,10 +74,10 @@ found_by_serial p w (v ∷ volumes) apart (suc i, low, same) is =
         let alike : are_alike v w ≡ true = or_left (bytes_eq v.serial w.serial) (v.control == w.control && v.volume == w.volume) ((bytes_eq-Decides v.serial w.serial).1 one) in
         absurd (true≢false (sym parts.0 ∙ ap not (any_of (are_alike v) w volumes (i, omega (arith, low), same) alike)))
 
--- ---- the control of a row that is begun
+-- ---- the controller of a row that is begun
 
 module _ (names : Naming) (apart : none_alike names.primaries ≡ true) where
-  -- A row of a named primary is of its control.
+  -- A row of a named primary is of its controller.
   control_named : (p : List ℕ) (v : NamedVolume) (r : PairRow) → primary_of p names ≡ Some v → r.primary ≡ p → has_named_primary names r ≡ true → r.control ≡ v.control
   control_named p v r found of named =
       let has = some_of (is_volume_of r) names.primaries named in
@@ -153,7 +153,7 @@ module _ (names : Naming) (apart : none_alike names.primaries ≡ true) where
     whole_by Query own r there begun named = absurd (true≢false (sym begun))
     whole_by End own r there begun named = absurd (true≢false (sym begun))
 
-    -- The control of a row that a command adds or resumes counts, if the unbroken controls do.
+    -- The controller of a row that a command adds or resumes counts, if the unbroken controllers do.
     pub begun_count : (s : Group) (command : Command) → refuses_command names rows command ≡ None → PrimariesAreNamed names (rows_after names time command rows) → ControlsCount names s
         → BegunControlsCount s (change_of names command rows) (rows_after names time command rows)
     begun_count s command own all count r has begun =
@@ -200,7 +200,7 @@ module _ (r : PairRow) where
       named : NamedVolume
       named = record { serial = head.serial; control = k; volume = first; cylinders = head.cylinders }
 
-  -- One of the traces, from a control on, has the row's tracks.
+  -- One of the traces, from a controller on, has the row's tracks.
   record IsTraceThere (k : ℕ) (traces : List Trace) : Type 0 where
     place : ℕ
     control : r.control ≡ k + place

@@ -1,17 +1,17 @@
--- Breaks of controls behind the calls of a command's change.
+-- Breaks of controllers after the calls of a command's change.
 use Rattle.std.proofs.Common.{◌≡◌, ◌⊎◌, inl, inr, ℕ, ◌<◌, ◌≤◌, true, List, length, Some, sym, ap, subst, ◌∙◌, arith}
 use Rattle.std.proofs.lemmas.Bool.{cases_lt}
 use Rattle.std.proofs.lemmas.List.{get_or_past}
 use Rattle.tod_stamp.specs.declared.stamp.Stamp.{Stamp}
 use Rattle.write_trace.specs.declared.trace.Trace.{Trace}
 use Rattle.group_state.specs.declared.phase.Phase.{Phase}
-use Rattle.group_state.specs.Controls.{ControlState, is_telling, new_control}
+use Rattle.group_state.specs.Controls.{ControlState, is_reporting, new_control}
 use Rattle.group_state.specs.Groups.{Group, control_at}
 use Rattle.fed_logs.specs.ShownBreaks.{BreaksAreToCome, BrokeAsTraces}
 use Rattle.xrc_session.specs.Joins.{StaysForReaders}
 
 module _ (s next : Group) (stays : StaysForReaders s next) where
-  -- The floor and the phase of each control stay, also of one that isn't there.
+  -- The floor and the phase of each controller stay, also of one that isn't there.
   phase_stays : (k : ℕ) → (control_at next k).phase ≡ (control_at s k).phase
   phase_stays k = by_side (cases_lt k (length s.controls))
     where
@@ -35,6 +35,6 @@ module _ (s next : Group) (stays : StaysForReaders s next) where
       let still = come k b t own at up in
       record {
         low = (let low = still.low in let many = stays.many in omega (arith, low, many));
-        telling = subst (λ (phase : Phase). is_telling phase ≡ true) (sym (phase_stays k)) still.telling;
+        reporting = subst (λ (phase : Phase). is_reporting phase ≡ true) (sym (phase_stays k)) still.reporting;
         up_to = (let up_to = still.up_to in let floor = ap (λ (f : Stamp). f.0) (floor_stays k) in omega (arith, up_to, floor));
       }

@@ -23,27 +23,27 @@ use Rattle.row_changes.specs.Spans.{hit_count}
 use Rattle.consistency.specs.Ways.{hits_stand}
 use Rattle.xrc_command.specs.declared.line.Line.{Line}
 use Rattle.xrc_journal.specs.Items.{Item}
-use Rattle.site_store.specs.Changing.{IsBehindChange, LogsChange, MayChange, changed_items}
+use Rattle.site_store.specs.Changing.{IsAfterChange, LogsChange, MayChange, changed_items}
 use Rattle.site_store.specs.Commands.{IsToLog, LabelsFit, without_flag}
-use Rattle.site_store.specs.Records.{behind_placement}
+use Rattle.site_store.specs.Records.{after_placement}
 use Rattle.site_store.specs.Sites.{SiteState}
 use Rattle.site_store.specs.Standing.{Leaves}
 use Rattle.site_store.proofs.ByPlacements.{RecordPlacement, by_placements}
 use Rattle.site_store.proofs.ChangeEnds.{told_is}
 use Rattle.site_store.proofs.CommandRows.{Answered, Own, answered, own_of, table_is}
 use Rattle.mover.proofs.Pairs.{Among, contains_of}
-use Rattle.xrc_session.specs.Answering.{ControlsCount, IsDoneFrom, IsSiteBehind, MayLogChange}
+use Rattle.xrc_session.specs.Answering.{ControlsCount, IsDoneFrom, IsSiteAfter, MayLogChange}
 use Rattle.xrc_session.specs.CarriedLaws.{BegunControlsCount}
 use Rattle.xrc_session.specs.Frames.{SuspendsByCounts}
 use Rattle.xrc_session.specs.Taking.{MayTake}
 use Rattle.xrc_session.proofs.AnswerBegun.{begun_count}
-use Rattle.xrc_session.proofs.AnswerRows.{CameFrom, all_of_each, came_from, hit_again, none_hit_behind, none_of_each, rows_differ}
+use Rattle.xrc_session.proofs.AnswerRows.{CameFrom, all_of_each, came_from, hit_again, none_hit_after, none_of_each, rows_differ}
 use Rattle.xrc_session.proofs.AnswerWorks.{none_suspended, suspends_by_counts}
 use Rattle.xrc_session.proofs.Commanded.{commands_may_be_taken}
-use Rattle.xrc_session.proofs.RestingSites.{commands_come_behind_changes, commands_may_be_logged, hits_pass, idle_behind_changes, told_behind_changes, told_behind_commands}
+use Rattle.xrc_session.proofs.RestingSites.{commands_come_after_changes, commands_may_be_logged, hits_pass, idle_after_changes, told_after_changes, told_after_commands}
 use Rattle.site_store.specs.Causes.{FailByCounts}
 
--- ---- behind a command
+-- ---- after a command
 
 module _ (names : Naming) (line : Line) (change : Change) (was site : SiteState) (plant : PlantState) (d : IsDoneFrom names line change was site plant) where
   abbrev time : ℕ
@@ -88,23 +88,23 @@ module _ (names : Naming) (line : Line) (change : Change) (was site : SiteState)
 
   -- No failure of a volume with a row waits to be told.
   pub none_untold : hit_now site.failed site.told ≡ []
-  none_untold = subst (λ (s : SiteState). hit_now s.failed s.told ≡ []) (sym d.site_is) (told_behind_commands names line.session line.command time change was d.told)
+  none_untold = subst (λ (s : SiteState). hit_now s.failed s.told ≡ []) (sym d.site_is) (told_after_commands names line.session line.command time change was d.told)
 
   module _ (apart : none_clash was.told ≡ true) where
     pub came : (r : PairRow) → Among r site.table.rows → CameFrom change was.told r
     came r there =
         subst (λ (c : Change). CameFrom c was.told r) change_is (came_from names time was.told apart line.command own.starts r (subst (Among r) rows_are there))
 
-    -- Nor does one with a row behind the command.
+    -- Nor does one with a row after the command.
     pub none_hit_there : hit_now site.failed site.table.rows ≡ []
-    none_hit_there = ap (λ (flags : List Bool). hit_now flags site.table.rows) site_failed ∙ none_hit_behind change was.told site.table.rows apart came was.failed d.told
+    none_hit_there = ap (λ (flags : List Bool). hit_now flags site.table.rows) site_failed ∙ none_hit_after change was.told site.table.rows apart came was.failed d.told
 
     -- A change with items alters rows.
     pub rows_altered : changed_items change site.table.rows ≢ [] → site.table.rows ≡ was.told → ⊥
     rows_altered some same =
         rows_differ names time was.told apart line.command own_told (λ none. some (ap (λ (c : Change). changed_items c site.table.rows) (sym change_is) ∙ ap (changed_items (change_of names line.command was.told)) rows_are ∙ none)) (sym rows_are ∙ same)
 
-    -- The hits of a mark that the record needs stand behind the command.
+    -- The hits of a mark that the record needs stand after the command.
     pub marks_stand : (failed : List Bool) (level : Level) (at early late : ℕ)
         → hits_stand (marked_changes early (hit_now failed was.told)) (hit_changes late (hit_now failed site.table.rows)) (rows_with_hits level at failed site.table.rows) ≡ true
     marks_stand failed level at early late = hits_pass test (λ state r. refl) level at failed site.table.rows ∙ all_of_each test site.table.rows each
@@ -124,7 +124,7 @@ module _ (names : Naming) (line : Line) (change : Change) (was site : SiteState)
             (subst (λ (n : ℕ). once (is_among r.device (hit_now failed was.told)) ≤ n) (sym (hits_count r.device late (hit_now failed site.table.rows)))
             (by_flags (is_among r.device (hit_now failed was.told)) (is_among r.device (hit_now failed site.table.rows)) (λ hit. hit_again change was.told site.table.rows apart came failed r there hit))))
 
-    -- The shared state may take the change over, with hits behind it.
+    -- The shared state may take the change over, with hits after it.
     pub may_take : (s : Group) → ControlsCount names s → PrimariesAreNamed names site.table.rows → none_clash site.table.rows ≡ true → (level : Level) (cut : ℕ) (failed : List Bool)
         → MayTake s change was.told (rows_with_hits level cut failed site.table.rows)
     may_take s count named clear level cut failed =
@@ -145,9 +145,9 @@ module _ (names : Naming) (line : Line) (change : Change) (was site : SiteState)
             (subst (λ (c : Change). BegunControlsCount s c (rows_after names time line.command was.told)) change_is
             (begun_count names count.apart time was.told apart s line.command own_told (subst (PrimariesAreNamed names) rows_are named) count))
 
--- ---- behind logging
+-- ---- after logging
 
--- A site behind a change that was logged at its time: what stays, and the rows, which are those of the command with hits.
+-- A site after a change that was logged at its time: what stays, and the rows, which are those of the command with hits.
 pub record IsLoggedSite (cut : ℕ) (site next : SiteState) : Type 0 where
   pub controls : next.controls ≡ site.controls
   pub level : next.level ≡ site.level
@@ -185,16 +185,16 @@ module _ {P : Type 0} (tells : Type 0) (cut : ℕ) (change : Change) (site next 
       told : next.told ≡ site.told
       told = ap (λ (s : SiteState). s.told) is
 
-  recorded : (placement : RecordPlacement) → IsBehindChange cut change placement site next old → IsLoggedSite cut site next
-  recorded placement behind = record {
-    controls = ap (λ (s : SiteState). s.controls) behind.next_is ∙ by_placements (λ (w : RecordPlacement). (behind_placement w site).controls ≡ site.controls) refl refl refl placement;
-    level = ap (λ (s : SiteState). s.level) behind.next_is ∙ by_placements (λ (w : RecordPlacement). (behind_placement w site).level ≡ site.level) refl refl refl placement;
-    time = ap (λ (s : SiteState). s.time) behind.next_is;
-    table = ap (λ (s : SiteState). s.table) behind.next_is ∙ ap (with_rows site.table) (sym (ap (λ (s : SiteState). s.told) behind.next_is));
-    flag = ap (λ (s : SiteState). s.mark.ended) behind.next_is ∙ by_placements (λ (w : RecordPlacement). (behind_placement w site).mark.ended ≡ site.mark.ended) refl refl refl placement;
-    marked = λ none_since. ap (λ (s : SiteState). s.since) behind.next_is ∙ by_placements (λ (w : RecordPlacement). site.since ≡ 0 → (behind_placement w site).since ≡ 0) (λ e. e) (λ e. e) (λ e. refl) placement none_since;
+  recorded : (placement : RecordPlacement) → IsAfterChange cut change placement site next old → IsLoggedSite cut site next
+  recorded placement after = record {
+    controls = ap (λ (s : SiteState). s.controls) after.next_is ∙ by_placements (λ (w : RecordPlacement). (after_placement w site).controls ≡ site.controls) refl refl refl placement;
+    level = ap (λ (s : SiteState). s.level) after.next_is ∙ by_placements (λ (w : RecordPlacement). (after_placement w site).level ≡ site.level) refl refl refl placement;
+    time = ap (λ (s : SiteState). s.time) after.next_is;
+    table = ap (λ (s : SiteState). s.table) after.next_is ∙ ap (with_rows site.table) (sym (ap (λ (s : SiteState). s.told) after.next_is));
+    flag = ap (λ (s : SiteState). s.mark.ended) after.next_is ∙ by_placements (λ (w : RecordPlacement). (after_placement w site).mark.ended ≡ site.mark.ended) refl refl refl placement;
+    marked = λ none_since. ap (λ (s : SiteState). s.since) after.next_is ∙ by_placements (λ (w : RecordPlacement). site.since ≡ 0 → (after_placement w site).since ≡ 0) (λ e. e) (λ e. e) (λ e. refl) placement none_since;
     failed = next.failed;
-    rows = ap (λ (s : SiteState). s.told) behind.next_is;
+    rows = ap (λ (s : SiteState). s.told) after.next_is;
   }
 
   pub logged_site : LogsChange cut change site next old was is (Ok tt) → IsLoggedSite cut site next
@@ -204,7 +204,7 @@ module _ {P : Type 0} (tells : Type 0) (cut : ℕ) (change : Change) (site next 
       choose [] none = unlogged none (logs.nothing none).1
       choose (i ∷ items) some =
           let rows = logs.rows (λ none. let clash : i ∷ items ≡ [] = sym some ∙ none in cc clash) in
-          recorded rows.placement rows.behind
+          recorded rows.placement rows.after
 
 -- Labels fit a plant of the same numbers and lengths.
 pub labels_fit : (names : Naming) (old new : PlantState) → SameSite old new → LabelsFit old names → LabelsFit new names
@@ -224,13 +224,13 @@ module _ {P : Type 0} (tells : Type 0) (names : Naming) (line : Line) (change : 
       subst (λ (s : SiteState). MayChange tells at change s old) (sym h.from.site_is)
       (commands_may_be_logged tells old names line.session line.command at at change h.was h.may.idle h.may.labels h.from.done (let now = h.at in omega (arith, now)) (subst (IsToLog change) h.from.site_is h.to_log))
 
-  -- Behind it any command may come.
-  pub site_behind : Leaves tells (λ e. e) site next old new → LogsChange at change site next old was is (Ok tt) → FailByCounts site.failed next.failed old.faults new.faults → SameSite old new → IsSiteBehind tells names site next new
-  site_behind leaves logs fails same = record {
+  -- After it any command may come.
+  pub site_after : Leaves tells (λ e. e) site next old new → LogsChange at change site next old was is (Ok tt) → FailByCounts site.failed next.failed old.faults new.faults → SameSite old new → IsSiteAfter tells names site next new
+  site_after leaves logs fails same = record {
     may = record {
-      idle = idle_behind_changes tells was is old new at change site next (Ok tt) may_change leaves logs;
-      told = told_behind_changes was is old at change site next (Ok tt) (none_untold names line change h.was site old h.from) logs;
-      commands = commands_come_behind_changes was is old names at change site next (Ok tt) h.again fails.size logs;
+      idle = idle_after_changes tells was is old new at change site next (Ok tt) may_change leaves logs;
+      told = told_after_changes was is old at change site next (Ok tt) (none_untold names line change h.was site old h.from) logs;
+      commands = commands_come_after_changes was is old names at change site next (Ok tt) h.again fails.size logs;
       labels = labels_fit names old new same h.may.labels;
     };
     controls = logged.controls;
@@ -258,14 +258,14 @@ module _ {P : Type 0} (tells : Type 0) (names : Naming) (line : Line) (change : 
       choose [] none = subst (λ (rows : List PairRow). SuspendsByCounts site.told rows old new) (sym (ap (λ (s : SiteState). s.told) (logs.nothing none).1)) (none_suspended site.told old new)
       choose (i ∷ items) some =
           let rows = logs.rows (λ none. let clash : i ∷ items ≡ [] = sym some ∙ none in cc clash) in
-          subst (λ (last : List PairRow). SuspendsByCounts site.told last old new) (sym (ap (λ (s : SiteState). s.told) rows.behind.next_is))
+          subst (λ (last : List PairRow). SuspendsByCounts site.told last old new) (sym (ap (λ (s : SiteState). s.told) rows.after.next_is))
           (suspends_by_counts site.level at site.failed next.failed site.told site.table.rows old new fails (none_hit_there names line change h.was site old h.from apart) from)
 
-  -- The rows behind it may be taken over.
+  -- The rows after it may be taken over.
   pub may_take_logged : none_clash h.was.told ≡ true → (s : Group) → ControlsCount names s → LogsChange at change site next old was is (Ok tt) → Leaves tells (λ e. e) site next old new → MayTake s change before next.table.rows
   may_take_logged apart s count logs leaves =
       let logged = logged_site tells at change site next old new was is may_change site_time logs in
-      let idle = idle_behind_changes tells was is old new at change site next (Ok tt) may_change leaves logs in
+      let idle = idle_after_changes tells was is old new at change site next (Ok tt) may_change leaves logs in
       subst (λ (rows : List PairRow). MayTake s change rows next.table.rows) (sym h.rows)
       (subst (λ (rows : List PairRow). MayTake s change h.was.told rows) (sym logged.rows ∙ idle.same)
       (may_take names line change h.was site old h.from apart s count h.again.command.named h.rules.apart site.level at logged.failed))

@@ -16,7 +16,7 @@ use Rattle.record_rows.specs.Deeds.{Deed}
 use Rattle.site_means.specs.Images.{shape_of}
 use Rattle.site_store.specs.DoneDeeds.{BeginsDeeds, DoesDeeds, PassedDeed, with_next}
 use Rattle.site_store.specs.Records.{VolumesStay}
-use Rattle.site_store.specs.Seeing.{SeesBehind}
+use Rattle.site_store.specs.Seeing.{SeesAfter}
 use Rattle.consistency.specs.Stages.{ScriptRun, Stage}
 use Rattle.consistency.specs.Bearing.{GoesThroughPoints, MayBeMeant, ShowsPoint}
 use Rattle.consistency.specs.Leads.{Point}
@@ -25,10 +25,10 @@ use Rattle.consistency.proofs.Moments.{points_stay}
 use Rattle.mover.specs.Working.{LinesAsked, IsOnItsWay, ShowsLast}
 use Rattle.xrc_session.specs.EpochPauses.{Between}
 use Rattle.xrc_session.specs.Frames.{ChangesRows, DiffersInRows, rows_passed}
-use Rattle.xrc_session.specs.Resting.{ArePointsBehind, IsPointBehind, ShowsBefore}
+use Rattle.xrc_session.specs.Resting.{ArePointsAfter, IsPointAfter, ShowsBefore}
 use Rattle.xrc_session.specs.Steps.{BeginsToPass, PassesPointsOn}
 use Rattle.xrc_session.specs.WrittenParts.{PassesInParts}
-use Rattle.xrc_session.proofs.AnswerAhead.{AreAhead, NextPoint, TellOf, ahead_linked, ahead_meant, last_told, leg_behind, next_on_its_way, passed_by, points_told}
+use Rattle.xrc_session.proofs.AnswerAhead.{AreAhead, NextPoint, TellOf, ahead_linked, ahead_meant, last_told, leg_after_points, next_on_its_way, passed_by, points_told}
 use Rattle.xrc_session.proofs.RestingPoints.{deeds_pass_points, done_deeds_pass_all, done_deeds_show_last, first_ones, step}
 use Rattle.xrc_session.proofs.RowFrames.{changes_rows_then, last_rows, rows_append}
 use Rattle.xrc_session.proofs.WrittenParts.{no_parts, part_quiet, part_unwritten, parts_then, passed_parts_stay, passed_within}
@@ -57,7 +57,7 @@ none_written plant rows = record {
 -- ---- deeds
 
 module _ (old new : PlantState) (b : Between) (stage : Stage) (asked : LinesAsked) (l : Leg) (rows : List PairRow) (deeds : List Deed) (ahead : List NextPoint) (told : List Deed → Point) (way : PassedDeed → Way)
-    (here : l.point ≡ b.point) (before : ShowsBefore old b rows deeds) (are : ArePointsBehind deeds b.point told) (tell : TellOf told way [] deeds ahead) (comes : AreAhead b.run stage asked l ahead)
+    (here : l.point ≡ b.point) (before : ShowsBefore old b rows deeds) (are : ArePointsAfter deeds b.point told) (tell : TellOf told way [] deeds ahead) (comes : AreAhead b.run stage asked l ahead)
     (volumes : (all : List PairRow) → ChangesRows all old new) where
   first_told : told [] ≡ l.point
   first_told = are.first ∙ sym here
@@ -76,7 +76,7 @@ module _ (old new : PlantState) (b : Between) (stage : Stage) (asked : LinesAske
     linked = ahead_linked b.run stage asked does.moments ahead l comes;
     may = ahead_meant b.run stage asked does.moments ahead l comes;
     on_its_way = tt;
-    now = λ c is. subst (λ (p : Point). ShowsPoint b.run (shape_of new) p c) (sym all) (done_deeds_show_last old new b rows deeds before does (told deeds) behind c is);
+    now = λ c is. subst (λ (p : Point). ShowsPoint b.run (shape_of new) p c) (sym all) (done_deeds_show_last old new b rows deeds before does (told deeds) after c is);
     volumes = volumes (l.point.rows ++ rows_passed (passed_by does.moments ahead));
     written = none_written_by does.site does.elapses (passed_by does.moments ahead) None goes;
   }
@@ -89,11 +89,11 @@ module _ (old new : PlantState) (b : Between) (stage : Stage) (asked : LinesAske
       all : last_point l.point (passed_by does.moments ahead) ≡ told deeds
       all = last_is does.moments (let each = does.each in omega (arith, each)) ∙ ap told (ap (λ (n : ℕ). take n deeds) does.each ∙ take_all (length deeds) deeds (omega arith))
 
-      behind : IsPointBehind deeds b.point (told deeds)
-      behind = subst (λ (front : List Deed). IsPointBehind front b.point (told front)) (take_all (length deeds) deeds (omega arith)) (are.behind (length deeds) (omega arith))
+      after : IsPointAfter deeds b.point (told deeds)
+      after = subst (λ (front : List Deed). IsPointAfter front b.point (told front)) (take_all (length deeds) deeds (omega arith)) (are.after (length deeds) (omega arith))
 
   -- Calls that begin them pass the first ones, and the next one is on its way.
-  pub begun_passes : MayBeMeant b.run stage l.point → (leg_behind l ahead).point ≡ told deeds → BeginsDeeds b.excepted rows deeds old new → BeginsToPass b.run stage asked l old new
+  pub begun_passes : MayBeMeant b.run stage l.point → (leg_after_points l ahead).point ≡ told deeds → BeginsDeeds b.excepted rows deeds old new → BeginsToPass b.run stage asked l old new
   begun_passes may ends begins = (
     passed_by begins.moments ahead,
     (
@@ -119,7 +119,7 @@ module _ (old new : PlantState) (b : Between) (stage : Stage) (asked : LinesAske
           (subst (λ (points : List PassedPoint). GoesThroughPoints b.run new old.clock b.point points new.clock (Some (told (with_next k deeds)))) (points_told told way begins.moments [] deeds ahead tell)
           (deeds_pass_points old new b rows deeds before told way are up begins))
 
-      shown : (c : Choice) → SeesBehind old b.excepted rows (take k deeds) c ⊎ SeesBehind old b.excepted rows (with_next k deeds) c → ShowsLast b.run new (last_point l.point (passed_by begins.moments ahead)) (Some (told (with_next k deeds))) c
+      shown : (c : Choice) → SeesAfter old b.excepted rows (take k deeds) c ⊎ SeesAfter old b.excepted rows (with_next k deeds) c → ShowsLast b.run new (last_point l.point (passed_by begins.moments ahead)) (Some (told (with_next k deeds))) c
       shown c (inl sees) = inl (subst (λ (p : Point). ShowsPoint b.run (shape_of new) p c) (sym (last_is begins.moments begins.few)) (step old new b rows deeds before begins.site told way are (take k deeds) c (first_ones k deeds) sees))
       shown c (inr sees) = inr (step old new b rows deeds before begins.site told way are (with_next k deeds) c (first_ones (suc k) deeds) sees)
 
@@ -217,7 +217,7 @@ passes_then run stage asked l points more next a b c site past on_site on_past l
         by_side (inl here) = last_one r (subst (λ (p : Point). Contains p.rows r) last here)
         by_side (inr there) = all r (Contains-append_right l.point.rows (rows_passed points ++ rows_passed more) r (Contains-append_right (rows_passed points) (rows_passed more) r there))
 
--- What began to be passed behind points that were passed began to be passed with them.
+-- What began to be passed after points that were passed began to be passed with them.
 pub begins_then : (run : ScriptRun) (stage : Stage) (asked : LinesAsked) (l : Leg) (points : List PassedPoint) (a b c : PlantState) → SameSite a b → Elapses a b → SameSite b c → Elapses b c
     → (fold leg_after l points).point ≡ last_point l.point points → PassesPointsOn run stage asked l points None a b → BeginsToPass run stage asked (fold leg_after l points) b c → BeginsToPass run stage asked l a c
 begins_then run stage asked l points a b c site past on_site on_past last passed (more, (next, then_passed)) = (points ++ more, (next, passes_then run stage asked l points more next a b c site past on_site on_past last passed then_passed))

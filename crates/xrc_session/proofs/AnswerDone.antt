@@ -20,7 +20,7 @@ use Rattle.pair_table.specs.Tables.{AreRowsSound, with_rows}
 use Rattle.group_state.specs.Groups.{Group}
 use Rattle.xrc_command.specs.declared.line.Line.{Line}
 use Rattle.site_store.specs.Changing.{changed_items}
-use Rattle.site_store.specs.Commands.{IsToLog, MayDo, behind_command}
+use Rattle.site_store.specs.Commands.{IsToLog, MayDo, after_command}
 use Rattle.site_store.specs.Jobs.{has_device}
 use Rattle.site_store.specs.Sites.{SiteState}
 use Rattle.consistency.specs.Stages.{ScriptRun, Stage}
@@ -30,7 +30,7 @@ use Rattle.mover.specs.Moves.{IsOfMover, is_device_of_row, is_worked_on}
 use Rattle.mover.specs.Working.{LinesAsked}
 use Rattle.xrc_status.specs.declared.stop.Stop.{Stop}
 use Rattle.xrc_status.specs.declared.stop.Stop.TheVariants.{Spent}
-use Rattle.xrc_session.specs.Answering.{EndsCommand, IsDoneFrom, IsSiteBehind, IsSiteCommanded, MayAnswer, MayLogChange, answer_told, group_taken, is_end_accepted}
+use Rattle.xrc_session.specs.Answering.{EndsCommand, IsDoneFrom, IsSiteAfter, IsSiteCommanded, MayAnswer, MayLogChange, answer_said, group_taken, is_end_accepted}
 use Rattle.xrc_session.specs.LinePauses.{MayCommandSite, RisesCover}
 use Rattle.xrc_session.specs.Bringing.{IsWorkOfStore}
 use Rattle.xrc_session.specs.Frames.{SuspendsByCounts}
@@ -38,20 +38,20 @@ use Rattle.xrc_session.specs.Stops.{HasStopCause, IsSpentNow}
 use Rattle.xrc_session.specs.Taking.{IsSoundForRows}
 use Rattle.xrc_session.proofs.AnswerChanges.{was_goes}
 use Rattle.xrc_session.proofs.AnswerRefused.{refused_at_end, refused_goes, refused_stays}
-use Rattle.xrc_session.proofs.AnswerTells.{ended_answer}
+use Rattle.xrc_session.proofs.AnswerSays.{ended_answer}
 use Rattle.xrc_session.proofs.AnswerWorks.{none_suspended}
 
 -- ---- what was answered
 
-pub told_change : (done : Result Change CommandError) (change : Change) → answer_told done ≡ Ok (Ok change) → done ≡ Ok change
+pub told_change : (done : Result Change CommandError) (change : Change) → answer_said done ≡ Ok (Ok change) → done ≡ Ok change
 told_change (Ok other) change is = let same : other ≡ change = cc in ap (λ (c : Change). let r : Result Change CommandError = Ok c in r) same
 told_change (Err (errors.Refused why)) change is = absurd cc
 told_change (Err errors.NoMemory) change is = absurd cc
 
-pub told_refusal : (done : Result Change CommandError) (why : Refusal) → answer_told done ≡ Ok (Err why) → done ≡ Err (errors.Refused why)
-told_refusal (Ok change) why is = absurd cc
-told_refusal (Err (errors.Refused other)) why is = let same : other ≡ why = cc in ap (λ (w : Refusal). let r : Result Change CommandError = Err (errors.Refused w) in r) same
-told_refusal (Err errors.NoMemory) why is = absurd cc
+pub said_refusal : (done : Result Change CommandError) (why : Refusal) → answer_said done ≡ Ok (Err why) → done ≡ Err (errors.Refused why)
+said_refusal (Ok change) why is = absurd cc
+said_refusal (Err (errors.Refused other)) why is = let same : other ≡ why = cc in ap (λ (w : Refusal). let r : Result Change CommandError = Err (errors.Refused w) in r) same
+said_refusal (Err errors.NoMemory) why is = absurd cc
 
 -- ---- groups that are there
 
@@ -150,7 +150,7 @@ module _ (tells : Type 0) (names : Naming) (line : Line) (site : SiteState) (pla
 
 -- ---- a change
 
-module _ (tells : Type 0) (names : Naming) (line : Line) (was site : SiteState) (plant : PlantState) (may : MayCommandSite tells names plant was) (change : Change) (is : site ≡ behind_command names line.session line.command line.time.0 change was)
+module _ (tells : Type 0) (names : Naming) (line : Line) (was site : SiteState) (plant : PlantState) (may : MayCommandSite tells names plant was) (change : Change) (is : site ≡ after_command names line.session line.command line.time.0 change was)
     (done : answer names was.table line.session line.command ≡ Ok change) where
   pub done_from : IsDoneFrom names line change was site plant
   done_from = record { fits = may.idle.may.fast.fits; labels = may.labels; started = may.commands.started; told = may.told; same = may.idle.same; done = done; site_is = is }
@@ -182,17 +182,17 @@ module _ (tells : Type 0) (names : Naming) (line : Line) (was site : SiteState) 
   of_end (changes.Suspended devices) rows is = absurd (true≢false (sym is))
   of_end changes.Ended rows is = refl
 
-  -- The site behind its logging is one behind the line's command.
-  pub changed_site : (next : SiteState) (new : PlantState) → IsSiteBehind tells names site next new → (changed_items change site.table.rows ≡ [] → next ≡ record site { is_ahead = false }) → IsSiteCommanded tells names line (Ok change) was next new
-  changed_site next new behind quiet = record {
+  -- The site after its logging is one after the line's command.
+  pub changed_site : (next : SiteState) (new : PlantState) → IsSiteAfter tells names site next new → (changed_items change site.table.rows ≡ [] → next ≡ record site { is_ahead = false }) → IsSiteCommanded tells names line (Ok change) was next new
+  changed_site next new after quiet = record {
     answer_is = sym done;
-    may = behind.may;
-    controls = behind.controls ∙ ap (λ (s : SiteState). s.controls) is;
-    level = behind.level ∙ ap (λ (s : SiteState). s.level) is;
-    time = behind.time ∙ ap (λ (s : SiteState). s.time) is;
-    table = behind.table ∙ ap (λ (s : SiteState). with_rows s.table next.told) is;
-    flag = behind.flag ∙ ap (λ (s : SiteState). s.mark.ended) is;
-    marked = λ none. behind.marked (ap (λ (s : SiteState). s.since) is ∙ none);
+    may = after.may;
+    controls = after.controls ∙ ap (λ (s : SiteState). s.controls) is;
+    level = after.level ∙ ap (λ (s : SiteState). s.level) is;
+    time = after.time ∙ ap (λ (s : SiteState). s.time) is;
+    table = after.table ∙ ap (λ (s : SiteState). with_rows s.table next.told) is;
+    flag = after.flag ∙ ap (λ (s : SiteState). s.mark.ended) is;
+    marked = λ none. after.marked (ap (λ (s : SiteState). s.since) is ∙ none);
     same = λ ended. absurd (true≢false (sym ended ∙ was_goes names line change was site plant done_from));
     at_end = λ end.
         let still = quiet (of_end change site.table.rows end) in

@@ -1,4 +1,4 @@
--- An end that is accepted: its command, and the mark behind it.
+-- An end that is accepted: its command, and the mark after it.
 use Rattle.std.proofs.Common.{◌≡◌, inl, inr, ℕ, ◌≤◌, Bool, true, false, List, Option, Some, None, Result, Ok, Err, refl, sym, ap, subst, ◌∙◌, arith, true≢false}
 use Rattle.std.specs.Prelude.{IsErrOf, if◌then◌else◌, is_none}
 use Rattle.applier.specs.Returns.{WorksOnLent}
@@ -136,7 +136,7 @@ module _ (tells : Type 0) (names : Naming) (line : Line) (answered : Result Chan
     pub next_ended : (next : SiteState) (new : PlantState) → IsMarkedSite tells true site next new → next.table.is_ended ≡ true
     next_ended next new marked = ap (λ (t : Table). t.is_ended) marked.table ∙ site_ended
 
-    -- Behind the mark of an end the site tells it.
+    -- After the mark of an end the site tells it.
     pub answered_end : (next : SiteState) (new : PlantState) → IsMarkedSite tells true site next new → SameSite mid new → IsSiteAnswered tells names line answered was next new
     answered_end next new marked same = record {
       answer_is = c.answer_is;
@@ -156,7 +156,7 @@ rose_before : (a b c : ℕ) → a ≤ b → Rose b c → Rose a c
 rose_before a b c up (inl rose) = inl (omega (arith, up, rose))
 rose_before a b c up (inr most) = inr most
 
--- A stop behind calls has its cause since before them.
+-- A stop after calls has its cause since before them.
 cause_before : (old mid new : PlantState) (stop : Stop) → ((d : Device) → old.faults d ≤ mid.faults d) → old.console_faults ≤ mid.console_faults → HasStopCause mid new stop → HasStopCause old new stop
 cause_before old mid new stops.ConsoleFault up console cause = rose_before old.console_faults mid.console_faults new.console_faults console cause
 cause_before old mid new (stops.JournalFault j) up console cause = rose_before (old.faults (Journal j)) (mid.faults (Journal j)) (new.faults (Journal j)) (up (Journal j)) cause
@@ -195,7 +195,7 @@ module _ (tells : Type 0) (was site next : SiteState) (old mid new : PlantState)
     console_once = (let quiet = console in let once = rest.console_once in omega (arith, quiet, once));
   }
 
-  -- A mark behind a command works on the same devices.
+  -- A mark after a command works on the same devices.
   pub ended_work : (let r : Result (Unit {0}) Stop = Ok tt in IsWorkOfStore tells site next mid new r) → (let r : Result LineAnswer Stop = Ok answered in IsWorkOfStore tells was next old new r)
   ended_work rest = record {
     works = works (Ok tt) rest;

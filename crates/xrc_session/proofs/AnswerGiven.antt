@@ -13,24 +13,24 @@ use Rattle.pair_table.specs.Refusals.{refusal}
 use Rattle.pair_table.specs.Tables.{AreRowsSound}
 use Rattle.group_state.specs.Groups.{Group}
 use Rattle.xrc_command.specs.declared.line.Line.{Line}
-use Rattle.site_store.specs.Commands.{IsToLog, behind_command}
+use Rattle.site_store.specs.Commands.{IsToLog, after_command}
 use Rattle.site_store.specs.Sites.{SiteState}
 use Rattle.xrc_status.specs.declared.stop.Stop.{Stop}
 use Rattle.xrc_status.specs.declared.stop.Stop.TheVariants.{NoMemory, Spent}
 use Rattle.xrc_session.specs.declared.answering.LineAnswer.{LineAnswer}
 use Rattle.xrc_session.specs.declared.kept.SessionParts.{SessionParts}
-use Rattle.xrc_session.specs.Answering.{AnswersCommands, EndsCommand, IsDoneFrom, IsSiteCommanded, LogsCommands, answer_told, change_result, group_taken}
+use Rattle.xrc_session.specs.Answering.{AnswersCommands, EndsCommand, IsDoneFrom, IsSiteCommanded, LogsCommands, answer_said, change_result, group_taken}
 use Rattle.xrc_session.specs.LinePauses.{MayCommandSite}
 use Rattle.xrc_session.specs.Bringing.{IsWorkOfStore}
 use Rattle.xrc_session.specs.Stops.{IsSpentNow}
 use Rattle.xrc_session.specs.Taking.{IsSoundForRows}
-use Rattle.xrc_session.proofs.AnswerDone.{no_work_done, refused_ends, refused_leaves, refused_site, some_first, told_change, told_refusal}
+use Rattle.xrc_session.proofs.AnswerDone.{no_work_done, refused_ends, refused_leaves, refused_site, said_refusal, some_first, told_change}
 use Rattle.xrc_session.proofs.AnswerRefused.{command_stops}
 
 -- ---- by the answer of the call
 
--- A command for which there is no memory leaves what stands behind each error.
-pub without_memory : (A : Type 0) (done : Result Change CommandError) (stop : Stop) → answer_told done ≡ Err stop → OnErr done A → A × (NoMemory ≡ stop)
+-- A command for which there is no memory leaves what stands after each error.
+pub without_memory : (A : Type 0) (done : Result Change CommandError) (stop : Stop) → answer_said done ≡ Err stop → OnErr done A → A × (NoMemory ≡ stop)
 without_memory A (Ok change) stop is left = absurd cc
 without_memory A (Err (errors.Refused why)) stop is left = absurd cc
 without_memory A (Err errors.NoMemory) stop is left = (left, cc)
@@ -41,22 +41,22 @@ of_change A done change is holds = subst (λ (r : Result Change CommandError). I
 of_refusal : (A : Type 0) (done : Result Change CommandError) (why : Refusal) → done ≡ Err (errors.Refused why) → OnErr done A → A
 of_refusal A done why is holds = subst (λ (r : Result Change CommandError). OnErr r A) is holds
 
-of_answer : (done : Result Change CommandError) (told : Result (Result Change Refusal) Stop) (answered given : Result Change Refusal) → told ≡ answer_told done → told ≡ Ok answered → answered ≡ given → answer_told done ≡ Ok given
+of_answer : (done : Result Change CommandError) (told : Result (Result Change Refusal) Stop) (answered given : Result Change Refusal) → told ≡ answer_said done → told ≡ Ok answered → answered ≡ given → answer_said done ≡ Ok given
 of_answer done told answered given is was same = sym is ∙ was ∙ ap (λ (r : Result Change Refusal). let t : Result (Result Change Refusal) Stop = Ok r in t) same
 
--- A command was done: the site is the one behind it, and its change may be logged if the rows keep a table's rules.
+-- A command was done: the site is the one after it, and its change may be logged if the rows keep a table's rules.
 pub record IsDone (names : Naming) (line : Line) (change : Change) (was site : SiteState) : Type 0 where
-  pub is : site ≡ behind_command names line.session line.command line.time.0 change was
+  pub is : site ≡ after_command names line.session line.command line.time.0 change was
   pub done : answer names was.table line.session line.command ≡ Ok change
   pub to_log : was.is_ahead ≡ false → AreRowsSound site.table.rows → IsToLog change site
 
-pub was_done : (names : Naming) (line : Line) (was site : SiteState) (done : Result Change CommandError) (told : Result (Result Change Refusal) Stop) (answered : Result Change Refusal) (change : Change) → told ≡ answer_told done → told ≡ Ok answered → answered ≡ Ok change
-    → IfOk done (λ change. site ≡ behind_command names line.session line.command line.time.0 change was) → IfOk done (λ change. answer names was.table line.session line.command ≡ Ok change)
+pub was_done : (names : Naming) (line : Line) (was site : SiteState) (done : Result Change CommandError) (told : Result (Result Change Refusal) Stop) (answered : Result Change Refusal) (change : Change) → told ≡ answer_said done → told ≡ Ok answered → answered ≡ Ok change
+    → IfOk done (λ change. site ≡ after_command names line.session line.command line.time.0 change was) → IfOk done (λ change. answer names was.table line.session line.command ≡ Ok change)
     → IfOk done (λ change. was.is_ahead ≡ false → AreRowsSound site.table.rows → IsToLog change site) → IsDone names line change was site
 was_done names line was site done told answered change is told_is same ok answers to_log =
     let done_is = told_change done change (of_answer done told answered (Ok change) is told_is same) in
     record {
-      is = of_change (λ change. site ≡ behind_command names line.session line.command line.time.0 change was) done change done_is ok;
+      is = of_change (λ change. site ≡ after_command names line.session line.command line.time.0 change was) done change done_is ok;
       done = of_change (λ change. answer names was.table line.session line.command ≡ Ok change) done change done_is answers;
       to_log = of_change (λ change. was.is_ahead ≡ false → AreRowsSound site.table.rows → IsToLog change site) done change done_is to_log;
     }
@@ -66,10 +66,10 @@ pub record IsRefused (names : Naming) (line : Line) (why : Refusal) (was site : 
   pub same : site ≡ was
   pub refused : refusal names was.table line.session line.command ≡ Some why
 
-pub was_refused : (names : Naming) (line : Line) (was site : SiteState) (done : Result Change CommandError) (told : Result (Result Change Refusal) Stop) (answered : Result Change Refusal) (why : Refusal) → told ≡ answer_told done → told ≡ Ok answered → answered ≡ Err why
+pub was_refused : (names : Naming) (line : Line) (was site : SiteState) (done : Result Change CommandError) (told : Result (Result Change Refusal) Stop) (answered : Result Change Refusal) (why : Refusal) → told ≡ answer_said done → told ≡ Ok answered → answered ≡ Err why
     → OnErr done (site ≡ was) → ((why : Refusal) → done ≡ Err (errors.Refused why) → refusal names was.table line.session line.command ≡ Some why) → IsRefused names line why was site
 was_refused names line was site done told answered why is told_is same left refused =
-    let done_is = told_refusal done why (of_answer done told answered (Err why) is told_is same) in
+    let done_is = said_refusal done why (of_answer done told answered (Err why) is told_is same) in
     record { same = of_refusal (site ≡ was) done why done_is left; refused = refused why done_is }
 
 -- ---- where nothing is called

@@ -1,4 +1,4 @@
--- Hits behind a command and in a mark: how they lead from point to point, and that each has a fault of its own.
+-- Hits after a command and in a mark: how they lead from point to point, and that each has a fault of its own.
 use Rattle.std.proofs.Common.{◌≡◌, inl, inr, ℕ, suc, ◌+◌, ◌<◌, ◌≤◌, ◌==◌, Bool, true, false, ◌&&◌, List, [], ◌∷◌, ◌++◌, length, Option, refl, sym, ap, subst, ◌∙◌, arith}
 use Rattle.std.specs.Prelude.{nat_le}
 use Rattle.std.specs.List.{list_all, list_any}
@@ -13,7 +13,7 @@ use Rattle.pair_table.specs.Tables.{is_of}
 use Rattle.row_changes.specs.Changes.{Due, Timed, are_hit, due_after_mark, due_in_record, is_of_mark, is_of_record}
 use Rattle.row_changes.specs.Changes.Due.{NoneDue}
 use Rattle.row_changes.specs.Spans.{all_broke, hit_count, is_hit_at}
-use Rattle.record_rows.specs.Hits.{due_behind_mark, hit_changes, hit_now, marked_changes, rows_hit, rows_marked}
+use Rattle.record_rows.specs.Hits.{due_once_marked, hit_changes, hit_now, marked_changes, rows_hit, rows_marked}
 use Rattle.record_rows.specs.Records.{rows_with_hits}
 use Rattle.record_rows.proofs.Counting.{counts_append, hits_count, marks_count, once}
 use Rattle.record_rows.proofs.HitRows.{hit_have_rows}
@@ -44,13 +44,13 @@ module _ (level : Level) (breaks : List (Option ℕ)) (p : Point) (due : p.due �
     };
   }
 
-  -- The hits of jobs that have failed lead from a point to the one with the rows behind them.
+  -- The hits of jobs that have failed lead from a point to the one with the rows after them.
   pub hits_lead : (failed : List Bool) → HitsLead level breaks p (record p { rows = rows_with_hits level p.time failed p.rows }) (hit_changes p.time (hit_now failed p.rows))
   hits_lead failed = lead_by (hit_now failed p.rows) (hit_have_rows failed p.rows)
 
   -- So do those that stand in a mark before a record, which leave the others due.
   pub marked_lead : (d : ℕ) (hit : List ℕ) → list_all (λ e. list_any (is_of e) p.rows) (d ∷ hit) ≡ true
-      → MarkedHitsLead level breaks p (record p { rows = rows_marked p.time (d ∷ hit) p.rows; due = due_behind_mark level p.time (d ∷ hit) }) (marked_changes p.time (d ∷ hit))
+      → MarkedHitsLead level breaks p (record p { rows = rows_marked p.time (d ∷ hit) p.rows; due = due_once_marked level p.time (d ∷ hit) }) (marked_changes p.time (d ∷ hit))
   marked_lead d hit have = record {
     are_marked = ap (λ (b : Bool). (b && true) && true) (eq-eqb p.time p.time refl);
     at = refl;
@@ -121,11 +121,11 @@ module _ (l : Leg) (began old new : PlantState) (up : NoneFalls old new) (before
   there : (d : ℕ) → new.faults (Volume d) < most_faults → Before d
   there d low = before d (let rises = up d in omega (arith, rises, low))
 
-  -- A leg whose hits have faults has them behind more calls.
+  -- A leg whose hits have faults has them after more calls.
   pub leg_counted : AreHitsOfFaults l began new
   leg_counted d low = let was = there d low in let rises = up d in omega (arith, was, rises)
 
-  -- Hits on the way, in a mark, and behind a command or an end have them, too. The hits of a mark that stand behind the command count once.
+  -- Hits on the way, in a mark, and after a command or an end have them, too. The hits of a mark that stand after the command count once.
   pub way_counted : (q : Point) (hits : List Timed) → AreOfFaults hits old new → AreHitsOfFaults (leg_to l q hits) began new
   way_counted q hits own d low =
       let was = there d low in

@@ -34,7 +34,7 @@ use Rattle.consistency.specs.Answering.{answered_by, points_before, reply_conten
 use Rattle.consistency.specs.Stages.{ScriptRun, Stage, accepts, accepts_end, breaks_of, names_of}
 use Rattle.consistency.specs.Bearing.{ShowsPoint}
 use Rattle.consistency.specs.Leads.{Point}
-use Rattle.consistency.specs.Replying.{is_query, told_tracks}
+use Rattle.consistency.specs.Replying.{is_query, said_tracks}
 use Rattle.consistency.specs.Steps.{names_at, table_on_the_way}
 use Rattle.consistency.specs.Ways.{IsCommanding, Leg, PassedPoint, leg_after, table_at}
 use Rattle.consistency.proofs.Legs.{ends_alike}
@@ -44,17 +44,17 @@ use Rattle.xrc_session.specs.Answering.IsMarkedAt.{IsAtEnd}
 use Rattle.xrc_session.specs.MapsOwed.{MapsOwed, MapsRest}
 use Rattle.xrc_session.specs.LinePauses.{GoesOnFrom, StandsAtLeg, site_point}
 use Rattle.xrc_session.specs.Joins.{StaysForReaders}
-use Rattle.xrc_session.specs.Steps.{TellsAnswer}
+use Rattle.xrc_session.specs.Steps.{SaysAnswer}
 use Rattle.xrc_session.specs.Taking.{IsSoundForRows, after_calls, calls_of_change, tracks_to_copy, MayTake}
 use Rattle.xrc_session.proofs.AnswerBreaks.{breaks_await, breaks_stay}
 use Rattle.xrc_session.proofs.AnswerChanges.{IsLoggedSite, change_is, ended_is, logged_site, rows_are, was_goes}
 use Rattle.xrc_session.proofs.AnswerLegs.{IsCommandLeg, command_answered, command_leg, command_point, none_of_line}
 use Rattle.xrc_session.proofs.AnswerLogs.{IsLinePassed, IsLoggedIn, on, stands_for_site, table_here, takes_there}
-use Rattle.xrc_session.proofs.AnswerTells.{accepted_end, asked_still, marks_leave, no_end, table_of_leg, owes_still}
+use Rattle.xrc_session.proofs.AnswerSays.{accepted_end, asked_still, marks_leave, no_end, table_of_leg, owes_still}
 use Rattle.xrc_session.proofs.Commanded.{row_taken}
 use Rattle.xrc_session.proofs.JoinsLanes.{changes_stay}
 use Rattle.xrc_session.proofs.AnswerTracks.{tracks_are_owed}
-use Rattle.xrc_session.proofs.AnswerMaps.{maps_behind_command}
+use Rattle.xrc_session.proofs.AnswerMaps.{maps_after_command}
 use Rattle.xrc_session.proofs.LastPoints.{last_rows_then}
 use Rattle.site_store.proofs.CommandRows.{Answered, Own, answered, own_of}
 
@@ -65,8 +65,8 @@ module _ (tells : Type 0) (run : ScriptRun) (stage : Stage) (asked : LinesAsked)
     (h : IsLoggedIn tells run stage asked l first points names line change was site next began old new g) {P : Type 0} (was_plant is_plant : P) (logs : LogsChange line.time.0 change site next old was_plant is_plant (Ok tt))
     (does : DoesChange tells line.time.0 change site next old new (Ok tt)) (may_change : MayChange tells line.time.0 change site old) (leaves : Leaves tells (λ e. e) site next old new) (same_plant : is_plant ≡ was_plant → new ≡ old)
     (p : IsLinePassed run stage line asked l next began old new) (some : (c : Choice) × IsChoice new new.clock c) (kept : IsSoundForRows g was.told) where
-  abbrev behind : Leg
-  behind = fold leg_after l p.more
+  abbrev after : Leg
+  after = fold leg_after l p.more
 
   abbrev taken : Group
   taken = after_calls (calls_of_change change g was.told next.told) g
@@ -114,10 +114,10 @@ module _ (tells : Type 0) (run : ScriptRun) (stage : Stage) (asked : LinesAsked)
   shows : AtNow (ShowsPoint run (shape_of new) (site_point next)) new
   shows c is = subst (λ (q : Point). ShowsPoint run (shape_of new) q c) (sym (command_point l.answered p.hits p.more p.by l l.point) ∙ p.point) (p.passes.now c is)
 
-  -- ---- the leg behind it
+  -- ---- the leg after it
 
-  -- The session stands behind the line, if the command is no end.
-  at_leg : next.mark.ended ≡ next.table.is_ended → StandsAtLeg run (stage_then run stage line l p.hits) behind next began new
+  -- The session stands after the line, if the command is no end.
+  at_leg : next.mark.ended ≡ next.table.is_ended → StandsAtLeg run (stage_then run stage line l p.hits) after next began new
   at_leg flag = record {
     here = p.point;
     shows = shows;
@@ -126,11 +126,11 @@ module _ (tells : Type 0) (run : ScriptRun) (stage : Stage) (asked : LinesAsked)
   }
 
   -- Or the mark of the end may come.
-  may_end : next.table.is_ended ≡ true → next.mark.ended ≡ false → MayEndBy run stage asked behind true next began new
+  may_end : next.table.is_ended ≡ true → next.mark.ended ≡ false → MayEndBy run stage asked after true next began new
   may_end ended unmarked = record {
-    marked = IsAtEnd l.answered own.before p.hits own.leg (h.may.asked_is ∙ sym h.may.heard) (subst (λ (o : Option Line). IsCommanding run o own.before behind.point p.hits) (h.may.asked_is ∙ sym h.may.heard) own.comes.2) own.is
+    marked = IsAtEnd l.answered own.before p.hits own.leg (h.may.asked_is ∙ sym h.may.heard) (subst (λ (o : Option Line). IsCommanding run o own.before after.point p.hits) (h.may.asked_is ∙ sym h.may.heard) own.comes.2) own.is
         (record { last = command_answered l.answered p.hits p.more p.by l; unchanged = ap (λ (x : Leg). x.changes) own.is; none_marked = ap (λ (x : Leg). x.marked) own.is })
-        (ends_alike run l.point behind.point stage.next (here_goes ∙ sym behind_goes) (ap (accepts_end run found) h.may.heard ∙ accepted_end run found line (sym next_ended ∙ ended) accepted));
+        (ends_alike run l.point after.point stage.next (here_goes ∙ sym after_goes) (ap (accepts_end run found) h.may.heard ∙ accepted_end run found line (sym next_ended ∙ ended) accepted));
     here = p.point;
     shows = subst (λ (q : Point). AtNow (ShowsPoint run (shape_of new) q) new) (sym p.point) shows;
     counted = p.counted;
@@ -138,13 +138,13 @@ module _ (tells : Type 0) (run : ScriptRun) (stage : Stage) (asked : LinesAsked)
     rows = stands_for_site tells run stage asked l first points names line change was site next began old new g h was_plant is_plant logs does may_change leaves same_plant some;
   }
     where
-      behind_goes : behind.point.is_ended ≡ false
-      behind_goes = ap (λ (q : Point). q.is_ended) p.point ∙ unmarked
+      after_goes : after.point.is_ended ≡ false
+      after_goes = ap (λ (q : Point). q.is_ended) p.point ∙ unmarked
 
-      own : IsCommandLeg run stage asked l l.answered p.hits behind
-      own = command_leg run stage asked l.answered p.hits p.more p.by l h.may.at.leg p.passes.linked behind_goes
+      own : IsCommandLeg run stage asked l l.answered p.hits after
+      own = command_leg run stage asked l.answered p.hits p.more p.by l h.may.at.leg p.passes.linked after_goes
 
-  -- ---- what its reply tells
+  -- ---- what its reply says
 
   rows_here : l.point.rows ≡ was.told
   rows_here = ap (λ (q : Point). q.rows) here
@@ -182,11 +182,11 @@ module _ (tells : Type 0) (run : ScriptRun) (stage : Stage) (asked : LinesAsked)
       ∙ asked_still run first points (points_before l.answered p.more) was.told line.time.0 line.command h.apart marks_are pair_taken
 
   tells_answer : (text reply : List ℕ)
-      → TellsAnswer line (reply_content run stage first (points ++ p.more) l.answered (answered_by run stage text reply line l.changes p.hits)) (record { answer = Ok change; tracks = tracks_to_copy change g was.told next.told })
+      → SaysAnswer line (reply_content run stage first (points ++ p.more) l.answered (answered_by run stage text reply line l.changes p.hits)) (record { answer = Ok change; tracks = tracks_to_copy change g was.told next.told })
   tells_answer text reply = record {
     is = answer_is;
     tracks =
-        (λ i. told_tracks line.command (answer_is i) (asked_tracks i))
+        (λ i. said_tracks line.command (answer_is i) (asked_tracks i))
         ∙ tracks_are_owed run names first points was old g next.told line.time.0 (on tells run stage asked l first points names line change was site next began old new g h) (ap (λ (n : Naming). n.primaries) names_are) was_at kept site.level line.time.0 logged.failed
         line.command change (ap (λ (rows : List PairRow). refuses_command names rows line.command) h.from.same ∙ own_rows.own) (change_is names line change was site old h.from)
         (takes_there tells run stage asked l first points names line change was site next began old new g h was_plant is_plant logs does may_change leaves same_plant)
@@ -219,7 +219,7 @@ module _ (tells : Type 0) (run : ScriptRun) (stage : Stage) (asked : LinesAsked)
 
       maps_there : MapsOwed run first (points ++ p.more) (site_point next) taken × MapsRest (site_point next) taken
       maps_there =
-          maps_behind_command run asked l first points p.more l.answered p.hits names line.command change was next old g line.time.0 site.level logged.failed from (h.may.cut goes) here kept
+          maps_after_command run asked l first points p.more l.answered p.hits names line.command change was next old g line.time.0 site.level logged.failed from (h.may.cut goes) here kept
           (takes_there tells run stage asked l first points names line change was site next began old new g h was_plant is_plant logs does may_change leaves same_plant) (change_is names line change was site old h.from) was_at logged.time next_flag
           (logged.rows ∙ ap (rows_with_hits site.level line.time.0 logged.failed) (rows_are names line change was site old h.from)) p.by p.passes.linked p.point
 

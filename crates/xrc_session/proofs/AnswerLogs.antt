@@ -28,7 +28,7 @@ use Rattle.site_store.specs.Causes.{FailByCounts}
 use Rattle.site_store.specs.Changing.{DoesChange, LogsChange, MayChange, change_deeds_of, changed_items, table_with_hits, told_by_mark}
 use Rattle.site_store.specs.Commands.{excepted_by_change}
 use Rattle.site_store.specs.DoneDeeds.{BeginsDeeds, DoesDeeds, PassedDeed}
-use Rattle.site_store.specs.Exceptions.{Exceptions, excepted_behind}
+use Rattle.site_store.specs.Exceptions.{Exceptions, excepted_after}
 use Rattle.site_store.specs.Records.{VolumesStay}
 use Rattle.site_store.specs.Sites.{SiteState}
 use Rattle.site_store.specs.Standing.{Leaves, SiteStands}
@@ -48,18 +48,18 @@ use Rattle.xrc_session.specs.EpochPauses.{Between, StandsBetween}
 use Rattle.xrc_session.specs.CarriedLaws.{FitsOn, IsWithoutEntries}
 use Rattle.xrc_session.specs.Frames.{ChangesRows}
 use Rattle.xrc_session.specs.Lanes.{sizes_of}
-use Rattle.xrc_session.specs.Resting.{ArePointsBehind, IsPointBehind, KeepTracks, LogsFrom, ShowsBefore}
+use Rattle.xrc_session.specs.Resting.{ArePointsAfter, IsPointAfter, KeepTracks, LogsFrom, ShowsBefore}
 use Rattle.xrc_session.specs.Steps.{BeginsToPass, PassesPointsOn}
 use Rattle.xrc_session.specs.Taking.{IfAdds, MayTake, after_calls, calls_of_change, plans_after_calls}
 use Rattle.xrc_session.specs.Trails.{AreHitsOfFaults}
 use Rattle.xrc_session.proofs.AnswerAhead.{AreAhead, NextPoint, leg_next, passed_by}
 use Rattle.xrc_session.proofs.AnswerChanges.{IsLoggedSite, change_is, logged_site, marks_stand, none_hit_there, none_untold, rows_altered, site_told, was_goes}
-use Rattle.xrc_session.proofs.AnswerCommands.{both_are_of_line, command_ahead, command_behind_mark, command_hits, command_is_of_line, command_left, here_meant, leg_then, leg_then_behind_mark, mark_by, mark_there, next_command, next_mark, next_quiet, quiet_ahead, quiet_is_of_line, quiet_leg_then}
+use Rattle.xrc_session.proofs.AnswerCommands.{both_are_of_line, command_after_mark, command_ahead, command_hits, command_is_of_line, command_left, here_meant, leg_then, leg_then_after_mark, mark_by, mark_there, next_command, next_mark, next_quiet, quiet_ahead, quiet_is_of_line, quiet_leg_then}
 use Rattle.xrc_session.proofs.AnswerDeeds.{begun_passes, done_passes, quiet_passes, rows_unwritten}
 use Rattle.xrc_session.proofs.AnswerHits.{AreOfFaults, NoneFalls, command_counted, counted_hits, hits_of_faults, leg_counted, mark_counted, marks_of_faults, none_of_faults}
 use Rattle.xrc_session.proofs.AnswerSites.{IsSiteOfRun, site_of_run}
 use Rattle.xrc_session.proofs.AnswerWorks.{rose_for_each}
-use Rattle.xrc_session.proofs.RestingRows.{changes_keep_tracks, deeds_cases, rows_stand_behind_changes, rows_stand_behind_commands, sites_stand_behind_deeds}
+use Rattle.xrc_session.proofs.RestingRows.{changes_keep_tracks, deeds_cases, rows_stand_after_changes, rows_stand_after_commands, sites_stand_after_deeds}
 
 -- ---- moments
 
@@ -90,8 +90,8 @@ pub record IsLoggedIn (tells : Type 0) (run : ScriptRun) (stage : Stage) (asked 
   pub takes : (level : Level) (cut : ℕ) (failed : List Bool) → MayTake g change was.told (rows_with_hits level cut failed site.table.rows)
   pub fits : (level : Level) (cut : ℕ) (failed : List Bool) → IfAdds change (rows_with_hits level cut failed site.table.rows) (FitsOn old (sizes_of run.traces))
 
--- A line's points were passed, with hits behind its command, up to the site's point.
---   leg: the leg of the stage behind the line is there, if the command is no end that is accepted
+-- A line's points were passed, with hits after its command, up to the site's point.
+--   leg: the leg of the stage after the line is there, if the command is no end that is accepted
 pub record IsLinePassed (run : ScriptRun) (stage : Stage) (line : Line) (asked : LinesAsked) (l : Leg) (site : SiteState) (began old new : PlantState) : Type 0 where
   pub more : List PassedPoint
   pub hits : List Timed
@@ -134,7 +134,7 @@ module _ (tells : Type 0) (run : ScriptRun) (stage : Stage) (asked : LinesAsked)
     rows = (sym h.from.same ∙ ap (λ (p : Point). p.rows) (sym here)) i;
   }
 
-  -- Its rows behind the command are those of the command's point.
+  -- Its rows after the command are those of the command's point.
   left_rows : (commanded_point run line l.point).rows ≡ site.table.rows
   left_rows =
       ap (λ (t : Table). (table_after (names_at line.time.0 (breaks_of run) (names_of run)) t line.session line.command line.time.0).rows) (sym table_here)
@@ -202,12 +202,12 @@ module _ (tells : Type 0) (run : ScriptRun) (stage : Stage) (asked : LinesAsked)
   marked_counts : AreHitsOfFaults (record l { marked = marked_changes l.point.time hit }) began new
   marked_counts = mark_counted l began old new h.up h.may.at.counted active.1.none_marked l.point l.answered (marked_changes l.point.time hit) marked_hits
 
-  behind_counts : AreHitsOfFaults (leg_next (record l { marked = marked_changes l.point.time hit }) command) began new
-  behind_counts = command_counted l began old new h.up h.may.at.counted active.1.none_marked command.point l.answered (marked_changes l.point.time hit) hits marked_hits own_hits
+  after_counts : AreHitsOfFaults (leg_next (record l { marked = marked_changes l.point.time hit }) command) began new
+  after_counts = command_counted l began old new h.up h.may.at.counted active.1.none_marked command.point l.answered (marked_changes l.point.time hit) hits marked_hits own_hits
 
   -- ---- the deeds
 
-  -- what is excepted behind the command
+  -- what is excepted after the command
   abbrev e : Exceptions
   e = excepted_by_change change was on.rows.excepted
 
@@ -215,7 +215,7 @@ module _ (tells : Type 0) (run : ScriptRun) (stage : Stage) (asked : LinesAsked)
   b = record { run = run; size = sizes_of run.traces; excepted = e; group = g; point = site_point was; done = on.rows.done }
 
   pub stands : StandsBetween old b
-  stands = rows_stand_behind_commands old (record { run = run; size = sizes_of run.traces; excepted = on.rows.excepted; group = g; point = site_point was; done = on.rows.done }) change was on.rows.rows refl h.from.told
+  stands = rows_stand_after_commands old (record { run = run; size = sizes_of run.traces; excepted = on.rows.excepted; group = g; point = site_point was; done = on.rows.done }) change was on.rows.rows refl h.from.told
 
   pub site_stands : SiteStands e site old
   site_stands =
@@ -276,13 +276,13 @@ module _ (tells : Type 0) (run : ScriptRun) (stage : Stage) (asked : LinesAsked)
     abbrev way_alone : PassedDeed → Way
     way_alone n = command.way
 
-    alone_are : ArePointsBehind alone (site_point was) told_alone
-    alone_are = record { first = refl; behind = behind }
+    alone_are : ArePointsAfter alone (site_point was) told_alone
+    alone_are = record { first = refl; after = after }
       where
-        behind : (n : ℕ) → n ≤ 1 → IsPointBehind (take n alone) (site_point was) (told_alone (take n alone))
-        behind zero few = record { time = refl; rows = refl; ended = refl }
-        behind (suc zero) few = record { time = time_here; rows = command_rows; ended = flag_here }
-        behind (suc (suc n)) few = absurd (omega (arith, few))
+        after : (n : ℕ) → n ≤ 1 → IsPointAfter (take n alone) (site_point was) (told_alone (take n alone))
+        after zero few = record { time = refl; rows = refl; ended = refl }
+        after (suc zero) few = record { time = time_here; rows = command_rows; ended = flag_here }
+        after (suc (suc n)) few = absurd (omega (arith, few))
 
     alone_ahead : AreAhead run stage asked l (command ∷ [])
     alone_ahead = command_ahead run stage asked l line h.may.at.leg h.may.heard h.may.asked_is active.1 active.0 failed differ (counts (leg_next l command) command_counts)
@@ -325,14 +325,14 @@ module _ (tells : Type 0) (run : ScriptRun) (stage : Stage) (asked : LinesAsked)
         mark_rows hit
         ∙ (λ i. let rows : List PairRow = (rows_here ∙ sym (site_told names line change was site old h.from)) i in rows_marked ((ap (λ (p : Point). p.time) here ∙ sym site_time) i) (hit_now failed rows) rows)
 
-    both_are : ArePointsBehind both (site_point was) told_both
-    both_are = record { first = refl; behind = behind }
+    both_are : ArePointsAfter both (site_point was) told_both
+    both_are = record { first = refl; after = after }
       where
-        behind : (n : ℕ) → n ≤ 2 → IsPointBehind (take n both) (site_point was) (told_both (take n both))
-        behind zero few = record { time = refl; rows = refl; ended = refl }
-        behind (suc zero) few = record { time = mark_time hit ∙ ap (λ (p : Point). p.time) here; rows = rows_of_mark; ended = mark_flag hit ∙ flag_here ∙ sym site_flag }
-        behind (suc (suc zero)) few = record { time = time_here; rows = command_rows; ended = flag_here ∙ sym site_flag }
-        behind (suc (suc (suc n))) few = absurd (omega (arith, few))
+        after : (n : ℕ) → n ≤ 2 → IsPointAfter (take n both) (site_point was) (told_both (take n both))
+        after zero few = record { time = refl; rows = refl; ended = refl }
+        after (suc zero) few = record { time = mark_time hit ∙ ap (λ (p : Point). p.time) here; rows = rows_of_mark; ended = mark_flag hit ∙ flag_here ∙ sym site_flag }
+        after (suc (suc zero)) few = record { time = time_here; rows = command_rows; ended = flag_here ∙ sym site_flag }
+        after (suc (suc (suc n))) few = absurd (omega (arith, few))
 
     stand : hits_stand (marked_changes l.point.time hit) hits command.point.rows ≡ true
     stand =
@@ -341,8 +341,8 @@ module _ (tells : Type 0) (run : ScriptRun) (stage : Stage) (asked : LinesAsked)
 
     both_ahead : AreAhead run stage asked l (mark ∷ command ∷ [])
     both_ahead =
-        command_behind_mark run stage asked l line h.may.at.leg h.may.heard h.may.asked_is active.1 active.0 failed hit refl differ stand (counts l counted_here)
-        (counts (record l { marked = marked_changes l.point.time hit }) marked_counts) (counts (leg_next (record l { marked = marked_changes l.point.time hit }) command) behind_counts)
+        command_after_mark run stage asked l line h.may.at.leg h.may.heard h.may.asked_is active.1 active.0 failed hit refl differ stand (counts l counted_here)
+        (counts (record l { marked = marked_changes l.point.time hit }) marked_counts) (counts (leg_next (record l { marked = marked_changes l.point.time hit }) command) after_counts)
 
     -- ---- they begin
 
@@ -369,7 +369,7 @@ module _ (tells : Type 0) (run : ScriptRun) (stage : Stage) (asked : LinesAsked)
     logged : IsLoggedSite cut site next
     logged = logged_site tells cut change site next old new was_plant is_plant may_change (site_time ∙ was_time) logs
 
-    -- a point with the line's time, the flag before it, and the rows behind it is the site's
+    -- a point with the line's time, the flag before it, and the rows after it is the site's
     point_there : (rows : List PairRow) → rows ≡ next.told → record l.point { rows = rows } ≡ site_point next
     point_there rows are = λ i. record {
       time = (time_here ∙ sym logged.time) i;
@@ -392,7 +392,7 @@ module _ (tells : Type 0) (run : ScriptRun) (stage : Stage) (asked : LinesAsked)
     module _ (some : changed_items change site.table.rows ≢ []) where
       -- The rows are those of the record.
       rows_recorded : next.told ≡ told_rows
-      rows_recorded = ap (λ (s : SiteState). s.told) (logs.rows some).behind.next_is
+      rows_recorded = ap (λ (s : SiteState). s.told) (logs.rows some).after.next_is
 
       there : command.point ≡ site_point next
       there = point_there command.point.rows (command_rows ∙ sym rows_recorded)
@@ -416,10 +416,10 @@ module _ (tells : Type 0) (run : ScriptRun) (stage : Stage) (asked : LinesAsked)
           moment : (t : ℕ) × (did.moments ≡ t ∷ [])
           moment = one_moment did.moments did.each
 
-      behind_mark : (hs : List ℕ) → AreHitsOfFaults (leg_next (record l { marked = marked_changes l.point.time hs }) command) began new → AreHitsOfFaults (leg_next (leg_by l (mark_there run l hs) (mark_by l hs)) command) began new
-      behind_mark [] are =
+      after_mark : (hs : List ℕ) → AreHitsOfFaults (leg_next (record l { marked = marked_changes l.point.time hs }) command) began new → AreHitsOfFaults (leg_next (leg_by l (mark_there run l hs) (mark_by l hs)) command) began new
+      after_mark [] are =
           subst (λ (x : Leg). AreHitsOfFaults (leg_next x command) began new) (λ i. record l { changes = sym (append-nil l.changes) i; marked = sym active.1.none_marked i }) are
-      behind_mark (d ∷ hs) are = are
+      after_mark (d ∷ hs) are = are
 
       passed_both : DoesDeeds e site.told (both some) old new → Keep (both some) → IsLinePassed run stage line asked l next began old new
       passed_both did are = record {
@@ -429,8 +429,8 @@ module _ (tells : Type 0) (run : ScriptRun) (stage : Stage) (asked : LinesAsked)
             (done_passes old new b stage asked l site.told (both some) (mark ∷ command ∷ []) (told_both some) (way_both some) here (before (both some) are) (both_are some) (refl, (λ t. refl), (refl, (λ t. refl), tt)) (both_ahead some) stays did);
         by = both_are_of_line run l line failed hit moments.0 moments.1;
         point = there;
-        counted = behind_mark hit behind_counts;
-        leg = leg_then_behind_mark run stage asked l line h.may.at.leg h.may.heard h.may.asked_is active.1 active.0 failed hit (differ some) (stand some);
+        counted = after_mark hit after_counts;
+        leg = leg_then_after_mark run stage asked l line h.may.at.leg h.may.heard h.may.asked_is active.1 active.0 failed hit (differ some) (stand some);
         unhit = never;
       }
         where
@@ -466,7 +466,7 @@ module _ (tells : Type 0) (run : ScriptRun) (stage : Stage) (asked : LinesAsked)
         deeds_cases tells cut change site next old new (Ok tt) does (λ deeds. DoesDeeds e site.told deeds old new → Keep deeds → IsLinePassed run stage line asked l next began old new)
         (λ none did are. passed_quiet none) (λ some. passed_alone some) (λ some. passed_both some) (does.does h.told e site_stands) (keep (Ok tt) does)
 
-    -- ---- what stands behind them
+    -- ---- what stands after them
 
     abbrev taken : Group
     taken = after_calls (calls_of_change change g was.told next.told) g
@@ -492,12 +492,12 @@ module _ (tells : Type 0) (run : ScriptRun) (stage : Stage) (asked : LinesAsked)
     -- The shared state stands for the site's rows again.
     pub stands_for_site : (some : (c : Choice) × IsChoice new new.clock c) → StandsForSite run next taken new
     stands_for_site some = record {
-      excepted = excepted_behind site.told deeds e;
+      excepted = excepted_after site.told deeds e;
       done = plans_after_calls (calls_of_change change g was.told next.told) on.rows.done;
-      stands = sites_stand_behind_deeds new e site.told deeds next none_logged (leaves.stands h.told e site_stands);
+      stands = sites_stand_after_deeds new e site.told deeds next none_logged (leaves.stands h.told e site_stands);
       rows =
-          subst (λ (p : Point). StandsBetween new (record { run = run; size = sizes_of run.traces; excepted = excepted_behind site.told deeds e; group = taken; point = p; done = plans_after_calls (calls_of_change change g was.told next.told) on.rows.done })) point
-          (rows_stand_behind_changes tells old new b cut change site next next.told logs_there (does.does h.told e site_stands) some);
+          subst (λ (p : Point). StandsBetween new (record { run = run; size = sizes_of run.traces; excepted = excepted_after site.told deeds e; group = taken; point = p; done = plans_after_calls (calls_of_change change g was.told next.told) on.rows.done })) point
+          (rows_stand_after_changes tells old new b cut change site next next.told logs_there (does.does h.told e site_stands) some);
     }
       where
         point : record (site_point was) { rows = next.told } ≡ site_point next

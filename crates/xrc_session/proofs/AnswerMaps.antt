@@ -1,4 +1,4 @@
--- What is mapped behind a command, by what the rows owe.
+-- What is mapped after a command, by what the rows owe.
 use Rattle.std.proofs.Common.{◌≡◌, ◌⊎◌, inl, inr, ℕ, zero, suc, ◌+◌, ◌<◌, Bool, true, false, cond, nat_eq, ◌&&◌, ◌||◌, List, [], ◌∷◌, ◌++◌, map, refl, sym, ap, subst, ◌∙◌, arith, true≢false}
 use Rattle.std.specs.Prelude.{◌==◌, fold}
 use Rattle.std.specs.List.{All, Contains, list_all}
@@ -36,15 +36,15 @@ use Rattle.consistency.proofs.Marked.{marked_rows_stand}
 use Rattle.mover.specs.Working.{LinesAsked}
 use Rattle.xrc_session.specs.LinePauses.{GoesOnFrom, HasCut, site_point}
 use Rattle.xrc_session.specs.Answering.{AreOfCommand}
-use Rattle.xrc_session.specs.Answering.AreOfCommand.{OfCommand, OfEnd, BehindMark}
+use Rattle.xrc_session.specs.Answering.AreOfCommand.{OfCommand, OfEnd, AfterMark}
 use Rattle.xrc_session.specs.Taking.{IsSoundForRows, MayTake, after_calls, calls_of_change}
 use Rattle.xrc_session.specs.MapsOwed.{MapsOwed, MapsRest}
 use Rattle.xrc_session.specs.MapsTaken.{PassesBy, SuspendsAt}
 use Rattle.xrc_session.proofs.AnswerLegs.{comes_by}
 use Rattle.xrc_session.proofs.CommandsSuspend.{commands_suspend}
-use Rattle.xrc_session.proofs.MapsChanges.{maps_owed_behind_changes}
+use Rattle.xrc_session.proofs.MapsChanges.{maps_owed_after_changes}
 
--- ---- rows behind the hits of a mark
+-- ---- rows after the hits of a mark
 
 module _ (z : PairRow) (state : PairState) where
   abbrev here_in : PairRow → Bool
@@ -93,14 +93,14 @@ module _ (z : PairRow) (state : PairState) where
 -- ---- the points of a command
 
 module _ (run : ScriptRun) (asked : LinesAsked) (number : ℕ) (hits_of : List Timed) (q : Point) (goes : q.is_ended ≡ false) where
-  -- The session hasn't ended behind the points.
+  -- The session hasn't ended after the points.
   none_ends : (n m : PassedPoint) (own more : List Timed) (l : Leg) → m.way ≡ Ending number more → AreLinked (ComesNext run asked) leg_after l (n ∷ m ∷ []) → (leg_after (leg_after l n) m).point ≡ q → ⊥
   none_ends n m own more l ends linked at =
       let ending = (comes_by run asked (leg_after l n) m (Ending number more) ends linked.1.0).1 in
       let point = ap (λ (way : Way). (leg_by (leg_after l n) m.point way).point.is_ended) ends in
       true≢false (sym ending.ended ∙ sym point ∙ ap (λ (p : Point). p.is_ended) at ∙ goes)
 
-  -- A row that its device doesn't suspend behind the command wasn't hit in the mark before it.
+  -- A row that its device doesn't suspend after the command wasn't hit in the mark before it.
   unmarked : (points : List PassedPoint) → AreOfCommand number hits_of points → (k : Leg) → AreLinked (ComesNext run asked) leg_after k points → (k.marked ≡ [] → ⊥) → k.point.is_ended ≡ false → (fold leg_after k points).point ≡ q
       → (z : PairRow) → Contains q.rows z → is_device_suspended z.state ≡ false → hit_count z.device k.marked ≡ 0
   unmarked _ (OfCommand n is) k linked some goes_there at z has unfailed = by_count (hit_count z.device k.marked) refl
@@ -120,7 +120,7 @@ module _ (run : ScriptRun) (asked : LinesAsked) (number : ℕ) (hits_of : List T
       by_count zero is = refl
       by_count (suc n) is = absurd (true≢false (sym (ap is_device_suspended (stands (omega (arith, is)))) ∙ unfailed))
   unmarked _ (OfEnd n m own more is ends both) k linked some goes_there at z has unfailed = absurd (none_ends n m own more k ends linked at)
-  unmarked _ (BehindMark n points by rest) k linked some goes_there at z has unfailed = absurd (some (at_work by).none_marked)
+  unmarked _ (AfterMark n points by rest) k linked some goes_there at z has unfailed = absurd (some (at_work by).none_marked)
     where
       at_work : (n.way ≡ OnTheWay []) ⊎ ((marked : List Timed) × (n.way ≡ MarkedFor number marked)) → IsAtWork run asked k
       at_work (inl on_way) = (comes_by run asked k n (OnTheWay []) on_way linked.0).0
@@ -133,7 +133,7 @@ module _ (run : ScriptRun) (asked : LinesAsked) (number : ℕ) (hits_of : List T
   marked_hits : (l : Leg) (n : PassedPoint) (marked : List Timed) → MarkedHitsLead run.level (breaks_of run) l.point n.point marked → ((z : PairRow) → Contains q.rows z → is_device_suspended z.state ≡ false → hit_count z.device marked ≡ 0) → IsMark l.point.rows n
   marked_hits l n marked leads none z state has unfailed = ap (has_pair_in z state) leads.leads.rows ∙ all_elsewhere z state run.level l.point.time marked l.point.rows leads.are_marked (none z has unfailed)
 
-  -- The points of a command behind a leg with these rows: marks, and that of its record.
+  -- The points of a command after a leg with these rows: marks, and that of its record.
   record Passes (rows : List PairRow) (points : List PassedPoint) : Type 0 where
     marks : List PassedPoint
     last : PassedPoint
@@ -159,7 +159,7 @@ module _ (run : ScriptRun) (asked : LinesAsked) (number : ℕ) (hits_of : List T
     marked = All-nil (IsMark l.point.rows);
   }
   passes _ (OfEnd n m own more is ends both) l linked at = absurd (none_ends n m own more l ends linked at)
-  passes _ (BehindMark n points by rest) l linked at = by_way by (passes points rest (leg_after l n) linked.1 at)
+  passes _ (AfterMark n points by rest) l linked at = by_way by (passes points rest (leg_after l n) linked.1 at)
     where
       onward : (leg_after l n).point.rows ≡ l.point.rows → IsMark l.point.rows n → Passes (leg_after l n).point.rows points → Passes l.point.rows (n ∷ points)
       onward same mark later = passes_on l.point.rows n points mark (subst (λ (rows : List PairRow). Passes rows points) same later)
@@ -191,13 +191,13 @@ module _ (run : ScriptRun) (asked : LinesAsked) (number : ℕ) (hits_of : List T
 
 -- ---- the maps
 
--- Behind a command whose change was taken over the maps have what suspended rows owe, if they did before it.
-pub maps_behind_command : (run : ScriptRun) (asked : LinesAsked) (l : Leg) (first : Point) (points more : List PassedPoint) (number : ℕ) (hits : List Timed) (names : Naming) (command : Command) (change : Change) (was next : SiteState) (old : PlantState) (g : Group)
+-- After a command whose change was taken over the maps have what suspended rows owe, if they did before it.
+pub maps_after_command : (run : ScriptRun) (asked : LinesAsked) (l : Leg) (first : Point) (points more : List PassedPoint) (number : ℕ) (hits : List Timed) (names : Naming) (command : Command) (change : Change) (was next : SiteState) (old : PlantState) (g : Group)
     (time : ℕ) (level : Level) (failed : List Bool) → GoesOnFrom run first points was old g → HasCut was.time g → l.point ≡ site_point was → IsSoundForRows g was.told → MayTake g change was.told next.told
     → change_of names command was.told ≡ change → was.time ≡ time → next.time ≡ time → next.mark.ended ≡ false → next.told ≡ rows_with_hits level time failed (rows_after names time command was.told)
     → AreOfCommand number hits more → AreLinked (ComesNext run asked) leg_after l more → (fold leg_after l more).point ≡ site_point next
     → let taken = after_calls (calls_of_change change g was.told next.told) g in MapsOwed run first (points ++ more) (site_point next) taken × MapsRest (site_point next) taken
-maps_behind_command run asked l first points more number hits names command change was next old g time level failed on cut here kept take made at then goes are by linked there =
-    maps_owed_behind_changes run first points more (site_point was) (site_point next) g change kept take (then ∙ sym at)
+maps_after_command run asked l first points more number hits names command change was next old g time level failed on cut here kept take made at then goes are by linked there =
+    maps_owed_after_changes run first points more (site_point was) (site_point next) g change kept take (then ∙ sym at)
     (subst (λ (n : ℕ). SuspendsAt n change was.told next.told) (sym at) (commands_suspend names time g was.told next.told kept.apart command change level failed made take are))
     on.last (command_passes run asked number hits (site_point next) goes (site_point was) more by l (ap (λ (p : Point). p.rows) here) linked there) on.maps_rest cut on.maps

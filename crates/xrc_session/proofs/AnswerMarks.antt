@@ -33,7 +33,7 @@ use Rattle.xrc_session.specs.LinePauses.{RisesCover, site_point}
 use Rattle.xrc_session.specs.EpochPauses.{Between}
 use Rattle.xrc_session.specs.Frames.{ChangesRows}
 use Rattle.xrc_session.specs.Lanes.{sizes_of}
-use Rattle.xrc_session.specs.Resting.{ArePointsBehind, IsPointBehind, ShowsBefore}
+use Rattle.xrc_session.specs.Resting.{ArePointsAfter, IsPointAfter, ShowsBefore}
 use Rattle.xrc_session.specs.Steps.{BeginsToPass, PassesPointsOn}
 use Rattle.xrc_session.specs.Trails.{AreHitsOfFaults}
 use Rattle.xrc_session.proofs.AnswerAhead.{AreAhead, NextPoint, leg_next, passed_at, passed_by}
@@ -55,7 +55,7 @@ marked_hits failed site = hit_changes site.time (hit_now failed site.told)
 abbrev pub marked_next : (ended : Bool) → (line : ℕ) → (failed : List Bool) → SiteState → NextPoint
 marked_next ended line failed site = record { point = marked_point ended failed site; way = way_of_mark ended line (marked_hits failed site) }
 
--- the point that is meant behind the first of the mark's deeds
+-- the point that is meant after the first of the mark's deeds
 abbrev told_by_mark : (ended : Bool) → (failed : List Bool) → SiteState → List Deed → Point
 told_by_mark ended failed site [] = site_point site
 told_by_mark ended failed site (deed ∷ deeds) = marked_point ended failed site
@@ -63,13 +63,13 @@ told_by_mark ended failed site (deed ∷ deeds) = marked_point ended failed site
 abbrev mark_deeds : (ended : Bool) → (failed : List Bool) → SiteState → List Deed
 mark_deeds ended failed site = Marked site.at ended (rows_at_mark site.level site failed) ∷ []
 
-told_are : (ended : Bool) (failed : List Bool) (site : SiteState) → ArePointsBehind (mark_deeds ended failed site) (site_point site) (told_by_mark ended failed site)
-told_are ended failed site = record { first = refl; behind = behind }
+told_are : (ended : Bool) (failed : List Bool) (site : SiteState) → ArePointsAfter (mark_deeds ended failed site) (site_point site) (told_by_mark ended failed site)
+told_are ended failed site = record { first = refl; after = after }
   where
-    behind : (n : ℕ) → n ≤ 1 → IsPointBehind (take n (mark_deeds ended failed site)) (site_point site) (told_by_mark ended failed site (take n (mark_deeds ended failed site)))
-    behind zero few = record { time = refl; rows = refl; ended = refl }
-    behind (suc zero) few = record { time = refl; rows = refl; ended = refl }
-    behind (suc (suc n)) few = absurd (omega (arith, few))
+    after : (n : ℕ) → n ≤ 1 → IsPointAfter (take n (mark_deeds ended failed site)) (site_point site) (told_by_mark ended failed site (take n (mark_deeds ended failed site)))
+    after zero few = record { time = refl; rows = refl; ended = refl }
+    after (suc zero) few = record { time = refl; rows = refl; ended = refl }
+    after (suc (suc n)) few = absurd (omega (arith, few))
 
 -- ---- it comes next
 
@@ -131,8 +131,8 @@ module _ (run : ScriptRun) (stage : Stage) (asked : LinesAsked) (l : Leg) (faile
         counted : AreHitsOfFaults (leg_to l q hits) began new
         counted = way_counted l began old new up before q hits own
 
-  module _ (number : ℕ) (from : Leg) (behind : List Timed) (leg : IsLegOf run stage from) (asked_is : asked number ≡ stage.next) (commanding : IsCommanding run stage.next from l.point behind)
-      (is : l ≡ leg_by from l.point (Commanded number behind)) (to_end : IsToEnd number l) (accepted : accepts_end run (table_at run l.point) stage.next ≡ true) where
+  module _ (number : ℕ) (from : Leg) (after : List Timed) (leg : IsLegOf run stage from) (asked_is : asked number ≡ stage.next) (commanding : IsCommanding run stage.next from l.point after)
+      (is : l ≡ leg_by from l.point (Commanded number after)) (to_end : IsToEnd number l) (accepted : accepts_end run (table_at run l.point) stage.next ≡ true) where
     -- The session hadn't ended before the command.
     from_goes : from.point.is_ended ≡ false
     from_goes = by_flag from.point.is_ended refl
@@ -159,10 +159,10 @@ module _ (run : ScriptRun) (stage : Stage) (asked : LinesAsked) (l : Leg) (faile
     at_end = record {
       line = number;
       comes = (to_end, subst (λ (o : Option Line). IsEnding run o l.point q hits) (sym asked_is) ending);
-      meant = ending_may_be_meant run stage stage_goes from l.point q behind hits leg commanding ending
-          (end_is_counted run stage from leg l.point q number behind hits (subst (λ (x : Leg). HasCountedHits run (leg_by x q (Ending number hits))) is (counted_hits run (leg_by l q (Ending number hits)) began new counted cover)));
+      meant = ending_may_be_meant run stage stage_goes from l.point q after hits leg commanding ending
+          (end_is_counted run stage from leg l.point q number after hits (subst (λ (x : Leg). HasCountedHits run (leg_by x q (Ending number hits))) is (counted_hits run (leg_by l q (Ending number hits)) began new counted cover)));
       counted = counted;
-      here_meant = command_may_be_meant run stage stage_goes from l.point behind leg commanding (command_is_counted run stage from leg l.point number behind (subst (HasCountedHits run) is counts));
+      here_meant = command_may_be_meant run stage stage_goes from l.point after leg commanding (command_is_counted run stage from leg l.point number after (subst (HasCountedHits run) is counts));
       point = refl;
       are_hits = ending.leads.are_hits;
     }
@@ -178,7 +178,7 @@ module _ (run : ScriptRun) (stage : Stage) (asked : LinesAsked) (l : Leg) (faile
 
   pub mark_next : (ended : Bool) → IsMarkedAt run stage asked l ended → IsMarkNext run stage asked l ended failed site began new
   mark_next _ (IsOnWay heard leg at at_work) = on_way heard leg at at_work
-  mark_next _ (IsAtEnd number from behind leg asked_is commanding is to_end accepted) = at_end number from behind leg asked_is commanding is to_end accepted
+  mark_next _ (IsAtEnd number from after leg asked_is commanding is to_end accepted) = at_end number from after leg asked_is commanding is to_end accepted
 
 -- ---- it is passed
 

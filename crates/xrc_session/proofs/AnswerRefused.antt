@@ -42,7 +42,7 @@ use Rattle.xrc_session.proofs.AnswerDeeds.{nothing_passes, quiet_passes}
 use Rattle.xrc_session.proofs.AnswerHits.{NoneFalls, command_counted, counted_hits, none_of_faults}
 use Rattle.xrc_session.proofs.AnswerSites.{IsSiteOfRun, ended_accepts_none, site_of_run}
 use Rattle.xrc_session.proofs.LastPoints.{last_rows_then}
-use Rattle.xrc_session.proofs.AnswerTells.{ended_answer, owes_still, refused_end, refused_tells, table_of_leg}
+use Rattle.xrc_session.proofs.AnswerSays.{ended_answer, owes_still, refused_end, refused_tells, table_of_leg}
 
 -- A command that is answered with a refusal is refused for it, and leaves the table.
 pub refused_by : (names : Naming) (table : Table) (line : Line) (why : Refusal) → answer names table line.session line.command ≡ Err why → refusal names table line.session line.command ≡ Some why
@@ -190,7 +190,7 @@ module _ (run : ScriptRun) (stage : Stage) (line : Line) (asked : LinesAsked) (l
     way_ended : (table_on_the_way run.level l.changes stage.table).is_ended ≡ true
     way_ended = ap (λ (t : Table). t.is_ended) (sym way_rows) ∙ point_ended
 
-    -- The table stays behind the line.
+    -- The table stays after the line.
     table_stays : (table_after_line run.level (breaks_of run) (names_of run) stage.table line l.changes []) ≡ stage.table
     table_stays =
         (λ i. table_after_line run.level (breaks_of run) (names_of run) stage.table line (at_end.1 i) [])

@@ -1,4 +1,4 @@
--- The rows behind a command: where they come from, which of them are hit, and that a change with items alters them.
+-- The rows after a command: where they come from, which of them are hit, and that a change with items alters them.
 use Rattle.std.proofs.Common.{◌≡◌, ◌≢◌, ◌⊎◌, inl, inr, ℕ, zero, suc, ◌+◌, ◌==◌, Bool, true, false, not, cond, ◌&&◌, List, [], ◌∷◌, ◌++◌, length, map, filter, Option, Some, None, refl, sym, ap, subst, ◌∙◌, arith, true≢false, slice_get}
 use Rattle.std.specs.List.{list_all}
 use Rattle.std.proofs.lemmas.Bool.{and_parts, eq-eqb}
@@ -128,17 +128,17 @@ module _ (names : Naming) (time : ℕ) (rows : List PairRow) (apart : none_clash
   came_from Query starts r there = stays (change_of names Query rows) r there
   came_from End starts r there = stays (change_of names End rows) r there
 
--- ---- who is hit behind a command
+-- ---- who is hit after a command
 
 module _ (change : Change) (rows next : List PairRow) (apart : none_clash rows ≡ true) (from : (r : PairRow) → Among r next → CameFrom change rows r) where
-  -- No row waits to be hit behind a command if none did before.
-  pub none_hit_behind : (failed : List Bool) → hit_now failed rows ≡ [] → hit_now (without_flag 0 change failed) next ≡ []
-  none_hit_behind failed none = none_of_each flags next each
+  -- No row waits to be hit after a command if none did before.
+  pub none_hit_after : (failed : List Bool) → hit_now failed rows ≡ [] → hit_now (without_flag 0 change failed) next ≡ []
+  none_hit_after failed none = none_of_each flags next each
     where
       flags : List Bool
       flags = without_flag 0 change failed
 
-      -- the flag of a device behind the command
+      -- the flag of a device after the command
       flag : (d : ℕ) → is_down flags d ≡ cond (is_added change d) false (is_down failed d)
       flag d = flag_then 0 d change failed ∙ ap (λ (n : ℕ). cond (is_added change n) false (is_down failed d)) (let e : 0 + d ≡ d = omega arith in e)
 
@@ -158,7 +158,7 @@ module _ (change : Change) (rows next : List PairRow) (apart : none_clash rows �
             (ap (λ (b : Bool). is_down failed r.device && not b) state ∙ ap (λ (d : ℕ). is_down failed d && not (is_device_suspended x.state)) (sym device) ∙ none_hit failed x rows none among)
       ]
 
-  -- A device that is hit before a command, and has a row behind it, is hit there.
+  -- A device that is hit before a command, and has a row after it, is hit there.
   pub hit_again : (failed : List Bool) (r : PairRow) → Among r next → is_among r.device (hit_now failed rows) ≡ true → is_among r.device (hit_now failed next) ≡ true
   hit_again failed r there hit =
       let place = place_of r next there in

@@ -37,7 +37,7 @@ use Rattle.mover.specs.Moves.{IsOfMover}
 use Rattle.mover.proofs.SiteCalls.{worked_written}
 use Rattle.xrc_session.specs.Answering.{IsMarkedSite}
 use Rattle.xrc_session.proofs.RestingMarks.{marks_begin_walks}
-use Rattle.xrc_session.proofs.RestingSites.{commands_come_behind_marks, idle_behind_marks, told_behind_marks}
+use Rattle.xrc_session.proofs.RestingSites.{commands_come_after_marks, idle_after_marks, told_after_marks}
 
 -- ---- what a run shows
 
@@ -70,7 +70,7 @@ ended_accepts_none run table (Some line) ended = by_command line.command
     by_command Query = refl
     by_command End = refused End
 
--- ---- pairs stay behind hits
+-- ---- pairs stay after hits
 
 changed_in_places : (reach : FaultReach) (t : Timed) (rows : List PairRow) → InPlaces IsSamePair rows (map (row_after_change reach t) rows)
 changed_in_places reach t [] = tt
@@ -107,8 +107,8 @@ record_of_mover site (Volume v) (inl of) = absurd of
 pub marked_site : {P : Type 0} (tells : Type 0) (was is : P) (old new : PlantState) (site next : SiteState) (ended : Bool) → IsSiteIdle tells site old → length next.failed ≡ length site.failed → Leaves tells (λ e. none_excepted) site next old new
     → Marks site next ended was is (Ok tt) → IsMarkedSite tells ended site next new
 marked_site tells was is old new site next ended idle count leaves marks = record {
-  idle = idle_behind_marks tells was is old new site next ended (Ok tt) (may_mark tells site old idle) leaves marks;
-  told = told_behind_marks was is site next ended (Ok tt) marks;
+  idle = idle_after_marks tells was is old new site next ended (Ok tt) (may_mark tells site old idle) leaves marks;
+  told = told_after_marks was is site next ended (Ok tt) marks;
   controls = ap (λ (s : SiteState). s.controls) marks.next_is;
   level = ap (λ (s : SiteState). s.level) marks.next_is;
   time = ap (λ (s : SiteState). s.time) marks.next_is;
@@ -117,7 +117,7 @@ marked_site tells was is old new site next ended idle count leaves marks = recor
   flag = ap (λ (s : SiteState). s.mark.ended) marks.next_is;
   marked = ap (λ (s : SiteState). s.since) marks.next_is;
   empty = marks_begin_walks was is site next ended (Ok tt) marks;
-  commands = λ names may. commands_come_behind_marks was is names site next ended (Ok tt) may idle.same count marks;
+  commands = λ names may. commands_come_after_marks was is names site next ended (Ok tt) may idle.same count marks;
 }
   where
     told_is : next.told ≡ rows_with_hits site.level site.time next.failed site.told

@@ -35,7 +35,7 @@ use Rattle.consistency.specs.Answering.{tracks_of_command}
 use Rattle.consistency.specs.Stages.{ScriptRun, names_of, tracks_of_row}
 use Rattle.consistency.specs.Leads.{Point}
 use Rattle.consistency.specs.Owing.{owes_track, tracks_asked, tracks_owed}
-use Rattle.consistency.specs.Replying.{told_tracks}
+use Rattle.consistency.specs.Replying.{said_tracks}
 use Rattle.consistency.specs.Ways.{PassedPoint}
 use Rattle.mover.specs.Epochs.{IsSamePair}
 use Rattle.mover.proofs.Pairs.{Among, among_cases, contains_of, found_of_device}
@@ -69,7 +69,7 @@ size_by test n (Some u) sized same =
     let many : length u.map ≡ n = eqb-true (length u.map) n sized in
     count_set u.map test 0 (λ x low. let at : x ≡ 0 + x = omega arith in same x (omega (arith, low, many)) ∙ ap test at) ∙ ap (λ (k : ℕ). count_by test (range_with_len 0 k)) many
 
--- ---- a row behind hits
+-- ---- a row after hits
 
 -- A row in the place of another has its pair.
 row_before : (base next : List PairRow) → InPlaces IsSamePair base next → (z : PairRow) → Among z next → (x : PairRow) × Among x base × (z ≡ in_state z.state x)
@@ -81,7 +81,7 @@ row_before (r ∷ base) (s ∷ next) same z there = elim (among_cases z (s ∷ n
   | inr later ↦ let found = row_before base next same.1 z later in (found.0, Later r base found.1, found.2)
 ]
 
--- The row of a device that none of the rows had, behind one that was added for it and hits, has the added row's tracks.
+-- The row of a device that none of the rows had, after one that was added for it and hits, has the added row's tracks.
 added_tracks : (level : Level) (cut : ℕ) (failed : List Bool) (rows after : List PairRow) (new : PairRow) → list_any (is_of new.device) rows ≡ false → after ≡ rows_with_hits level cut failed (rows ++ new ∷ []) → (o : Option PairRow) → row_of new.device after ≡ o
     → (A : PairRow → Type 0) → IsSomeAnd o A → tracks_of_added o ≡ tracks_of_row new
 added_tracks level cut failed rows after new free is None found A some = absurd some
@@ -181,9 +181,9 @@ module _ (run : ScriptRun) (names : Naming) (first : Point) (points : List Passe
         → tracks_asked run first points was.told primary time ≡ tracks_to_copy change g was.told after
     add_asks change made take rows = by_row (row_of_primary primary was.told) refl change made take rows
 
-  -- So its reply tells.
+  -- So its reply says.
   pub tracks_are_owed : (command : Command) (change : Change) → refuses_command names was.told command ≡ None → change_of names command was.told ≡ change → MayTake g change was.told after → after ≡ rows_with_hits level cut failed (rows_after names time command was.told)
-      → told_tracks command (Ok change) (tracks_of_command run first points was.told time command) ≡ told_tracks command (Ok change) (tracks_to_copy change g was.told after)
+      → said_tracks command (Ok change) (tracks_of_command run first points was.told time command) ≡ said_tracks command (Ok change) (tracks_to_copy change g was.told after)
   tracks_are_owed (Start start_level) change own made take rows = refl
   tracks_are_owed (AddPair primary secondary) change own made take rows = ap (λ (n : ℕ). let o : Option ℕ = Some n in o) (add_asks primary secondary own change made take rows)
   tracks_are_owed (DelPair choice) change own made take rows = refl

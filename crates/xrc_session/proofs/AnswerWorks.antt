@@ -128,7 +128,7 @@ module _ {T : Type 0} (tells : Type 0) (among : Device → Type 0) (old new : Pl
 
 -- ---- jobs that fail
 
--- Of rows of which none was hit before calls each that is hit behind them has a count that rose.
+-- Of rows of which none was hit before calls each that is hit after them has a count that rose.
 pub rose_for_each : (flags now : List Bool) (old new : Device → ℕ) (rows : List PairRow) → FailByCounts flags now old new → hit_now flags rows ≡ [] → (d : ℕ) → is_among d (hit_now now rows) ≡ true → Rose (old (Volume d)) (new (Volume d))
 rose_for_each flags now old new rows fails none d hit = (fails.by_count d (let low = flag_low now d down in let size = fails.size in omega (arith, low, size)) (up (is_down flags d) refl)).rose down
   where
@@ -141,7 +141,7 @@ rose_for_each flags now old new rows fails none d hit = (fails.by_count d (let l
 
 -- ---- rows that are suspended
 
--- A row that its device suspends behind hits was as it is before, or its device is hit.
+-- A row that its device suspends after hits was as it is before, or its device is hit.
 suspended_back : (level : Level) (time : ℕ) (hits : List ℕ) (rows : List PairRow) (r : PairRow) → Among r (rows_hit level time hits rows) → is_device_suspended r.state ≡ true
     → (x : PairRow) × Among x rows × (x.device ≡ r.device) × ((x.state ≡ r.state) ⊎ (is_among x.device hits ≡ true))
 suspended_back level time [] rows r there is = (r, there, refl, inl refl)
@@ -168,7 +168,7 @@ suspended_back level time (d ∷ hits) rows r there is =
         let on = ap (λ (s : PairRow). is_device_suspended s.state) same ∙ is in
         (sym (reached x) ∙ ap (λ (s : PairRow). s.device) same, inl (reached_hit reach (reach_is_other level rows) all time x on ∙ ap (λ (s : PairRow). s.state) same))
 
--- Where each row that its device suspends comes from one that it suspended since the same time, hits behind them suspend by counts.
+-- Where each row that its device suspends comes from one that it suspended since the same time, hits after them suspend by counts.
 pub suspends_by_counts : (level : Level) (time : ℕ) (flags now : List Bool) (before rows : List PairRow) (old new : PlantState) → FailByCounts flags now old.faults new.faults → hit_now flags rows ≡ []
     → ((x : PairRow) → Among x rows → is_device_suspended x.state ≡ true → (y : PairRow) × Contains before y × (y.device ≡ x.device) × (y.state ≡ x.state))
     → SuspendsByCounts before (rows_with_hits level time now rows) old new
@@ -190,7 +190,7 @@ suspends_by_counts level time flags now before rows old new fails none from r ha
 pub none_suspended : (rows : List PairRow) (old new : PlantState) → SuspendsByCounts rows rows old new
 none_suspended rows old new r has on = inr (r, has, refl, refl)
 
--- ---- one behind another
+-- ---- one after another
 
 later_risen : (a b c : ℕ) → a ≤ b → CountRose b c → CountRose a c
 later_risen a b c up (inl less) = inl (omega (arith, up, less))

@@ -1,4 +1,4 @@
--- Behind an accepted end all stays applied, over calls on the console and over lines.
+-- After an accepted end all stays applied, over calls on the console and over lines.
 use Rattle.std.proofs.Common.{◌≡◌, ◌⊎◌, inl, inr, ℕ, zero, suc, ◌+◌, ◌-◌, ◌<◌, ◌≤◌, Bool, true, false, List, [], ◌∷◌, ◌++◌, length, take, get_or, Option, None, Some, refl, sym, ap, subst, ◌∙◌, arith, length-append, slice_get, true≢false}
 use Rattle.std.specs.Prelude.{MatchOption}
 use Rattle.std.proofs.Math.Seq.{take-append_seam}
@@ -23,7 +23,7 @@ use Rattle.consistency.proofs.Lines.{same_some, stage_front, stage_then}
 use Rattle.consistency.proofs.Standing.{console_choice}
 use Rattle.mover.specs.declared.lane.Lane.{Lane}
 use Rattle.xrc_command.specs.declared.line.Line.{Line}
-use Rattle.xrc_session.specs.AppliedEnds.{HasEmptyWalk, IsAllApplied, StaysApplied, StaysAppliedBehind}
+use Rattle.xrc_session.specs.AppliedEnds.{HasEmptyWalk, IsAllApplied, StaysApplied, StaysAppliedAfter}
 use Rattle.xrc_session.specs.LinePauses.{HasAnswered, IsAtSite, IsBetween, IsUnstarted}
 use Rattle.xrc_session.specs.States.{SessionState}
 use Rattle.xrc_session.specs.Trails.{Trail}
@@ -51,8 +51,8 @@ applied_still tells told old new works is = applied_within tells told old new wo
 applied_then : (old new : PlantState) → SameSite old new → Elapses old new → 0 < old.clock → (t : ℕ) → t ≤ old.clock → IsAllApplied old t → IsAllApplied new t
 applied_then old new site past up t within is c left = empty_same old new site c (is c (past_choice old new t c site past up within left))
 
-behind_on : (tells : Type 0) → tells → (lines : List Answered) (began old new : PlantState) → WorksOnConsole tells old new → 0 < began.clock → IsAllApplied old old.clock → StaysAppliedBehind lines began old → StaysAppliedBehind lines began new
-behind_on tells told lines began old new works up is stays t from to more = by_time (cases_lt old.clock t)
+after_on : (tells : Type 0) → tells → (lines : List Answered) (began old new : PlantState) → WorksOnConsole tells old new → 0 < began.clock → IsAllApplied old old.clock → StaysAppliedAfter lines began old → StaysAppliedAfter lines began new
+after_on tells told lines began old new works up is stays t from to more = by_time (cases_lt old.clock t)
   where
     by_time : (old.clock < t) ⊎ (t ≤ old.clock) → IsAllApplied new t
     by_time (inl late) = applied_within tells told old new works is t (omega (arith, late)) to
@@ -64,7 +64,7 @@ behind_on tells told lines began old new works up is stays t from to more = by_t
 pub stays_on : (tells : Type 0) → tells → (run : ScriptRun) (lines : List Answered) (began old new : PlantState) → WorksOnConsole tells old new → StaysApplied run lines began old → StaysApplied run lines began new
 stays_on tells told run lines began old new works stays number below ended =
     let was = stays number below ended in
-    (applied_still tells told old new works was.0, λ up. behind_on tells told (take number lines) began old new works up was.0 (was.1 up))
+    (applied_still tells told old new works was.0, λ up. after_on tells told (take number lines) began old new works up was.0 (was.1 up))
 
 -- ---- what was said before
 
@@ -74,7 +74,7 @@ replies_up_to [] n a at = absurd cc
 replies_up_to (b ∷ lines) zero a at = omega (arith, length-append b.reply (replies_of lines), ap (λ (x : Answered). length x.reply) (same_some b a at))
 replies_up_to (b ∷ lines) (suc n) a at = omega (arith, replies_up_to lines n a at, length-append b.reply (replies_of (take n lines)), length-append b.reply (replies_of lines))
 
--- Where nothing is said behind the last of the lines, no more was said than their replies.
+-- Where nothing is said after the last of the lines, no more was said than their replies.
 said_within : (lines : List Answered) (heard said : List ℕ) (at : StandsAt lines heard said) → (at.answered ≡ length lines → at.part ≡ []) → length said ≤ length (replies_of lines)
 said_within lines heard said at unsaid = by_line (slice_get_cases lines at.answered).1
   where
@@ -100,7 +100,7 @@ said_before run lines text began now keeps t from to =
 
 -- No more had been said at each moment before a call on the console, at which all is applied: so it is applied from the next reply on.
 pub applies_before : (tells : Type 0) → tells → (lines : List Answered) (began old now : PlantState) → WorksOnConsole tells old now → began.clock ≤ old.clock → ((t : ℕ) → began.clock ≤ t → t ≤ old.clock → length (old.said t) ≤ length (began.said began.clock ++ replies_of lines))
-    → IsAllApplied old old.clock → 0 < began.clock → StaysAppliedBehind lines began now
+    → IsAllApplied old old.clock → 0 < began.clock → StaysAppliedAfter lines began now
 applies_before tells told lines began old now works later unsaid is up t from to more = by_time (cases_lt old.clock t)
   where
     by_time : (old.clock < t) ⊎ (t ≤ old.clock) → IsAllApplied now t
@@ -131,19 +131,19 @@ ended_next run lines course number within ended = by_line (slice_get_cases lines
         ap (λ (s : Stage). s.table.is_ended) (stage_then run lines number a is) ∙ ap (λ (t : Table). t.is_ended) (course number a is).step.made
         ∙ ended_then run (table_on_the_way run.level a.changes (stage_at run lines number).table) a.line ended
 
--- And of each line behind it.
-ended_behind : (run : ScriptRun) (lines : List Answered) → IsCourse run lines → (more number : ℕ) → number + more ≤ length lines → (stage_at run lines number).table.is_ended ≡ true → (stage_at run lines (number + more)).table.is_ended ≡ true
-ended_behind run lines course zero number within ended = ap (λ (n : ℕ). (stage_at run lines n).table.is_ended) (omega arith) ∙ ended
-ended_behind run lines course (suc more) number within ended =
-    ap (λ (n : ℕ). (stage_at run lines n).table.is_ended) (omega arith) ∙ ended_behind run lines course more (suc number) (omega (arith, within)) (ended_next run lines course number (omega (arith, within)) ended)
+-- And of each line after it.
+ended_after : (run : ScriptRun) (lines : List Answered) → IsCourse run lines → (more number : ℕ) → number + more ≤ length lines → (stage_at run lines number).table.is_ended ≡ true → (stage_at run lines (number + more)).table.is_ended ≡ true
+ended_after run lines course zero number within ended = ap (λ (n : ℕ). (stage_at run lines n).table.is_ended) (omega arith) ∙ ended
+ended_after run lines course (suc more) number within ended =
+    ap (λ (n : ℕ). (stage_at run lines n).table.is_ended) (omega arith) ∙ ended_after run lines course more (suc number) (omega (arith, within)) (ended_next run lines course number (omega (arith, within)) ended)
 
 ended_at_last : (run : ScriptRun) (lines : List Answered) → IsCourse run lines → (number : ℕ) → number < length lines → (stage_at run lines (suc number)).table.is_ended ≡ true → (stage_at run lines (length lines)).table.is_ended ≡ true
 ended_at_last run lines course number below ended =
     let more = length lines - suc number in
     let all : suc number + more ≡ length lines = omega (arith, below) in
-    ap (λ (n : ℕ). (stage_at run lines n).table.is_ended) (sym all) ∙ ended_behind run lines course more (suc number) (omega (arith, all)) ended
+    ap (λ (n : ℕ). (stage_at run lines n).table.is_ended) (sym all) ∙ ended_after run lines course more (suc number) (omega (arith, all)) ended
 
--- A session that has ended behind the lines that it has answered has ended.
+-- A session that has ended after the lines that it has answered has ended.
 pub ended_answered : {S : Type 0} (tells : Type 0) (run : ScriptRun) (lines : List Answered) (trail : Trail) (text : List ℕ) (s : SessionState) (lanes : List (Lane S)) (began old : PlantState) → IsBetween tells s lanes old → HasAnswered run lines trail text s lanes began old
     → (stage_at run lines (length lines)).table.is_ended ≡ true → s.is_ended ≡ true
 ended_answered {S} tells run lines trail text s lanes began old between answered ended = ended_by_table tells s lanes old between (ap (λ (t : Table). t.is_ended) (sym answered.stands.table) ∙ ended)
@@ -153,7 +153,7 @@ pub stays_worked : {S : Type 0} (tells : Type 0) (run : ScriptRun) (lines : List
     → StaysApplied run lines began new
 stays_worked {S} tells run lines trail text s lanes began old new between untouched answered number below ended =
     let same = untouched (ended_answered tells run lines trail text s lanes began old between answered (ended_at_last run lines answered.goes.now.course number below ended)) in
-    subst (λ (p : PlantState). IsAllApplied p p.clock × (0 < began.clock → StaysAppliedBehind (take number lines) began p)) (sym same) (answered.applied number below ended)
+    subst (λ (p : PlantState). IsAllApplied p p.clock × (0 < began.clock → StaysAppliedAfter (take number lines) began p)) (sym same) (answered.applied number below ended)
 
 -- ---- one line more
 
@@ -168,21 +168,21 @@ module _ (run : ScriptRun) (lines : List Answered) (a : Answered) (began now : P
   ended_last number is = ap (λ (n : ℕ). (stage_at run (lines ++ a ∷ []) n).table.is_ended) is
 
   -- The lines before the last one are these.
-  behind_last : (number : ℕ) → suc number ≡ length (lines ++ a ∷ []) → StaysAppliedBehind lines began now → StaysAppliedBehind (take number (lines ++ a ∷ [])) began now
-  behind_last number is stays =
+  after_last : (number : ℕ) → suc number ≡ length (lines ++ a ∷ []) → StaysAppliedAfter lines began now → StaysAppliedAfter (take number (lines ++ a ∷ [])) began now
+  after_last number is stays =
       let here : number ≡ length lines = omega (arith, is, length_push lines a) in
-      subst (λ (l : List Answered). StaysAppliedBehind l began now) (sym (ap (λ (n : ℕ). take n (lines ++ a ∷ [])) here ∙ take-append_seam lines (a ∷ []))) stays
+      subst (λ (l : List Answered). StaysAppliedAfter l began now) (sym (ap (λ (n : ℕ). take n (lines ++ a ∷ [])) here ∙ take-append_seam lines (a ∷ []))) stays
 
-  -- Behind one line more, of whose reply all or a part was said.
+  -- After one line more, of whose reply all or a part was said.
   pub stays_more : ((stage_at run (lines ++ a ∷ []) (length (lines ++ a ∷ []))).table.is_ended ≡ true → IsAllApplied now now.clock)
-      → (0 < began.clock → (stage_at run (lines ++ a ∷ []) (length (lines ++ a ∷ []))).table.is_ended ≡ true → StaysAppliedBehind lines began now) → StaysApplied run lines began now → StaysApplied run (lines ++ a ∷ []) began now
-  stays_more applied behind stays number below ended = by_side (cases_lt number (length lines))
+      → (0 < began.clock → (stage_at run (lines ++ a ∷ []) (length (lines ++ a ∷ []))).table.is_ended ≡ true → StaysAppliedAfter lines began now) → StaysApplied run lines began now → StaysApplied run (lines ++ a ∷ []) began now
+  stays_more applied after stays number below ended = by_side (cases_lt number (length lines))
     where
-      by_side : (number < length lines) ⊎ (length lines ≤ number) → IsAllApplied now now.clock × (0 < began.clock → StaysAppliedBehind (take number (lines ++ a ∷ [])) began now)
+      by_side : (number < length lines) ⊎ (length lines ≤ number) → IsAllApplied now now.clock × (0 < began.clock → StaysAppliedAfter (take number (lines ++ a ∷ [])) began now)
       by_side (inl less) =
           let was = stays number less (sym (ended_before number less) ∙ ended) in
-          (was.0, λ up. subst (λ (l : List Answered). StaysAppliedBehind l began now) (sym (take-append-le number lines (a ∷ []) (omega (arith, less)))) (was.1 up))
+          (was.0, λ up. subst (λ (l : List Answered). StaysAppliedAfter l began now) (sym (take-append-le number lines (a ∷ []) (omega (arith, less)))) (was.1 up))
       by_side (inr high) =
           let last = is_last number high below in
           let ended_here = sym (ended_last number last) ∙ ended in
-          (applied ended_here, λ up. behind_last number last (behind up ended_here))
+          (applied ended_here, λ up. after_last number last (after up ended_here))

@@ -30,9 +30,9 @@ before_last [] a n below = absurd (omega (arith, below))
 before_last (x ∷ lines) a zero below = refl
 before_last (x ∷ lines) a (suc n) below = before_last lines a n (omega (arith, below))
 
--- No line behind all is one of them.
-pub none_behind : (lines : List Answered) (n : ℕ) → length lines ≤ n → asked_in lines n ≡ None
-none_behind lines n past = ap (option_map (λ a. a.line)) (slice_get_past lines n past)
+-- No line after all is one of them.
+pub none_after : (lines : List Answered) (n : ℕ) → length lines ≤ n → asked_in lines n ≡ None
+none_after lines n past = ap (option_map (λ a. a.line)) (slice_get_past lines n past)
 
 pub asked_there : (lines : List Answered) (next : Option Line) (n : ℕ) → n ≡ length lines → asked_with lines next n ≡ next
 asked_there lines next n is = cond-true (n == length lines) next (asked_in lines n) (eq-eqb n (length lines) is)
@@ -40,15 +40,15 @@ asked_there lines next n is = cond-true (n == length lines) next (asked_in lines
 asked_else : (lines : List Answered) (next : Option Line) (n : ℕ) → ¬ (n ≡ length lines) → asked_with lines next n ≡ asked_in lines n
 asked_else lines next n differ = cond-false (n == length lines) next (asked_in lines n) (ne_eqb n (length lines) differ)
 
--- The line behind others is asked there, and then it is one of them.
+-- The line after others is asked there, and then it is one of them.
 pub asked_of_line : (lines : List Answered) (a : Answered) (n : ℕ) → asked_in (lines ++ a ∷ []) n ≡ asked_with lines (Some a.line) n
 asked_of_line lines a n = by_side (cases_lt n (length lines))
   where
-    behind : (length lines < n) ⊎ (n ≤ length lines) → length lines ≤ n → asked_in (lines ++ a ∷ []) n ≡ asked_with lines (Some a.line) n
-    behind (inl later) le =
-        none_behind (lines ++ a ∷ []) n (omega (arith, later, length_push lines a))
-        ∙ sym (asked_else lines (Some a.line) n (λ is. absurd (omega (arith, later, is))) ∙ none_behind lines n le)
-    behind (inr up) le =
+    after : (length lines < n) ⊎ (n ≤ length lines) → length lines ≤ n → asked_in (lines ++ a ∷ []) n ≡ asked_with lines (Some a.line) n
+    after (inl later) le =
+        none_after (lines ++ a ∷ []) n (omega (arith, later, length_push lines a))
+        ∙ sym (asked_else lines (Some a.line) n (λ is. absurd (omega (arith, later, is))) ∙ none_after lines n le)
+    after (inr up) le =
         let is : n ≡ length lines = omega (arith, up, le) in
         ap (asked_in (lines ++ a ∷ [])) is ∙ ap (option_map (λ b. b.line)) (last_at lines a) ∙ sym (asked_there lines (Some a.line) n is)
 
@@ -56,12 +56,12 @@ asked_of_line lines a n = by_side (cases_lt n (length lines))
     by_side (inl before) =
         ap (option_map (λ b. b.line)) (before_last lines a n before)
         ∙ sym (asked_else lines (Some a.line) n (λ is. absurd (omega (arith, before, is))))
-    by_side (inr le) = behind (cases_lt (length lines) n) le
+    by_side (inr le) = after (cases_lt (length lines) n) le
 
 pub asked_of_lines : (lines : List Answered) (a : Answered) → asked_in (lines ++ a ∷ []) ≡ asked_with lines (Some a.line)
 asked_of_lines lines a = λ i n. asked_of_line lines a n i
 
--- No line was heard behind all.
+-- No line was heard after all.
 pub asked_of_none : (lines : List Answered) → asked_in lines ≡ asked_with lines None
 asked_of_none lines = λ i n. at n i
   where
@@ -70,19 +70,19 @@ asked_of_none lines = λ i n. at n i
       where
         by_side : (n < length lines) ⊎ (length lines ≤ n) → asked_in lines n ≡ asked_with lines None n
         by_side (inl before) = sym (asked_else lines None n (λ is. absurd (omega (arith, before, is))))
-        by_side (inr le) = none_behind lines n le ∙ none (n == length lines) (none_behind lines n le)
+        by_side (inr le) = none_after lines n le ∙ none (n == length lines) (none_after lines n le)
           where
             none : (b : Bool) → asked_in lines n ≡ None → None ≡ cond b None (asked_in lines n)
             none true is = refl
             none false is = sym is
 
--- None is asked behind it.
+-- None is asked after it.
 pub asked_number : (lines : List Answered) (line : Line) (n : ℕ) → length lines ≤ n → asked_with lines (Some line) n ≡ Some line → n ≡ length lines
 asked_number lines line n le is = by_side (cases_lt (length lines) n)
   where
     by_side : (length lines < n) ⊎ (n ≤ length lines) → n ≡ length lines
     by_side (inl later) =
-        let none : None ≡ Some line = sym (asked_else lines (Some line) n (λ same. absurd (omega (arith, later, same))) ∙ none_behind lines n le) ∙ is in
+        let none : None ≡ Some line = sym (asked_else lines (Some line) n (λ same. absurd (omega (arith, later, same))) ∙ none_after lines n le) ∙ is in
         absurd cc
     by_side (inr up) = omega (arith, le, up)
 
@@ -131,7 +131,7 @@ module _ (run : ScriptRun) (asked other : LinesAsked) (m : ℕ) (same : (k : ℕ
       let here = same line (omega (arith, le, way.0.last)) in
       (way.0, subst (λ (o : Option Line). IsEnding run o l.point q hits) (sym here) way.1)
 
--- The number of the lines behind a mark that a command's record needs, if a point comes behind it.
+-- The number of the lines after a mark that a command's record needs, if a point comes after it.
 pub marked_below : (run : ScriptRun) (asked : LinesAsked) (l : Leg) (n : PassedPoint) (points : List PassedPoint) → (fold leg_after l (n ∷ points)).marked ≡ [] → AreLinked (ComesNext run asked) leg_after l (n ∷ points)
     → (line : ℕ) (hits : List Timed) → n.way ≡ MarkedFor line hits → (line ≡ l.answered) × (line < (fold leg_after l (n ∷ points)).answered)
 marked_below run asked l n [] none linked line hits is = absurd (come.2.some (sym (ap (λ (w : Way). (leg_by l n.point w).marked) is) ∙ none))
@@ -141,9 +141,9 @@ marked_below run asked l n [] none linked line hits is = absurd (come.2.some (sy
 marked_below run asked l n (p ∷ points) none linked line hits is =
     let come = subst (λ (w : Way). ComesBy run asked l n.point w) is linked.0.0 in
     let next = marks_are_commanded run asked l n p line hits is linked.0 linked.1.0 in
-    let behind : (leg_after (leg_after l n) p).answered ≡ suc (leg_after l n).answered = ap (λ (w : Way). (leg_by (leg_after l n) p.point w).answered) next.1 in
+    let after : (leg_after (leg_after l n) p).answered ≡ suc (leg_after l n).answered = ap (λ (w : Way). (leg_by (leg_after l n) p.point w).answered) next.1 in
     let same : (leg_after l n).answered ≡ l.answered = ap (λ (w : Way). (leg_by l n.point w).answered) is in
-    (come.0, omega (arith, come.0, behind, same, answered_rises (leg_after (leg_after l n) p) points))
+    (come.0, omega (arith, come.0, after, same, answered_rises (leg_after (leg_after l n) p) points))
 
 -- So links stay as they are while no line is asked otherwise that was answered.
 pub links_look_back : (run : ScriptRun) (asked other : LinesAsked) (l : Leg) (points : List PassedPoint) → (fold leg_after l points).marked ≡ [] → ((k : ℕ) → k < (fold leg_after l points).answered → other k ≡ asked k)
@@ -174,8 +174,8 @@ none_of_number run asked l (n ∷ points) number none up linked =
         let below = (marked_below run asked l n points none linked line hits is).1 in
         not_command line number (λ same. absurd (omega (arith, below, up, same)))
     by_way (Commanded line hits) is way =
-        let behind : (leg_after l n).answered ≡ suc l.answered = ap (λ (w : Way). (leg_by l n.point w).answered) is in
-        not_command line number (λ same. absurd (omega (arith, same, way.0, behind, up, answered_rises (leg_after l n) points)))
+        let after : (leg_after l n).answered ≡ suc l.answered = ap (λ (w : Way). (leg_by l n.point w).answered) is in
+        not_command line number (λ same. absurd (omega (arith, same, way.0, after, up, answered_rises (leg_after l n) points)))
 
 -- So none of them is a command of it.
 pub fresh_points : (number : ℕ) (points : List PassedPoint) → points_before number points ≡ points → All (λ n. is_command_of number n.way ≡ false) points
@@ -190,13 +190,13 @@ fresh_points number (n ∷ points) same = by_way (is_command_of number n.way) re
         All-cons (λ (m : PassedPoint). is_command_of number m.way ≡ false) n points is (rest tail)
 
 module _ (run : ScriptRun) (asked : LinesAsked) (l : Leg) (n : PassedPoint) (number : ℕ) (from : l.answered ≤ number) (front back : List PassedPoint) (rest : (leg_after l n).answered ≤ number → front ≡ back) where
-  abbrev behind_point : List PassedPoint → List PassedPoint
-  behind_point points = if is_command_of number n.way then [] else n ∷ points
+  abbrev after_point : List PassedPoint → List PassedPoint
+  after_point points = if is_command_of number n.way then [] else n ∷ points
 
-  on : (leg_after l n).answered ≤ number → behind_point front ≡ behind_point back
-  on le = ap behind_point (rest le)
+  on : (leg_after l n).answered ≤ number → after_point front ≡ after_point back
+  on le = ap after_point (rest le)
 
-  here : is_command_of number n.way ≡ true → behind_point front ≡ behind_point back
+  here : is_command_of number n.way ≡ true → after_point front ≡ after_point back
   here is = cond-true (is_command_of number n.way) [] (n ∷ front) is ∙ sym (cond-true (is_command_of number n.way) [] (n ∷ back) is)
 
   same_answered : (w : Way) → n.way ≡ w → (leg_by l n.point w).answered ≡ l.answered → (leg_after l n).answered ≤ number
@@ -206,23 +206,23 @@ module _ (run : ScriptRun) (asked : LinesAsked) (l : Leg) (n : PassedPoint) (num
   differ_if true one two = cc
   differ_if false one two = cc
 
-  by_number : (line : ℕ) (hits : List Timed) → n.way ≡ Commanded line hits → line ≡ l.answered → (b : Bool) → (line == number) ≡ b → behind_point front ≡ behind_point back
+  by_number : (line : ℕ) (hits : List Timed) → n.way ≡ Commanded line hits → line ≡ l.answered → (b : Bool) → (line == number) ≡ b → after_point front ≡ after_point back
   by_number line hits is at true equal = here (ap (is_command_of number) is ∙ equal)
   by_number line hits is at false equal =
-      let behind : (leg_after l n).answered ≡ suc l.answered = ap (λ (w : Way). (leg_by l n.point w).answered) is in
-      on (later (cases_lt number (suc l.answered)) behind)
+      let after : (leg_after l n).answered ≡ suc l.answered = ap (λ (w : Way). (leg_by l n.point w).answered) is in
+      on (later (cases_lt number (suc l.answered)) after)
     where
       later : (number < suc l.answered) ⊎ (suc l.answered ≤ number) → (leg_after l n).answered ≡ suc l.answered → (leg_after l n).answered ≤ number
-      later (inl lt) behind = absurd (differ_if (line == number) (eq-eqb line number (omega (arith, at, lt, from))) equal)
-      later (inr le) behind = omega (arith, le, behind)
+      later (inl lt) after = absurd (differ_if (line == number) (eq-eqb line number (omega (arith, at, lt, from))) equal)
+      later (inr le) after = omega (arith, le, after)
 
-  later_point : (w : Way) → n.way ≡ w → ComesBy run asked l n.point w → behind_point front ≡ behind_point back
+  later_point : (w : Way) → n.way ≡ w → ComesBy run asked l n.point w → after_point front ≡ after_point back
   later_point (OnTheWay changes) is way = on (same_answered (OnTheWay changes) is refl)
   later_point (Ending line hits) is way = on (same_answered (Ending line hits) is refl)
   later_point (MarkedFor line hits) is way = on (same_answered (MarkedFor line hits) is refl)
   later_point (Commanded line hits) is way = by_number line hits is way.0 (line == number) refl
 
--- More points behind change nothing before the command of a line that was answered.
+-- More points after them change nothing before the command of a line that was answered.
 pub later_points : (run : ScriptRun) (asked : LinesAsked) (l : Leg) (points more : List PassedPoint) (number : ℕ) → l.answered ≤ number → number < (fold leg_after l points).answered → AreLinked (ComesNext run asked) leg_after l points
     → points_before number (points ++ more) ≡ points_before number points
 later_points run asked l [] more number from below linked = absurd (omega (arith, from, below))

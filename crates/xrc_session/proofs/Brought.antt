@@ -100,16 +100,16 @@ module _ {S : Type 0} (tells : Type 0) (left : S → Option (List ℕ)) (faults 
   pub is_brought : site.mark.ended ≡ false → after.told ≡ after.table.rows → IsSiteBrought limit site after
   is_brought goes_on same = record {
     at = reached.time.time;
-    controls = reached.time.behind.controls;
-    level = reached.time.behind.level;
-    table = reached.time.behind.table ∙ ap (λ (rows : List PairRow). with_rows site.table rows) (sym same);
+    controls = reached.time.is_left.controls;
+    level = reached.time.is_left.level;
+    table = reached.time.is_left.table ∙ ap (λ (rows : List PairRow). with_rows site.table rows) (sym same);
     pairs = reached.time.pairs;
     settled = reached.settled;
     goes_on = reached.time.going goes_on ∙ sym goes_on;
   }
 
   pub hits_by_counts : site.mark.ended ≡ false → SuspendsByCounts site.told after.told was is
-  hits_by_counts goes_on = suspends_by_counts site.level false (part_of_mover goes.ran.log) site.time site.told after.told NoneDue goes.ran.steps NoneDue was is (goes.ran.made goes_on) goes.ran.changes goes.ran.behind.rows goes.ran.counted
+  hits_by_counts goes_on = suspends_by_counts site.level false (part_of_mover goes.ran.log) site.time site.told after.told NoneDue goes.ran.steps NoneDue was is (goes.ran.made goes_on) goes.ran.changes goes.ran.is_left.rows goes.ran.counted
 
   -- In each run the points of the deeds are passed, and the line's time is reached.
   pub brings_well : tells → (began : PlantState) (kept kept_now : SessionParts) → kept.group ≡ Some group → kept_now.group ≡ Some next → MayBeginEpoch tells limit group site was → site.mark.ended ≡ false → MoverWorks tells site after was is (Ok tt)

@@ -1,4 +1,4 @@
--- What is mapped behind an epoch, by what the rows owe.
+-- What is mapped after an epoch, by what the rows owe.
 use Rattle.std.proofs.Common.{◌≡◌, ◌∙◌, ℕ, false, List, [], ◌∷◌, ◌++◌, length, Option, refl, sym, ap, subst, arith}
 use Rattle.crash_plant.specs.Moments.{PlantState}
 use Rattle.pair_table.specs.declared.level.Level.{Level}
@@ -18,7 +18,7 @@ use Rattle.mover.specs.declared.ends.EpochEnd.TheVariants as ends
 use Rattle.mover.specs.declared.lane.Lane.{Lane}
 use Rattle.mover.specs.Bearing.{IsEpochOf, RunSoFar}
 use Rattle.mover.specs.Epochs.{ReachedBy, point_of}
-use Rattle.mover.specs.Points.{point_behind, point_by, points_by}
+use Rattle.mover.specs.Points.{point_after_deeds, point_by, points_by}
 use Rattle.mover.specs.SilentBreaks.{all_silent, with_silent}
 use Rattle.mover.specs.OwedTracks.{CarriedAsLive, held_by_choice}
 use Rattle.mover.proofs.Leading.{count_deeds}
@@ -26,12 +26,12 @@ use Rattle.xrc_session.specs.LinePauses.{site_point}
 use Rattle.mover.specs.Moves.{LogsEntriesOf}
 use Rattle.xrc_session.specs.MapsLaws.{ReachesLimit}
 use Rattle.xrc_session.specs.MapsOwed.{HasCutOrNoRow, HaveRowsOf, MapsOwed, MapsRest}
-use Rattle.xrc_session.proofs.MapsEpochs.{maps_owed_behind_epochs}
+use Rattle.xrc_session.proofs.MapsEpochs.{maps_owed_after_epochs}
 
 -- ---- points of deeds
 
--- The last point of deeds is the one behind them.
-pub last_by : (level : Level) (p : Point) (moments : List ℕ) (steps : List DeedOfChanges) → length moments ≡ length steps → last_point p (points_by level p moments steps) ≡ point_behind level p steps
+-- The last point of deeds is the one after them.
+pub last_by : (level : Level) (p : Point) (moments : List ℕ) (steps : List DeedOfChanges) → length moments ≡ length steps → last_point p (points_by level p moments steps) ≡ point_after_deeds level p steps
 last_by level p [] [] each = refl
 last_by level p [] (step ∷ steps) each = absurd (omega (arith, each))
 last_by level p (t ∷ moments) [] each = absurd (omega (arith, each))
@@ -85,7 +85,7 @@ module _ {S : Type 0} (tells : Type 0) (left : S → Option (List ℕ)) (faults 
   abbrev pub points_of_epoch : (moments : List ℕ) → List PassedPoint
   points_of_epoch moments = points_by so.run.level so.leg.point moments (all_silent line.time.0 (breaks_of so.run) e.goes.ran.steps)
 
-  -- Where the maps had what rows owe, they do so behind it.
+  -- Where the maps had what rows owe, they do so after it.
   pub maps_over_epoch : (first : Point) (points : List PassedPoint) (moments : List ℕ) → length moments ≡ length (deeds_of e.goes.ran.steps) → (last_point first points).rows ≡ site.told → MapsRest (site_point site) group
       → HasCutOrNoRow site.time site.told group → MapsOwed so.run first points (site_point site) group
       → MapsOwed so.run first (points ++ points_of_epoch moments) (site_point after) next × MapsRest (site_point after) next
@@ -93,5 +93,5 @@ module _ {S : Type 0} (tells : Type 0) (left : S → Option (List ℕ)) (faults 
       let more = points_of_epoch moments in
       let have = rows_by line.time.0 (breaks_of so.run) so.run.level so.leg.point moments e.goes.ran.steps (each ∙ count_deeds e.goes.ran.steps) in
       subst (λ (p : Point). MapsOwed so.run first (points ++ more) p next × MapsRest p next) after_is
-      (maps_owed_behind_epochs tells left faults was is line.time.0 so.run group next old new site after first points more reaches entries have here (subst (λ (p : Point). MapsRest p group) site_is rest) cut
+      (maps_owed_after_epochs tells left faults was is line.time.0 so.run group next old new site after first points more reaches entries have here (subst (λ (p : Point). MapsRest p group) site_is rest) cut
       (subst (λ (p : Point). MapsOwed so.run first points p group) site_is maps))

@@ -16,7 +16,7 @@ use Rattle.group_state.specs.Runs.{Answer}
 use Rattle.row_changes.specs.Changes.{Timed}
 use Rattle.row_changes.specs.Changes.Due.{NoneDue}
 use Rattle.row_changes.specs.Spans.{hit_count, is_break}
-use Rattle.record_rows.specs.Deeds.{rows_behind, time_meant_behind}
+use Rattle.record_rows.specs.Deeds.{rows_after_deeds, time_meant_after}
 use Rattle.record_rows.proofs.Counting.{counts_append}
 use Rattle.passages.specs.Points.{last_point}
 use Rattle.site_means.specs.Images.{shape_of}
@@ -38,8 +38,8 @@ use Rattle.mover.specs.declared.ends.EpochEnd.TheVariants as ends
 use Rattle.mover.specs.declared.lane.Lane.{Lane}
 use Rattle.mover.specs.Bearing.{IsEpochOf, IsForLine, PassesOn, RunSoFar, StandsAtLimit, StandsSoFar, is_early_break}
 use Rattle.mover.specs.Epochs.{AllTurnOut, AreStepsOf, EpochGoes, ReachedBy, end_result, point_of}
-use Rattle.mover.specs.Moves.{Did, IsLeftBehind, MoverWorks, most_faults}
-use Rattle.mover.specs.Points.{point_behind, point_by, points_by}
+use Rattle.mover.specs.Moves.{Did, IsLeftAfter, MoverWorks, most_faults}
+use Rattle.mover.specs.Points.{point_after_deeds, point_by, points_by}
 use Rattle.mover.specs.SilentBreaks.{all_silent, with_silent}
 use Rattle.mover.specs.Working.{LinesAsked, IsOnItsWay, PassesPoints, StandsForRows, Work, WorkBegins, last_point_of, named_steps}
 use Rattle.mover.proofs.Bearing.{leg_there}
@@ -63,13 +63,13 @@ use Rattle.xrc_session.proofs.WrittenParts.{part_on_the_way, passed_within}
 -- ---- legs
 
 -- The points of deeds leave a leg at the last of them, with all of their changes.
-leg_behind : (level : Level) (l : Leg) (moments : List ℕ) (steps : List DeedOfChanges) → length moments ≡ length steps → fold leg_after l (points_by level l.point moments steps) ≡ leg_to l (point_behind level l.point steps) (changes_of steps)
-leg_behind level l [] [] each = ap (λ (changes : List Timed). record l { changes = changes }) (sym (append-nil l.changes))
-leg_behind level l [] (step ∷ steps) each = absurd (omega (arith, each))
-leg_behind level l (t ∷ moments) [] each = absurd (omega (arith, each))
-leg_behind level l (t ∷ moments) (step ∷ steps) each =
-    leg_behind level (leg_to l (point_by level l.point step) step.changes) moments steps (omega (arith, each))
-    ∙ ap (λ (changes : List Timed). record l { point = point_behind level (point_by level l.point step) steps; changes = changes }) (append_assoc l.changes step.changes (changes_of steps))
+leg_after_steps : (level : Level) (l : Leg) (moments : List ℕ) (steps : List DeedOfChanges) → length moments ≡ length steps → fold leg_after l (points_by level l.point moments steps) ≡ leg_to l (point_after_deeds level l.point steps) (changes_of steps)
+leg_after_steps level l [] [] each = ap (λ (changes : List Timed). record l { changes = changes }) (sym (append-nil l.changes))
+leg_after_steps level l [] (step ∷ steps) each = absurd (omega (arith, each))
+leg_after_steps level l (t ∷ moments) [] each = absurd (omega (arith, each))
+leg_after_steps level l (t ∷ moments) (step ∷ steps) each =
+    leg_after_steps level (leg_to l (point_by level l.point step) step.changes) moments steps (omega (arith, each))
+    ∙ ap (λ (changes : List Timed). record l { point = point_after_deeds level (point_by level l.point step) steps; changes = changes }) (append_assoc l.changes step.changes (changes_of steps))
 
 -- No break before a time comes at it.
 none_at : (time : ℕ) (changes : List Timed) → list_all (is_early_break time) changes ≡ true → list_all (λ t. not (is_break t && nat_eq t.time time)) changes ≡ true
@@ -203,8 +203,8 @@ module _ {S : Type 0} (tells : Type 0) (left : S → Option (List ℕ)) (faults 
   are_steps : AreStepsOf run site steps
   are_steps = steps_are tells left faults so b.line group old new site after was is (ends.Reached next) e
 
-  behind : IsLeftBehind site after (deeds_of steps)
-  behind = b.goes.ran.behind
+  is_left : IsLeftAfter site after (deeds_of steps)
+  is_left = b.goes.ran.is_left
 
   did : Did here_excepted site after (deeds_of steps) was is
   did = (b.goes.shows b.told).did here_excepted e.stands.has_site.stands
@@ -228,9 +228,9 @@ module _ {S : Type 0} (tells : Type 0) (left : S → Option (List ℕ)) (faults 
 
   last_is : last_point_of job ≡ point_of after
   last_is =
-      let time : (last_point_of job).time ≡ after.time = time_there run.level leg.point steps ∙ ap (λ (p : Point). time_meant_behind (deeds_of steps) p.time) e.stands.at ∙ sym behind.time in
-      let rows : (last_point_of job).rows ≡ after.told = rows_there run.level leg.point steps ∙ ap (λ (p : Point). rows_behind (deeds_of steps) p.rows) e.stands.at ∙ sym behind.rows in
-      let due : (last_point_of job).due ≡ NoneDue = ap (λ (o : Point). (point_behind run.level o steps).due) e.stands.at ∙ are_steps.due in
+      let time : (last_point_of job).time ≡ after.time = time_there run.level leg.point steps ∙ ap (λ (p : Point). time_meant_after (deeds_of steps) p.time) e.stands.at ∙ sym is_left.time in
+      let rows : (last_point_of job).rows ≡ after.told = rows_there run.level leg.point steps ∙ ap (λ (p : Point). rows_after_deeds (deeds_of steps) p.rows) e.stands.at ∙ sym is_left.rows in
+      let due : (last_point_of job).due ≡ NoneDue = ap (λ (o : Point). (point_after_deeds run.level o steps).due) e.stands.at ∙ are_steps.due in
       let flag : (last_point_of job).is_ended ≡ false = flag_there run.level leg.point steps ∙ ap (λ (o : Point). o.is_ended) e.stands.at in
       λ i. record { time = time i; rows = rows i; due = due i; is_ended = flag i }
 
@@ -242,7 +242,7 @@ module _ {S : Type 0} (tells : Type 0) (left : S → Option (List ℕ)) (faults 
 
   leaves_leg : fold leg_after leg more ≡ leg_then
   leaves_leg =
-      leg_behind run.level leg does.moments named every
+      leg_after_steps run.level leg does.moments named every
       ∙ ap (λ (o : Point). leg_to leg o (changes_of named)) (silent_points run.level b.line.time.0 (breaks_of run) leg.point steps began_job.logged.each ∙ last_is)
 
   all_steps : take (length steps) steps ≡ steps
@@ -251,7 +251,7 @@ module _ {S : Type 0} (tells : Type 0) (left : S → Option (List ℕ)) (faults 
   leg_is_then : IsLegOf run b.stage leg_then
   leg_is_then =
       subst (λ (o : Point). IsLegOf run b.stage (leg_to leg o (changes_of named))) last_is
-      (subst (λ (l : List DeedOfChanges). IsLegOf run b.stage (leg_to leg (point_behind run.level leg.point l) (changes_of (all_silent b.line.time.0 (breaks_of run) l)))) all_steps
+      (subst (λ (l : List DeedOfChanges). IsLegOf run b.stage (leg_to leg (point_after_deeds run.level leg.point l) (changes_of (all_silent b.line.time.0 (breaks_of run) l)))) all_steps
       (leg_there was job began_job (length steps) (omega arith)))
 
   hits_then : (d : ℕ) → hits_of_leg leg_then d + began.faults (Volume d) ≤ is.faults (Volume d)

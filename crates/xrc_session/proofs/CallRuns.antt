@@ -18,7 +18,7 @@ pub after_both : (first second : List Call) (s : Group) → after_calls (first +
 after_both [] second s = refl
 after_both (call ∷ first) second s = after_both first second (group_after s call)
 
--- the calls of one item, and those that are left behind it
+-- the calls of one item, and those that are left after it
 pub record IsNext {X : Type 0} (f : X → List Call) (items : List X) (i : ℕ) (x : X) (s : Group) : Type 0 where
   pub may : AllMay (f x) s
   pub later : AllMay (flat_map f (drop (i + 1) items)) (after_calls (f x) s)

@@ -1,4 +1,4 @@
--- What calls between epochs leave of a control's volumes.
+-- What calls between epochs leave of a controller's volumes.
 use Rattle.std.proofs.Common.{◌≡◌, ℕ, ◌<◌, Bool, true, false, cond, not, nat_eq, ◌&&◌, ◌||◌, List, length, Option, Some, None, refl, sym, ap, subst, ◌∙◌, true≢false}
 use Rattle.std.specs.List.{list_all, list_any}
 use Rattle.std.specs.Option.{option_map}
@@ -13,14 +13,14 @@ use Rattle.group_state.specs.Groups.{Group, control_at, with_control}
 use Rattle.group_state.specs.SoundStates.{IsGroupSound, MayCarry, are_distinct, is_dropped}
 use Rattle.group_state.proofs.Kept.{KeepsOne, kept_call, keeps_begun, keeps_dropped, keeps_forgotten, keeps_resumed}
 use Rattle.group_state.proofs.SoundLaws.{all_filter}
-use Rattle.group_state.proofs.VolumeLaws.{Keeps, found_behind, found_with, found_without}
+use Rattle.group_state.proofs.VolumeLaws.{Keeps, found_after, found_with, found_without}
 use Rattle.fed_logs.specs.Logs.{IsPlanDone}
 use Rattle.fed_logs.proofs.Standing.{at_with}
 use Rattle.mover.specs.OwedTracks.{is_copied_to, is_mapped, is_owed, is_volume_kept}
-use Rattle.mover.proofs.Copying.{kept_behind_drop}
+use Rattle.mover.proofs.Copying.{kept_after_drop}
 use Rattle.xrc_session.proofs.CarriedRows.{IsOther}
 
--- ---- a volume that a change of its control keeps
+-- ---- a volume that a change of its controller keeps
 
 -- It is found as before, and copied tracks of it wait as before.
 pub record KeepsOther (w : ℕ) (c d : ControlState) : Type 0 where
@@ -63,7 +63,7 @@ found_itself v change keeps volumes = found_with v v change keeps volumes ∙ ap
 pub drop_other : (v w : ℕ) (all : Bool) (c : ControlState) → nat_eq v w ≡ false → KeepsOther w c (dropped v all c)
 drop_other v w all c apart = record {
   found = found_apart v w (dropped_volume all (entry_tracks v c.queue.waiting)) (λ u. refl) apart c.volumes;
-  copies = λ x e. kept_behind_drop v w x apart c.queue.waiting e;
+  copies = λ x e. kept_after_drop v w x apart c.queue.waiting e;
   none = λ e. all_filter (λ entry. not (is_copy_of w entry)) (λ entry. not (is_of_volume v entry)) c.queue.waiting e;
 }
 
@@ -84,21 +84,21 @@ forget_itself v c distinct = found_without v v c.volumes distinct ∙ ap (λ (t 
 
 pub begin_other : (v w : ℕ) (plan : PlanState) (c : ControlState) → has_volume v c.volumes ≡ false → nat_eq v w ≡ false → KeepsOther w c (begun_volume v plan c)
 begin_other v w plan c unknown apart =
-    record { found = found_behind w c.volumes (begun v plan) unknown ∙ ap (λ (t : Bool). cond t (Some (begun v plan)) (volume_of w c.volumes)) apart; copies = λ x e. e; none = λ e. e }
+    record { found = found_after w c.volumes (begun v plan) unknown ∙ ap (λ (t : Bool). cond t (Some (begun v plan)) (volume_of w c.volumes)) apart; copies = λ x e. e; none = λ e. e }
 
 pub begin_itself : (v : ℕ) (plan : PlanState) (c : ControlState) → has_volume v c.volumes ≡ false → volume_of v (begun_volume v plan c).volumes ≡ Some (begun v plan)
-begin_itself v plan c unknown = found_behind v c.volumes (begun v plan) unknown ∙ ap (λ (t : Bool). cond t (Some (begun v plan)) (volume_of v c.volumes)) (eq-eqb v v refl)
+begin_itself v plan c unknown = found_after v c.volumes (begun v plan) unknown ∙ ap (λ (t : Bool). cond t (Some (begun v plan)) (volume_of v c.volumes)) (eq-eqb v v refl)
 
 -- ---- the state
 
--- what a change of a control leaves of every other volume of the state
+-- what a change of a controller leaves of every other volume of the state
 pub other_at : (s : Group) (k v j w : ℕ) (change : ControlState → ControlState) → ((u : ℕ) → nat_eq v u ≡ false → KeepsOther u (control_at s k) (change (control_at s k))) → IsOther k v j w → j < length s.controls
     → KeepsOther w (control_at s j) (control_at (with_control k change s) j)
 other_at s k v j w change keeps other low = at_with s k j change (KeepsOther w (control_at s j)) low
     (λ is. subst (λ (i : ℕ). KeepsOther w (control_at s i) (change (control_at s i))) is (keeps w (sym (ap (λ (b : Bool). b && nat_eq v w) (eq-eqb k j is)) ∙ other)))
     (λ apart. same_other w (control_at s j))
 
--- the control itself, changed
+-- the controller itself, changed
 pub own_is : (s : Group) (k : ℕ) (change : ControlState → ControlState) → k < length s.controls → control_at (with_control k change s) k ≡ change (control_at s k)
 own_is s k change low = at_with s k k change (λ (c : ControlState). c ≡ change (control_at s k)) low (λ is. refl) (λ apart. absurd (true≢false (sym (eq-eqb k k refl) ∙ apart)))
 

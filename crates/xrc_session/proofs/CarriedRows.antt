@@ -22,7 +22,7 @@ use Rattle.mover.proofs.Pairs.Among.{Here, Later}
 some_row : (a b : PairRow) → (let x : Option PairRow = Some a in let y : Option PairRow = Some b in x ≡ y) → a ≡ b
 some_row a b e = cc
 
--- Rows of one device are one row, and so are rows of one control and volume.
+-- Rows of one device are one row, and so are rows of one controller and volume.
 pub one_of_device : (a b : PairRow) (rows : List PairRow) → none_clash rows ≡ true → Among a rows → Among b rows → a.device ≡ b.device → a ≡ b
 one_of_device a b rows apart h g same = some_row a b (sym (found_of_device a rows apart h) ∙ ap (λ (d : ℕ). row_of d rows) same ∙ found_of_device b rows apart g)
 

@@ -1,4 +1,4 @@
--- A command's change that is taken over: what is kept for rows behind it, and what stands.
+-- A command's change that is taken over: what is kept for rows after it, and what stands.
 use Rattle.std.proofs.Common.{◌≡◌, ℕ, ◌<◌, Bool, true, false, not, nat_lt, nat_eq, ◌&&◌, ◌||◌, List, [], ◌∷◌, ◌++◌, length, inl, inr, Option, Some, None, refl, sym, subst, ◌∙◌, true≢false}
 use Rattle.std.specs.Prelude.{IfSome}
 use Rattle.std.specs.List.{Contains}
@@ -65,7 +65,7 @@ any_fits Ended after = tt
 pub no_plans : Plans
 no_plans = λ k v. false
 
--- The calls of a change may be made, and behind them the state is sound for the rows after it.
+-- The calls of a change may be made, and after them the state is sound for the rows after it.
 pub taken : (s : Group) (change : Change) (before after : List PairRow) → IsSoundForRows s before → MayTake s change before after → Walked Kept (calls_of_change change s before after) s after no_plans
 taken s change before after kept may = change_walk Kept FitsAny kept_steps change before after s no_plans may (any_fits change after) kept
 

@@ -1,4 +1,4 @@
--- Commands and the hits behind them make changes of rows that may be taken over.
+-- Commands and the hits after them make changes of rows that may be taken over.
 use Rattle.std.proofs.Common.{◌≡◌, ℕ, ◌<◌, zero, suc, Bool, true, false, cond, not, nat_eq, ◌&&◌, ◌||◌, List, [], ◌∷◌, ◌++◌, map, filter, length, Option, Some, None, Ok, refl, sym, ap, subst, ◌∙◌, true≢false, slice_get}
 use Rattle.std.specs.Prelude.{is_none, bytes_eq, IfSome, IsSomeAnd}
 use Rattle.std.specs.List.{Contains, list_any}
@@ -109,7 +109,7 @@ same_states (Suspended first from) (Suspended cause since) e =
     let parts = and_parts (nat_eq (cause_number first) (cause_number cause)) (nat_eq from.0 since.0) e in
     λ i. Suspended (same_causes first cause parts.0 i) (record { 0 = eqb-true from.0 since.0 parts.1 i })
 
--- ---- the rows behind hits
+-- ---- the rows after hits
 
 module _ (level : Level) (cut : ℕ) (failed : List Bool) where
   abbrev told_of : List PairRow → PairRow → PairRow
@@ -178,11 +178,11 @@ chosen_at test (r ∷ rows) zero x apart at = subst (λ (y : PairRow). is_among 
     here false none = none
 chosen_at test (r ∷ rows) (suc i) x apart at =
     let first = apart_first r rows apart in
-    behind (test r) (none_at r.device rows i x first.0 at) (chosen_at test rows i x first.1 at)
+    after (test r) (none_at r.device rows i x first.0 at) (chosen_at test rows i x first.1 at)
   where
-    behind : (b : Bool) → nat_eq r.device x.device ≡ false → is_among x.device (devices_of (filter test rows)) ≡ test x → is_among x.device (devices_of (cond b (r ∷ filter test rows) (filter test rows))) ≡ test x
-    behind true other rest = rw other rest
-    behind false other rest = rest
+    after : (b : Bool) → nat_eq r.device x.device ≡ false → is_among x.device (devices_of (filter test rows)) ≡ test x → is_among x.device (devices_of (cond b (r ∷ filter test rows) (filter test rows))) ≡ test x
+    after true other rest = rw other rest
+    after false other rest = rest
 
 same_filter : (keep also : PairRow → Bool) (rows : List PairRow) → ((i : ℕ) (x : PairRow) → slice_get rows i ≡ Some x → keep x ≡ also x) → filter keep rows ≡ filter also rows
 same_filter keep also [] same = refl
@@ -299,9 +299,9 @@ module _ (names : Naming) (rows : List PairRow) (at : ℕ) (level : Level) (cut 
       stands_apart true clear = apart
       stands_apart false clear = ap none_clash again ∙ clear
 
-      -- the row behind the hits
-      behind : none_clash next ≡ true → row_of r.device (hits next) ≡ Some (told_of level cut failed next (in_state Pending r))
-      behind clear = ap (row_of r.device) (hits_told level cut failed next)
+      -- the row after the hits
+      after : none_clash next ≡ true → row_of r.device (hits next) ≡ Some (told_of level cut failed next (in_state Pending r))
+      after clear = ap (row_of r.device) (hits_told level cut failed next)
           ∙ found_in_map (told_of level cut failed next) (told_device (reach_of level next) cut (hit_now failed next)) r.device next (in_state Pending r) (found_of_device (in_state Pending r) next clear (among_of next (in_state Pending r) there))
 
       -- The resumed row is suspended again as it was, so it stays.
@@ -316,7 +316,7 @@ module _ (names : Naming) (rows : List PairRow) (at : ℕ) (level : Level) (cut 
             stays = λ e.
                 let itself : r ≡ x = one_of_device r x rows apart among have (eqb-true r.device x.device own) in
                 ap (λ (y : PairRow). y.state) (told own)
-                ∙ sym (same_states r.state (let y : PairRow = told_of level cut failed next (in_state Pending r) in y.state) (ap (λ (o : Option PairRow). stands_again o (Some (told_of level cut failed next (in_state Pending r)))) (sym found) ∙ ap (stands_again (row_of r.device rows)) (sym (behind clear)) ∙ stands))
+                ∙ sym (same_states r.state (let y : PairRow = told_of level cut failed next (in_state Pending r) in y.state) (ap (λ (o : Option PairRow). stands_again o (Some (told_of level cut failed next (in_state Pending r)))) (sym found) ∙ ap (stands_again (row_of r.device rows)) (sym (after clear)) ∙ stands))
                 ∙ ap (λ (y : PairRow). y.state) itself;
           }
 

@@ -1,4 +1,4 @@
--- Rows that a command suspends, or hits behind it, are suspended since its time.
+-- Rows that a command suspends, or hits after it, are suspended since its time.
 use Rattle.std.proofs.Common.{◌≡◌, ◌⊎◌, inl, inr, ℕ, ◌<◌, Bool, true, false, cond, not, nat_eq, List, [], ◌∷◌, ◌++◌, map, length, Option, Some, None, refl, sym, ap, subst, ◌∙◌, true≢false}
 use Rattle.std.specs.Prelude.{IsSomeAnd}
 use Rattle.std.proofs.lemmas.Bool.{eq-eqb, eqb-true}
@@ -56,7 +56,7 @@ not_pending state cause from is pending = true≢false (ap is_suspended (sym is 
 
 -- ---- hits
 
--- A row behind hits is one of those before them, or is suspended since their time.
+-- A row after hits is one of those before them, or is suspended since their time.
 hit_or_there : (level : Level) (time : ℕ) (hit : List ℕ) (rows : List PairRow) (z : PairRow) → Among z (rows_hit level time hit rows) → Among z rows ⊎ SuspendedAt time z.state
 hit_or_there level time [] rows z there = inl there
 hit_or_there level time (d ∷ hit) rows z there =
@@ -145,7 +145,7 @@ module _ (names : Naming) (time : ℕ) (s : Group) (rows after : List PairRow) (
   rests Query may y there = stays (change_of names Query rows) y there refl
   rests End may y there = stays (change_of names End rows) y there refl
 
-  -- The rows behind a command and hits of its time are suspended since then, if they aren't as before.
+  -- The rows after a command and hits of its time are suspended since then, if they aren't as before.
   pub commands_suspend : (command : Command) (change : Change) (level : Level) (failed : List Bool) → change_of names command rows ≡ change → MayTake s change rows after → after ≡ rows_with_hits level time failed (rows_after names time command rows) → SuspendsAt time change rows after
   commands_suspend command change level failed made may are z cause from has is =
       elim (hit_or_there level time (hit_now failed (rows_after names time command rows)) (rows_after names time command rows) z (subst (Among z) are (among_of after z has))) [

@@ -38,7 +38,7 @@ use Rattle.mover.specs.Epochs.{MayBeginEpoch}
 use Rattle.mover.specs.Moves.{is_row_of_volume}
 use Rattle.mover.specs.OwedTracks.{held_by_choice, held_of_row}
 use Rattle.mover.specs.Working.{StandsForRows}
-use Rattle.xrc_session.specs.LinePauses.{GoesOnFrom, HasNotBegun, IsAtSite, IsBetween, IsReadyForEpoch, IsUnderWay, IsUnstarted, LeavesAll, MayCommandSite, RestsAtSite, StandsAtLeg, StandsBehindLines, StandsForSite, site_point}
+use Rattle.xrc_session.specs.LinePauses.{GoesOnFrom, HasNotBegun, IsAtSite, IsBetween, IsReadyForEpoch, IsUnderWay, IsUnstarted, LeavesAll, MayCommandSite, RestsAtSite, StandsAfterLines, StandsAtLeg, StandsForSite, site_point}
 use Rattle.xrc_session.specs.EpochPauses.{Between, StandsBetween}
 use Rattle.xrc_session.specs.Frames.{rows_passed}
 use Rattle.xrc_session.specs.Lanes.{sizes_of}
@@ -166,10 +166,10 @@ module _ (tells : Type 0) (old new : PlantState) (works : WorksOnConsole tells o
         by_past (inl past) up = goes_forth_said run lines stage.next trail began old new works.site (works.elapses told) past (way.goes_forth past) tells told works
         by_past (inr none) up = let still = ((works.elapses told).kept Control).still (omega (arith, none)) in absurd (omega (arith, up, still))
 
-    -- What a session has come to behind its lines stays as it is.
-    pub behind_on : (run : ScriptRun) (lines : List Answered) (stage : Stage) (trail : Trail) (s : SessionState) (began : PlantState) → SameSite began old → began.clock ≤ old.clock → StandsBehindLines run lines stage trail s began old
-        → StandsBehindLines run lines stage trail s began new
-    behind_on run lines stage trail s began site later stands = record {
+    -- What a session has come to after its lines stays as it is.
+    pub after_on : (run : ScriptRun) (lines : List Answered) (stage : Stage) (trail : Trail) (s : SessionState) (began : PlantState) → SameSite began old → began.clock ≤ old.clock → StandsAfterLines run lines stage trail s began old
+        → StandsAfterLines run lines stage trail s began new
+    after_on run lines stage trail s began site later stands = record {
       its = stands.its;
       table = stands.table;
       volumes = changes_rows_then (rows_passed trail.points) [] (rows_passed trail.points) began old new site later (works.elapses told) (λ r has. has) (λ r has. absurd (omega (arith, has.1))) stands.volumes
@@ -246,10 +246,10 @@ module _ (tells : Type 0) (old new : PlantState) (works : WorksOnConsole tells o
 pub leg_heard : (run : ScriptRun) (s : Stage) (heard : Option Line) (l : Leg) → IsLegOf run s l → IsLegOf run (record s { next = heard }) l
 leg_heard run s heard l leg = record { table = leg.table; replied = leg.replied; whole = leg.whole; counted = leg.counted }
 
--- What a session has come to behind its lines stays when a line is heard.
-pub behind_heard : (run : ScriptRun) (lines : List Answered) (stage : Stage) (heard : Option Line) (trail : Trail) (s : SessionState) (began now : PlantState) → now.heard now.clock ≡ began.heard began.clock ++ texts_of lines → now.said now.clock ≡ began.said began.clock ++ replies_of lines → StandsBehindLines run lines stage trail s began now
-    → StandsBehindLines run lines (record stage { next = heard }) trail s began now
-behind_heard run lines stage heard trail s began now all said stands = record { its = stands.its; table = stands.table; volumes = stands.volumes; place = by_place s.site stands.place }
+-- What a session has come to after its lines stays when a line is heard.
+pub after_heard : (run : ScriptRun) (lines : List Answered) (stage : Stage) (heard : Option Line) (trail : Trail) (s : SessionState) (began now : PlantState) → now.heard now.clock ≡ began.heard began.clock ++ texts_of lines → now.said now.clock ≡ began.said began.clock ++ replies_of lines → StandsAfterLines run lines stage trail s began now
+    → StandsAfterLines run lines (record stage { next = heard }) trail s began now
+after_heard run lines stage heard trail s began now all said stands = record { its = stands.its; table = stands.table; volumes = stands.volumes; place = by_place s.site stands.place }
   where
     at_site : (site : SiteState) → RestsAtSite run lines stage trail s began now site → RestsAtSite run lines (record stage { next = heard }) trail s began now site
     at_site site rests =

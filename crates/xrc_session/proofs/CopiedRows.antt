@@ -7,7 +7,7 @@ take_next [] n x is = absurd (omega (arith, slice_get_within [] n x is))
 take_next (a ∷ xs) zero x is = cc
 take_next (a ∷ xs) (suc n) x is = ap (λ l. a ∷ l) (take_next xs n x is)
 
--- Behind the row at a place so many rows were taken.
+-- After the row at a place so many rows were taken.
 pub taken_more : {A : Type 0} (xs : List A) (n : ℕ) (x : A) (got more : List A) → slice_get xs n ≡ Some x → got ≡ take n xs → more ≡ got ++ x ∷ [] → more ≡ take (n + 1) xs
 taken_more xs n x got more is was next = rw add-one (next ∙ ap (λ l. l ++ x ∷ []) was ∙ sym (take_next xs n x is))
 

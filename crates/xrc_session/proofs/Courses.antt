@@ -1,4 +1,4 @@
--- The stages of a course: until the session starts, and behind its last line.
+-- The stages of a course: until the session starts, and after its last line.
 use Rattle.std.proofs.Common.{◌≡◌, ◌⊎◌, inl, inr, ℕ, zero, suc, ◌<◌, ◌≤◌, Bool, true, false, true≢false, List, [], ◌++◌, length, Some, None, refl, sym, ap, subst, ◌∙◌, arith, get_or, slice_get}
 use Rattle.std.specs.Prelude.{◌==◌, is_none, if◌then◌else◌}
 use Rattle.std.proofs.lemmas.Bool.{and_right, cases_lt}
@@ -36,7 +36,7 @@ unstarted_still run s a answered unstarted none =
 
 -- ---- lines before
 
--- What stands at a number of lines, if it isn't behind all.
+-- What stands at a number of lines, if it isn't after all.
 stage_step : (run : ScriptRun) (lines : List Answered) (n : ℕ) → suc n ≤ length lines → (a : Answered) × (slice_get lines n ≡ Some a) × (stage_at run lines (suc n) ≡ stage_after (stage_at run lines n) a)
 stage_step run lines n within = by_cases (slice_get_cases lines n).1
   where
@@ -50,7 +50,7 @@ module _ (run : ScriptRun) (lines : List Answered) (course : IsCourse run lines)
       let step = stage_step run lines n within in
       ap (λ (s : Stage). s.table.is_started) step.2 ∙ stays_started run (stage_at run lines n) step.0 (course n step.0 step.1) started
 
-  -- A session that hasn't started behind a line hasn't before it.
+  -- A session that hasn't started after a line hasn't before it.
   unstarted_then : (n : ℕ) → suc n ≤ length lines → (stage_at run lines (suc n)).table.is_started ≡ false → (stage_at run lines n).table.is_started ≡ false
   unstarted_then n within unstarted = by_flag (stage_at run lines n).table.is_started refl
     where

@@ -14,14 +14,14 @@ use Rattle.pair_table.specs.Naming.{Naming}
 use Rattle.pair_table.specs.Refusals.{refusal, refuses_command}
 use Rattle.pair_table.specs.Tables.{Table}
 use Rattle.sidefile.specs.Breaks.{stamp}
-use Rattle.xquery_report.specs.Replies.{answer_part, command_part, told_part}
+use Rattle.xquery_report.specs.Replies.{answer_part, command_part, said_part}
 use Rattle.tod_stamp.specs.Stamps.{stamp_text}
 use Rattle.xrc_command.specs.declared.line.Line.{Line}
 use Rattle.consistency.specs.Answering.{ReplyContent, points_before, reply_content, tracks_of_command}
 use Rattle.consistency.specs.Stages.{ScriptRun, Stage, breaks_of, names_of}
 use Rattle.consistency.specs.Courses.{Answered, stage_at}
 use Rattle.consistency.specs.Leads.{Point}
-use Rattle.consistency.specs.Replying.{IsExact, own_line, report_before, told_tracks}
+use Rattle.consistency.specs.Replying.{IsExact, own_line, report_before, said_tracks}
 use Rattle.consistency.specs.Steps.{names_at, table_on_the_way}
 use Rattle.consistency.specs.Ways.{Leg, PassedPoint, leg_after, leg_at}
 use Rattle.passages.specs.Points.{last_point}
@@ -32,7 +32,7 @@ use Rattle.xrc_session.proofs.Asked.{later_points}
 -- ---- the reply's own line
 
 -- It tells tracks of an added pair alone.
-pub part_told : (c : Command) (r : Result Change Refusal) (a b : ℕ) → told_tracks c r a ≡ told_tracks c r b → answer_part c r a ≡ answer_part c r b
+pub part_told : (c : Command) (r : Result Change Refusal) (a b : ℕ) → said_tracks c r a ≡ said_tracks c r b → answer_part c r a ≡ answer_part c r b
 part_told c (Err why) a b same = refl
 part_told (AddPair primary secondary) (Ok change) a b same = ap (λ (n : ℕ). answer_part (AddPair primary secondary) (Ok change) n) (same_some a b same)
 part_told (Start level) (Ok change) a b same = refl
@@ -41,11 +41,11 @@ part_told (Suspend choice) (Ok change) a b same = refl
 part_told Query (Ok change) a b same = refl
 part_told End (Ok change) a b same = refl
 
-pub own_line_told : (line : Line) (x y : ReplyContent) → x.answer ≡ y.answer → x.time ≡ y.time → told_tracks line.command x.answer x.tracks ≡ told_tracks line.command y.answer y.tracks → own_line line x ≡ own_line line y
+pub own_line_told : (line : Line) (x y : ReplyContent) → x.answer ≡ y.answer → x.time ≡ y.time → said_tracks line.command x.answer x.tracks ≡ said_tracks line.command y.answer y.tracks → own_line line x ≡ own_line line y
 own_line_told line x y answers times tracks =
-    ap (λ (p : List ℕ). stamp_text line.time.0 ++ command_part line.command ++ p ++ told_part (option_map stamp x.time) ++ 10 ∷ [])
-    (part_told line.command x.answer x.tracks y.tracks (tracks ∙ ap (λ (r : Result Change Refusal). told_tracks line.command r y.tracks) (sym answers)) ∙ ap (λ (r : Result Change Refusal). answer_part line.command r y.tracks) answers)
-    ∙ ap (λ (t : Option ℕ). stamp_text line.time.0 ++ command_part line.command ++ answer_part line.command y.answer y.tracks ++ told_part (option_map stamp t) ++ 10 ∷ []) times
+    ap (λ (p : List ℕ). stamp_text line.time.0 ++ command_part line.command ++ p ++ said_part (option_map stamp x.time) ++ 10 ∷ [])
+    (part_told line.command x.answer x.tracks y.tracks (tracks ∙ ap (λ (r : Result Change Refusal). said_tracks line.command r y.tracks) (sym answers)) ∙ ap (λ (r : Result Change Refusal). answer_part line.command r y.tracks) answers)
+    ∙ ap (λ (t : Option ℕ). stamp_text line.time.0 ++ command_part line.command ++ answer_part line.command y.answer y.tracks ++ said_part (option_map stamp t) ++ 10 ∷ []) times
 
 -- ---- before the start
 
@@ -59,7 +59,7 @@ refuses_unstarted names table session primary secondary is =
     by_both false true rest = (NoSession, refl)
     by_both false false rest = (NoSession, refl)
 
-pub unstarted_told : (names : Naming) (table : Table) (session : List ℕ) (c : Command) → table.is_started ≡ false → (a b : ℕ) → told_tracks c (answer names table session c) a ≡ told_tracks c (answer names table session c) b
+pub unstarted_told : (names : Naming) (table : Table) (session : List ℕ) (c : Command) → table.is_started ≡ false → (a b : ℕ) → said_tracks c (answer names table session c) a ≡ said_tracks c (answer names table session c) b
 unstarted_told names table session (Start level) is a b = refl
 unstarted_told names table session (DelPair choice) is a b = refl
 unstarted_told names table session (Suspend choice) is a b = refl
@@ -67,8 +67,8 @@ unstarted_told names table session Query is a b = refl
 unstarted_told names table session End is a b = refl
 unstarted_told names table session (AddPair primary secondary) is a b =
     let why = refuses_unstarted names table session primary secondary is in
-    ap (λ (o : Option Refusal). told_tracks (AddPair primary secondary) (answer_by o (change_of names (AddPair primary secondary) table.rows)) a) why.1
-    ∙ sym (ap (λ (o : Option Refusal). told_tracks (AddPair primary secondary) (answer_by o (change_of names (AddPair primary secondary) table.rows)) b) why.1)
+    ap (λ (o : Option Refusal). said_tracks (AddPair primary secondary) (answer_by o (change_of names (AddPair primary secondary) table.rows)) a) why.1
+    ∙ sym (ap (λ (o : Option Refusal). said_tracks (AddPair primary secondary) (answer_by o (change_of names (AddPair primary secondary) table.rows)) b) why.1)
 
 -- A reply before the start looks at no points.
 pub exact_any : (run : ScriptRun) (s : Stage) (first other : Point) (points more : List PassedPoint) (n m : ℕ) (a : Answered) → s.table.is_started ≡ false → IsExact run s first points n a → IsExact run s other more m a
@@ -125,7 +125,7 @@ module _ (run : ScriptRun) (lines : List Answered) (trail : Trail) (begins : Beg
           exactly_before run (stage_at run lines n) (first_leg run lines trail) trail.points (trail.points ++ more) n a
           (sym (later_points run (asked_with lines next) (first_leg run lines trail) trail.points more n late (omega (arith, below, all)) linked)) (exact n a at)
 
-  -- The first leg is the same behind one line more, once the session has started.
+  -- The first leg is the same after one line more, once the session has started.
   pub first_more : (a : Answered) → trail.started ≤ length lines → first_leg run (lines ++ a ∷ []) trail ≡ first_leg run lines trail
   first_more a within = ap (λ (s : Stage). leg_at s trail.started) (stage_front run lines (a ∷ []) trail.started within)
 

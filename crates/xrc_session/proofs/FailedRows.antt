@@ -1,4 +1,4 @@
--- Rows that their devices suspend behind changes: they were so before, or a hit among the changes is of their device.
+-- Rows that their devices suspend after changes: they were so before, or a hit among the changes is of their device.
 use Rattle.std.proofs.Common.{◌≡◌, ◌⊎◌, ℕ, zero, suc, ◌+◌, ◌≤◌, nat_eq, Bool, true, false, cond, not, List, [], ◌∷◌, ◌++◌, map, Option, Some, None, refl, sym, ap, subst, ◌∙◌, arith, inl, inr, true≢false}
 use Rattle.std.specs.List.{Contains, flat_map, list_all}
 use Rattle.std.proofs.lemmas.Bool.{and_from, and_parts}
@@ -153,12 +153,12 @@ fewer_hits device a b some = let sum = counts_append device a b in omega (arith,
 some_hit : (device : ℕ) (t : Timed) (changes : List Timed) → hits device t ≡ true → 1 ≤ hit_count device (t ∷ changes)
 some_hit device t changes is = fewer_hits device (t ∷ []) changes (let one : hit_count device (t ∷ []) ≡ 0 + 1 = ap (λ (b : Bool). 0 + cond b 1 0) is in omega (arith, one))
 
--- A row that its device suspends behind changes was as it is before, or its device was hit.
+-- A row that its device suspends after changes was as it is before, or its device was hit.
 pub failed_by : (level : Level) (changes : List Timed) (rows : List PairRow) (r : PairRow) → are_plain changes ≡ true → Contains (after_changes level changes rows) r → is_device_suspended r.state ≡ true → (1 ≤ hit_count r.device changes) ⊎ WasFailed r rows
 failed_by level [] rows r plain among is = inr (record { row = r; among = among; same = refl; state = refl })
 failed_by level (t ∷ changes) rows r plain among is =
     let parts = and_parts (is_plain t) (are_plain changes) plain in
-    behind parts.0 (failed_by level changes (after_change level t rows) r parts.1 among is)
+    after parts.0 (failed_by level changes (after_change level t rows) r parts.1 among is)
   where
     reach : FaultReach
     reach = reach_of level rows
@@ -171,8 +171,8 @@ failed_by level (t ∷ changes) rows r plain among is =
         let device : q.device ≡ r.device = sym (same_device reach t q) ∙ ap (λ (x : PairRow). x.device) at ∙ same in
         inr (record { row = q; among = there; same = device; state = was ∙ ap (λ (x : PairRow). x.state) at ∙ alike })
 
-    behind : is_plain t ≡ true → (1 ≤ hit_count r.device changes) ⊎ WasFailed r (after_change level t rows) → (1 ≤ hit_count r.device (t ∷ changes)) ⊎ WasFailed r rows
-    behind plain (inl some) = inl (more_hits r.device (t ∷ []) changes some)
-    behind plain (inr was) =
+    after : is_plain t ≡ true → (1 ≤ hit_count r.device changes) ⊎ WasFailed r (after_change level t rows) → (1 ≤ hit_count r.device (t ∷ changes)) ⊎ WasFailed r rows
+    after plain (inl some) = inl (more_hits r.device (t ∷ []) changes some)
+    after plain (inr was) =
         let found = contains_map (row_after_change reach t) rows was.row was.among in
         one was.row was.same was.state found.0 found.1 found.2 (hit_by reach (reach_is_other level rows) t.time t.change found.0 plain (ap (λ (x : PairRow). is_device_suspended x.state) found.2 ∙ ap is_device_suspended was.state ∙ is))

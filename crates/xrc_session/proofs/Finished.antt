@@ -125,7 +125,7 @@ slot_is_meant run site now read shows walk place r at duplex x within =
 
 -- ---- at the end
 
--- Behind the last line all is applied.
+-- After the last line all is applied.
 pub all_applied : (run : ScriptRun) (lines : List Answered) (site : SiteState) (old now : PlantState) → stage_point (stage_at run lines (length lines)) ≡ site_point site
     → ((place : ℕ) (r : PairRow) → slice_get site.told place ≡ Some r → r.state ≡ Duplex → (x : ℕ) → x < tracks_of_row r → slot_track (old.bytes (Volume r.device)) x ≡ Some (primary run.traces site.time r.control r.volume x))
     → ((d : ℕ) → now.bytes (Volume d) ≡ old.bytes (Volume d)) → AtNow (HasEmptyWalk now) now → IsApplied run lines now

@@ -29,7 +29,7 @@ use Rattle.xrc_status.specs.declared.stop.Stop.{Stop}
 use Rattle.xrc_status.specs.declared.stop.Stop.TheVariants.{Spent}
 use Rattle.xrc_session.specs.Answering.{IsMarkedSite, MarksOn, MayEndBy}
 use Rattle.xrc_session.specs.Answering.IsMarkedAt.{IsOnWay}
-use Rattle.xrc_session.specs.LinePauses.{GoesOnFrom, HasNotBegun, RestsAtSite, StandsBehindLines, site_point, stage_behind}
+use Rattle.xrc_session.specs.LinePauses.{GoesOnFrom, HasNotBegun, RestsAtSite, StandsAfterLines, site_point, stage_after_text}
 use Rattle.xrc_session.specs.Ends.{IsRunDone, StopsInLine}
 use Rattle.xrc_session.specs.Lines.{MayFinish}
 use Rattle.xrc_session.specs.States.{SessionState}
@@ -46,11 +46,11 @@ use Rattle.xrc_session.proofs.LinesWithin.{IsWithin, exact_still, forth_still, g
 use Rattle.xrc_session.proofs.RestingMarks.{nothing_is_walked}
 use Rattle.xrc_session.proofs.Trails.{rest_is_meant}
 
--- A run that has answered its lines and heard the script's end, with a session behind them.
+-- A run that has answered its lines and heard the script's end, with a session after them.
 module _ (run : ScriptRun) (lines : List Answered) (trail : Trail) (s : SessionState) (began old : PlantState) (at_end : old.script ≡ []) (goes : RunGoesOn run lines [] began old) (exact : AreExact run lines trail)
-    (stands : StandsBehindLines run lines (stage_behind run lines [] began) trail s began old) where
+    (stands : StandsAfterLines run lines (stage_after_text run lines [] began) trail s began old) where
   abbrev stage : Stage
-  stage = stage_behind run lines [] began
+  stage = stage_after_text run lines [] began
 
   stage_table : (stage_at run lines (length lines)).table ≡ s.table
   stage_table = stands.table
@@ -202,8 +202,8 @@ finishes_still tells told s began old read may (inr (site, is, ended)) run lines
 pub finishes_by_mark : (tells : Type 0) → tells → (s : SessionState) (site next : SiteState) (began old new : PlantState) (result : Result (Unit {0}) Stop) → IsChoice old old.clock old.bytes → IsSiteIdle tells site old → hit_now site.failed site.told ≡ [] → s.site ≡ Some site → site.table.is_ended ≡ false
     → s.table ≡ site.table → SameSite old new → Elapses old new → Silent old new → VolumesStay tells old new → (IsErrOf result Spent → IsSpentNow new) → OnOk result (IsMarkedSite tells false site next new) → MarksOn false site next began old new result → FinishesRuns s began old new result
 finishes_by_mark tells told s site next began old new (Ok done) read idle none_hit is on own same past silent volumes spent marked marks run lines trail rises at_end goes exact stands =
-    let ends = marks run (stage_behind run lines [] began) (asked_with lines None) (last_leg run lines trail) (may_finish run lines trail s began old at_end goes exact stands site is read on own) rises in
+    let ends = marks run (stage_after_text run lines [] began) (asked_with lines None) (last_leg run lines trail) (may_finish run lines trail s began old at_end goes exact stands site is read on own) rises in
     (with_points (ends.0 ∷ []) trail, finishing_ends run lines trail s began old at_end goes exact stands site is read on own new same past silent tells told idle.may.idle none_hit volumes next marked ends.0 ends.1.1.0 ends.1.1.1 ends.1.1.2 ends.2)
 finishes_by_mark tells told s site next began old new (Err stop) read idle none_hit is on own same past silent volumes spent marked marks run lines trail rises at_end goes exact stands =
     finishing_stops run lines trail s began old at_end goes exact stands site is read on own new same past silent stop (λ is_spent. spent (ap (λ (x : Stop). let r : Result (Unit {0}) Stop = Err x in r) is_spent))
-    (marks run (stage_behind run lines [] began) (asked_with lines None) (last_leg run lines trail) (may_finish run lines trail s began old at_end goes exact stands site is read on own) rises)
+    (marks run (stage_after_text run lines [] began) (asked_with lines None) (last_leg run lines trail) (may_finish run lines trail s began old at_end goes exact stands site is read on own) rises)

@@ -8,7 +8,7 @@ use Rattle.crash_plant.specs.declared.device.Device.TheVariants.{Control, State,
 use Rattle.crash_plant.specs.Calls.{NoneLent, WorksOn}
 use Rattle.crash_plant.specs.Choices.{Choice, IsChoice}
 use Rattle.crash_plant.specs.Moments.{Follows, IsDurable, PlantState, Same, on}
-use Rattle.crash_plant.proofs.Behind.{same_after}
+use Rattle.crash_plant.proofs.BehindGates.{same_after}
 use Rattle.crash_plant.proofs.Choices.{choices_then, part_still, past_choice}
 use Rattle.control_set.specs.Slots.{lengths_of}
 use Rattle.applier.specs.Returns.{WorksOnLent}
@@ -54,7 +54,7 @@ on_any tells among old new works = works_lent_more tells among IsAnyDevice old n
 pub starts_of : (session : List ℕ) (level : Level) (at : Stamp) (plant : PlantState) (c : Choice) → means_of plant c ≡ Some (started_means session level at) → MeansStart session level at.0 plant c
 starts_of session level at plant c meant = record { means = started_means session level at; defined = meant; session_is = refl; level_is = refl; time = refl; rows = refl; ended = refl }
 
--- a choice that has the journals behind the first of another one
+-- a choice that has the journals after the first of another one
 abbrev with_journals : (b c : Choice) → Choice
 with_journals b c Control = b Control
 with_journals b c State = b State
@@ -63,10 +63,10 @@ with_journals b c (Journal (suc j)) = c (Journal (suc j))
 with_journals b c (Volume v) = b (Volume v)
 
 journals_are : (b c : Choice) (j : ℕ) → 1 ≤ j → c (Journal j) ≡ with_journals b c (Journal j)
-journals_are b c zero behind = absurd (omega (arith, behind))
-journals_are b c (suc j) behind = refl
+journals_are b c zero after = absurd (omega (arith, after))
+journals_are b c (suc j) after = refl
 
--- The format leaves the journals behind the first alone. So what a crash leaves of them it could leave before.
+-- The format leaves the journals after the first alone. So what a crash leaves of them it could leave before.
 journals_could : (tells : Type 0) → tells → (old new : PlantState) → WorksOn tells IsFormatted old new → (t : ℕ) → old.clock ≤ t → t ≤ new.clock → (b c : Choice) → IsChoice old old.clock b → IsChoice new t c → IsChoice old old.clock (with_journals b c)
 journals_could tells told old new works t from to b c was is Control part = was Control part
 journals_could tells told old new works t from to b c was is State part = was State part
@@ -144,7 +144,7 @@ format_stops tells old new r error is home works cause = record {
   spent = λ told spent. let stop : stop_of_store error ≡ stops.Spent = cc spent in absurd (format_unspent old new r error is cause stop);
 }
 
--- ---- behind the labels
+-- ---- after the labels
 
 module _ (tells : Type 0) (session : List ℕ) (level : Level) (controls : ℕ) (at : Stamp) (old mid new : PlantState) (home : NoneLent old) (formats : WorksOn tells IsFormatted old mid) (reads : WorksOn tells IsVolume mid new) (stay : VolumesStay tells mid new) where
   works : WorksOnLent tells IsAnyDevice old new

@@ -36,7 +36,7 @@ says_grows bytes old new later says = record { more = take front_now.0 bytes; sa
     front_now : (k : ℕ) × (k ≤ length bytes) × (new.said new.clock ≡ old.said old.clock ++ take k bytes)
     front_now = says.front new.clock later (omega arith)
 
-    by_moments : (s t : ℕ) → old.clock ≤ s → s ≤ t → t ≤ new.clock → (behind : List ℕ) × (new.said t ≡ new.said s ++ behind)
+    by_moments : (s t : ℕ) → old.clock ≤ s → s ≤ t → t ≤ new.clock → (after : List ℕ) × (new.said t ≡ new.said s ++ after)
     by_moments s t from on to =
         let early = says.front s from (omega (arith, on, to)) in
         let late = says.front t (omega (arith, from, on)) to in
@@ -55,7 +55,7 @@ grows_then old mid new since elapses first then = record {
   moments = by_moments;
 }
   where
-    by_moments : 0 < old.clock → (s t : ℕ) → old.clock ≤ s → s ≤ t → t ≤ new.clock → (behind : List ℕ) × (new.said t ≡ new.said s ++ behind)
+    by_moments : 0 < old.clock → (s t : ℕ) → old.clock ≤ s → s ≤ t → t ≤ new.clock → (after : List ℕ) × (new.said t ≡ new.said s ++ after)
     by_moments up s t from on to = by_late (cases_lt mid.clock t)
       where
         now : 0 < mid.clock
@@ -65,7 +65,7 @@ grows_then old mid new since elapses first then = record {
         past r le = elapses.said r now le
 
         by_early : mid.clock < t → (mid.clock ≤ s) ⊎ (s < mid.clock) → (more : List ℕ) × (new.said t ≡ new.said s ++ more)
-        by_early late (inl behind) = then.moments now s t behind on to
+        by_early late (inl after) = then.moments now s t after on to
         by_early late (inr before) =
             let one = first.moments up s mid.clock from (omega (arith, before)) (omega arith) in
             let two = then.moments now mid.clock t (omega arith) (omega (arith, late)) to in

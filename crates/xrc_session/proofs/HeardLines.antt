@@ -31,7 +31,7 @@ whole_is : (tells : Type 0) → tells → (at_end : Bool) (text left : List ℕ)
 whole_is tells told at_end text left ends (inl fed) = or_left (has_feed text) (at_end && nat_lt 0 (length text)) (fed_has text fed)
 whole_is tells told at_end text left ends (inr last) = ap (λ (e : Bool). is_whole_line e text) (ends (last.at_end told)) ∙ (whole_at_end text last.some last.front.no_feed).0
 
--- A line that was heard whole behind others is the next one of the script.
+-- A line that was heard whole after others is the next one of the script.
 pub next_is_line : (tells : Type 0) → tells → (script : List ℕ) (lines : List Answered) (text left : List ℕ) (line : Line) (number before : ℕ) → script ≡ texts_of lines ++ text ++ left → IsNextLine tells number before text left (next.Line line) → number ≡ length lines + 1 → last_line_time lines (length lines) ≡ before
     → next_line (length lines) (last_line_time lines (length lines)) (nat_eq (length (texts_of lines ++ text)) (length script)) text ≡ Some line
 next_is_line tells told script lines text left line number before whole is counted time =
@@ -109,7 +109,7 @@ module _ (session : List ℕ) (tells : Type 0) (told : tells) (began old mid : P
     front = script_now;
   }
 
-  -- Another line was heard behind them, and nothing more meanwhile.
+  -- Another line was heard after them, and nothing more meanwhile.
   pub lines_heard : (new : PlantState) → HearsNothing mid new → level_started session line ≡ None → HasHeardLines session began new (number + 1) line.time.0
   lines_heard new unheard refused =
       let a : Answered = record { text = text; line = line; reply = []; changes = []; hits = []; table = new_table session } in

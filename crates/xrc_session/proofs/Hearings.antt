@@ -95,20 +95,20 @@ module _ (first old new : PlantState) (run : ScriptRun) (lines : List Answered) 
   abbrev before : Stage
   before = stage_now run first.script lines []
 
-  abbrev behind : Stage
-  behind = stage_now run first.script lines text
+  abbrev after : Stage
+  after = stage_now run first.script lines text
 
   reaches : old.clock ≤ new.clock
   reaches = ((works.elapses told).kept Control).later
 
-  not_before : (line : Line) → behind.next ≡ Some line → before.replied ≤ line.time.0
+  not_before : (line : Line) → after.next ≡ Some line → before.replied ≤ line.time.0
   not_before line is =
       let later = next_not_before (length lines) (last_line_time lines (length lines)) (length (texts_of lines ++ text) == length first.script) text line is in
       omega (arith, later, replied_by_last run first.script lines (length lines) goes.now.asked (omega arith))
 
-  bears : before.table.is_started ≡ true → (c : Choice) → IsChoice new new.clock c → BearsTime run behind (replies_of lines) new c
+  bears : before.table.is_started ≡ true → (c : Choice) → IsChoice new new.clock c → BearsTime run after (replies_of lines) new c
   bears started c is =
-      bears_time_heard run before behind.next (replies_of lines) new c (none_next run first.script lines) not_before
+      bears_time_heard run before after.next (replies_of lines) new c (none_next run first.script lines) not_before
       (bears_on run before (replies_of lines) old new c works.site (goes.now.bears started c (console_choice tells told old new new.clock c works reaches (omega arith) is)))
 
   -- A run goes on while a line is heard.

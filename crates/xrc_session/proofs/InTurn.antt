@@ -16,7 +16,7 @@ use Rattle.consistency.specs.Stages.{ScriptRun}
 use Rattle.pair_table.specs.States.{is_device_suspended}
 use Rattle.group_state.specs.Runs.{Answer}
 use Rattle.fed_logs.specs.Reads.{ReadsOn}
-use Rattle.fed_logs.specs.Tellers.{HasFaultBy}
+use Rattle.fed_logs.specs.Reporters.{HasFaultBy}
 use Rattle.fed_logs.proofs.InTurn.{reads_in_turn, reads_nothing}
 use Rattle.mover.specs.declared.lane.Lane.{Lane}
 use Rattle.mover.specs.Lanes.{HasFaultFrom, MayGoOn}
@@ -91,9 +91,9 @@ counts_fell {T} old new result counts = record { devices = counts.later; console
 pub none_stop : {T : Type 0} (old new : PlantState) (result : Result T Stop) → NoneRisen old new → StopsByCount old new result
 none_stop {T} old new result none = record { devices = λ d store no_stop. none.devices d store; console = λ no_stop. none.console; later = none.fell.devices; console_later = none.fell.console; console_once = (let same = none.console in omega (arith, same)) }
 
--- Behind calls that raised none the counts are those of the later ones.
-pub counts_behind : {T : Type 0} (old mid new : PlantState) (result : Result T Stop) → NoneRisen old mid → StopsByCount mid new result → StopsByCount old new result
-counts_behind {T} old mid new result none counts = record {
+-- After calls that raised none the counts are those of the later ones.
+pub counts_after : {T : Type 0} (old mid new : PlantState) (result : Result T Stop) → NoneRisen old mid → StopsByCount mid new result → StopsByCount old new result
+counts_after {T} old mid new result none counts = record {
   devices = λ d store no_stop. counts.devices d store no_stop ∙ none.devices d store;
   console = λ no_stop. counts.console no_stop ∙ none.console;
   later = λ d. omega (arith, none.fell.devices d, counts.later d);

@@ -1,4 +1,4 @@
--- A session at rest is at rest again behind a command whose change is logged and taken over.
+-- A session at rest is at rest again after a command whose change is logged and taken over.
 use Rattle.std.proofs.Common.{◌≡◌, ◌≤◌, ℕ, nat_eq, Bool, true, ◌&&◌, List, [], ◌∷◌, length, Option, Some, None, Ok, refl, sym, ap, subst, ◌∙◌, arith, inr}
 use Rattle.std.specs.Prelude.{IfSome, IsSomeAnd, bytes_eq, slice_index_or}
 use Rattle.std.specs.List.{Contains, list_all}
@@ -20,9 +20,9 @@ use Rattle.row_changes.specs.Changes.RowChange.{Hit}
 use Rattle.xrc_journal.specs.Items.{Item}
 use Rattle.turn_group.specs.Notes.{known_of, volumes_known}
 use Rattle.site_store.specs.IdleSites.{IsSiteIdle}
-use Rattle.site_store.specs.Changing.{IsBehindChange, LogsChange, changed_items}
-use Rattle.site_store.specs.Commands.{behind_command}
-use Rattle.site_store.specs.Records.{behind_placement}
+use Rattle.site_store.specs.Changing.{IsAfterChange, LogsChange, changed_items}
+use Rattle.site_store.specs.Commands.{after_command}
+use Rattle.site_store.specs.Records.{after_placement}
 use Rattle.site_store.specs.Sites.{SiteState}
 use Rattle.site_store.proofs.Between.{changed_idle}
 use Rattle.site_store.proofs.ByPlacements.{RecordPlacement, by_placements}
@@ -31,11 +31,11 @@ use Rattle.xrc_session.specs.Taking.{IfAdds, IsSoundForRows, after_calls, calls_
 use Rattle.xrc_session.proofs.Walking.{found_in}
 use Rattle.mover.specs.declared.lane.Lane.{Lane}
 use Rattle.mover.specs.Rounds.{AreLanesOf}
-use Rattle.xrc_session.specs.Joins.{AreNamedOfLanes, HasInHeader, IsRowOfLane, RestsBehindCommands, StaysForReaders}
-use Rattle.xrc_session.proofs.JoinsLanes.{changes_stay, lanes_behind}
+use Rattle.xrc_session.specs.Joins.{AreNamedOfLanes, HasInHeader, IsRowOfLane, RestsAfterCommands, StaysForReaders}
+use Rattle.xrc_session.proofs.JoinsLanes.{changes_stay, lanes_after}
 use Rattle.xrc_session.proofs.JoinsRows.{kept_known, some_of}
 
--- ---- the site behind the change
+-- ---- the site after the change
 
 -- What a change's record leaves of a site: its time is the record's, and the pairs are those of the command's rows.
 record IsLeftByChange (at : ℕ) (site next : SiteState) : Type 0 where
@@ -48,11 +48,11 @@ hit_pairs : (level : Level) (time : ℕ) (hit : List ℕ) (rows : List PairRow) 
 hit_pairs level time [] rows = refl
 hit_pairs level time (d ∷ hit) rows = same_pairs level (record { time = time; change = Hit (d ∷ hit) } ∷ []) rows
 
-logged_record : (at : ℕ) (change : Change) (placement : RecordPlacement) (site next : SiteState) (old : PlantState) → IsBehindChange at change placement site next old → IsLeftByChange at site next
-logged_record at change placement site next old behind = subst (λ (t : SiteState). IsLeftByChange at site t) (sym behind.next_is) (record {
-  controls = by_placements (λ (w : RecordPlacement). (behind_placement w site).controls ≡ site.controls) refl refl refl placement;
+logged_record : (at : ℕ) (change : Change) (placement : RecordPlacement) (site next : SiteState) (old : PlantState) → IsAfterChange at change placement site next old → IsLeftByChange at site next
+logged_record at change placement site next old after = subst (λ (t : SiteState). IsLeftByChange at site t) (sym after.next_is) (record {
+  controls = by_placements (λ (w : RecordPlacement). (after_placement w site).controls ≡ site.controls) refl refl refl placement;
   time = refl;
-  marked = by_placements (λ (w : RecordPlacement). site.since ≡ 0 → (behind_placement w site).since ≡ 0) (λ e. e) (λ e. e) (λ e. refl) placement;
+  marked = by_placements (λ (w : RecordPlacement). site.since ≡ 0 → (after_placement w site).since ≡ 0) (λ e. e) (λ e. e) (λ e. refl) placement;
   pairs = hit_pairs site.level at (hit_now next.failed site.table.rows) site.table.rows;
 })
 
@@ -63,7 +63,7 @@ logged_change at change site next old was is time logs = choose (changed_items c
     choose [] none = subst (λ (t : SiteState). IsLeftByChange at site t) (sym (logs.nothing none).1) (record { controls = refl; time = time; marked = λ e. e; pairs = refl })
     choose (i ∷ items) some =
         let logged = logs.rows (λ none. let clash : i ∷ items ≡ [] = sym some ∙ none in cc clash) in
-        logged_record at change logged.placement site next old logged.behind
+        logged_record at change logged.placement site next old logged.after
 
 -- ---- rows of lanes
 
@@ -104,11 +104,11 @@ module _ {S : Type 0} (lanes : List (Lane S)) (names : Naming) (are : AreNamedOf
 
 -- ---- at rest
 
-pub rests_behind : {S P : Type 0} (tells : Type 0) (was is : P) (lanes : List (Lane S)) (old new : PlantState) → RestsBehindCommands tells was is lanes old new
-rests_behind tells was is lanes old new names session command change at group end site next named may rest taken = record {
+pub rests_after : {S P : Type 0} (tells : Type 0) (was is : P) (lanes : List (Lane S)) (old new : PlantState) → RestsAfterCommands tells was is lanes old new
+rests_after tells was is lanes old new names session command change at group end site next named may rest taken = record {
   cut = ap (λ (g : Group). g.last.0) taken.calls ∙ ap (λ (t : Stamp). t.0) stays.last ∙ rest.cut;
   time = logged.time;
-  lanes_of = subst (λ (g : Group). AreLanesOf g at lanes) (sym taken.calls) (lanes_behind lanes at change site.table.rows next.table.rows group rest.lanes_of added);
+  lanes_of = subst (λ (g : Group). AreLanesOf g at lanes) (sym taken.calls) (lanes_after lanes at change site.table.rows next.table.rows group rest.lanes_of added);
   begins = record {
     rests = idle.may;
     marked = logged.marked rest.begins.marked;
@@ -124,7 +124,7 @@ rests_behind tells was is lanes old new names session command change at group en
 }
   where
     changed : SiteState
-    changed = behind_command names session command at change site
+    changed = after_command names session command at change site
 
     logged : IsLeftByChange at changed next
     logged = logged_change at change changed next old was is rest.time taken.logs

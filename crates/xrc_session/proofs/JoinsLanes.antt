@@ -1,4 +1,4 @@
--- Lanes up to a later limit, and behind the calls of a change.
+-- Lanes up to a later limit, and after the calls of a change.
 use Rattle.std.proofs.Common.{◌≡◌, ◌≤◌, ◌<◌, ◌*◌, ℕ, nat_lt, nat_eq, Bool, true, false, ◌&&◌, cond, List, [], ◌∷◌, ◌++◌, length, Option, Some, None, refl, sym, ap, subst, ◌∙◌, arith, inl, inr}
 use Rattle.std.specs.Prelude.{IfSome, IsSomeAnd, slice_index_or}
 use Rattle.std.specs.List.{flat_map, list_all}
@@ -17,7 +17,7 @@ use Rattle.pair_table.specs.declared.command.Change.TheVariants.{Nothing, Starte
 use Rattle.pair_table.specs.declared.row.PairRow.{PairRow}
 use Rattle.pair_table.specs.Devices.{is_among}
 use Rattle.pair_table.specs.Tables.{row_of}
-use Rattle.group_state.specs.Controls.{ControlState, begun_volume, dropped, forgotten, is_telling, resumed}
+use Rattle.group_state.specs.Controls.{ControlState, begun_volume, dropped, forgotten, is_reporting, resumed}
 use Rattle.group_state.specs.Groups.{Group, control_at, with_control}
 use Rattle.group_state.specs.Machine.{Call, group_after}
 use Rattle.group_state.specs.Machine.Call.{Join, NextWanted, Copied, Raise, Break, Form, Carry, Drop, Resume, Forget}
@@ -33,7 +33,7 @@ use Rattle.mover.specs.declared.lane.Lane.{Lane}
 use Rattle.mover.specs.Readers.{IsOfHeader, LaneReaderState, is_of_header}
 use Rattle.mover.specs.Lanes.{IsReaderOf, IsSameLane, heads_of}
 use Rattle.mover.specs.Rounds.{AreLanesOf}
-use Rattle.xrc_session.specs.Joins.{ChangesStayForReaders, EpochsMayBeginLater, HasInHeader, IsRowOfLane, LanesStandBehindChanges, LanesStandLater, NamedVolumesStay, StaysForReaders}
+use Rattle.xrc_session.specs.Joins.{ChangesStayForReaders, EpochsMayBeginLater, HasInHeader, IsRowOfLane, LanesStandAfterChanges, LanesStandLater, NamedVolumesStay, StaysForReaders}
 
 -- ---- a later limit
 
@@ -44,7 +44,7 @@ reader_by (Some r) P Q up is = up r is
 
 reader_later : (group : Group) (k limit later : ℕ) (r : LaneReaderState) → limit ≤ later → IsReaderOf group k limit r → IsReaderOf group k later r
 reader_later group k limit later r up h =
-    record { control = h.control; sized = h.sized; floor = h.floor; telling = h.telling; broken = h.broken; within = (let within = h.within in omega (arith, within, up)); goes = h.goes }
+    record { control = h.control; sized = h.sized; floor = h.floor; reporting = h.reporting; broken = h.broken; within = (let within = h.within in omega (arith, within, up)); goes = h.goes }
 
 pub lanes_later : {S : Type 0} (lanes : List (Lane S)) → LanesStandLater lanes
 lanes_later lanes group limit later up h =
@@ -178,14 +178,14 @@ changes_stay change before after s = calls_stay IsAnyVolume (calls_of_change cha
 
 -- ---- lanes
 
--- A reader is still its control's, if that stays for readers and has volumes of the reader's header.
+-- A reader is still its controller's, if that stays for readers and has volumes of the reader's header.
 reader_stays : (s t : Group) (k limit : ℕ) (r : LaneReaderState) → k < length s.controls → StaysForReaders s t → IsOfHeader (heads_of r.feed) (control_at t k) → IsReaderOf s k limit r → IsReaderOf t k limit r
 reader_stays s t k limit r low stays sized h = record {
   control = h.control;
   sized = sized;
   floor = λ goes. ap (λ (x : Stamp). x.0) (stays.floor k low) ∙ h.floor goes;
-  telling = λ goes. ap is_telling (stays.phase k low) ∙ h.telling goes;
-  broken = λ cause upto is. ap is_telling (stays.phase k low) ∙ h.broken cause upto is;
+  reporting = λ goes. ap is_reporting (stays.phase k low) ∙ h.reporting goes;
+  broken = λ cause upto is. ap is_reporting (stays.phase k low) ∙ h.broken cause upto is;
   within = h.within;
   goes = h.goes;
 }
@@ -208,7 +208,7 @@ carry_sized : (heads : List VolumeHead) (v : ℕ) (plan : PlanState) (c : Contro
 carry_sized heads v plan c is h = list_all-append (is_of_header heads) c.volumes (begun v plan ∷ []) ∙ and_from (list_all (is_of_header heads) c.volumes) (is_of_header heads (begun v plan) && true) h (and_from (is_of_header heads (begun v plan)) true is refl)
 
 module _ {S : Type 0} (lanes : List (Lane S)) (limit : ℕ) where
-  -- what a change of one control leaves of the lanes
+  -- what a change of one controller leaves of the lanes
   lanes_with : (s : Group) (j : ℕ) (change : ControlState → ControlState) → StaysForReaders s (with_control j change s)
       → ((d : Lane S) (r : LaneReaderState) → (slice_index_or lanes j d).reader ≡ Some r → IsOfHeader (heads_of r.feed) (control_at s j) → IsOfHeader (heads_of r.feed) (change (control_at s j)))
       → AreLanesOf s limit lanes → AreLanesOf (with_control j change s) limit lanes
@@ -268,8 +268,8 @@ module _ {S : Type 0} (lanes : List (Lane S)) (limit : ℕ) where
   volume_added (Suspended devices) after is = tt
   volume_added Ended after is = tt
 
-pub lanes_behind : {S : Type 0} (lanes : List (Lane S)) → LanesStandBehindChanges lanes
-lanes_behind lanes limit change before after s h adds =
+pub lanes_after : {S : Type 0} (lanes : List (Lane S)) → LanesStandAfterChanges lanes
+lanes_after lanes limit change before after s h adds =
     lanes_calls lanes limit (calls_of_change change s before after) s (calls_are (IsVolumeOfLane lanes) change s before after (volume_added lanes limit change after adds)) h
 
 -- ---- names

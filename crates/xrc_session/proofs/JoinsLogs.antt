@@ -1,4 +1,4 @@
--- Rows stand behind a log of calls, whatever the traces are, and the shared state keeps their volumes.
+-- Rows stand after a log of calls, whatever the traces are, and the shared state keeps their volumes.
 use Rattle.std.proofs.Common.{◌≡◌, ◌<◌, ℕ, nat_eq, Bool, true, false, cond, ◌&&◌, ◌||◌, ◌⊎◌, List, [], ◌∷◌, length, map, Some, Option, refl, sym, ap, subst, ◌∙◌, inl, inr, true≢false}
 use Rattle.std.specs.List.{list_all, list_any}
 use Rattle.std.proofs.lemmas.Bool.{and_from, and_parts, eqb-true}
@@ -40,12 +40,12 @@ use Rattle.mover.specs.Epochs.{IsSamePair}
 use Rattle.mover.proofs.CarriedAgain.{apart_again, carried_again}
 use Rattle.mover.proofs.LanesAgain.{sizes_stay}
 use Rattle.mover.proofs.SamePairs.{any_there, at_of}
-use Rattle.xrc_session.specs.Joins.{EpochsComeToRest, RowsStandBehindLogs}
+use Rattle.xrc_session.specs.Joins.{EpochsComeToRest, RowsStandAfterLogs}
 use Rattle.xrc_session.proofs.JoinsRows.{HasSome, some_of}
 
 -- ---- a log
 
--- Rows stand behind quiet deeds, and a state that every call keeps is kept.
+-- Rows stand after quiet deeds, and a state that every call keeps is kept.
 stands_quiet : (s : Group) (time : ℕ) (done : Plans) (quiet : List Deed) (rows next : List PairRow) → AreQuiet time rows quiet next → Stand s rows done → Stand s next done
 stands_quiet s time done [] rows next is stand = subst (λ (r : List PairRow). Stand s r done) (sym is) stand
 stands_quiet s time done (Logged cut entries fewer ∷ quiet) rows next is stand = absurd is
@@ -120,7 +120,7 @@ module _ (ended : ℕ) (last : List PairRow) (known : Plans) where
       (subst IsGroupSound (sym same) keeps, subst (λ (g : Group). Stand g last known) (sym same) (subst (λ (p : Plans). Stand s last p) (sym made.2) quiet))
   goes (a ∷ run) end s time rows done deeds keeps runs seats stand made = one a.call a.reply run end (goes run end) s time rows done deeds keeps runs seats stand made
 
-pub rows_stand : RowsStandBehindLogs
+pub rows_stand : RowsStandAfterLogs
 rows_stand s end run time ended rows last done known deeds keeps runs seats stand made = goes ended last known run end s time rows done deeds keeps runs seats stand made
 
 -- ---- what is known of plans before an epoch
@@ -180,7 +180,7 @@ kept_still : (first s : Group) (k v : ℕ) → HasSizesOf first s → is_volume_
 kept_still first s k v h =
     kept_by v (control_at s k).volumes ∙ ap (list_any (λ (u : ℕ × ℕ). nat_eq u.0 v)) (sizes_at first s k h) ∙ sym (kept_by v (control_at first k).volumes)
 
--- ---- behind an epoch
+-- ---- after an epoch
 
 module _ (group next : Group) (before after : List PairRow) (log : List Answer) (known : Plans) (runs : Runs group log next) (seats : list_all is_call_of_seat log ≡ true) (kept : IsSoundForRows group before) (pairs : InPlaces IsSamePair before after) (knows : KnowsRows (volumes_known next) after)
     (stands : IsGroupSound next × Stand next after known) where
@@ -195,8 +195,8 @@ module _ (group next : Group) (before after : List PairRow) (log : List Answer) 
       let p = pair_before has.row after before (same_pairs_of before after pairs) (among_of before has.row has.among) in
       record { row = p.row; among = contains_of p.row after p.among; control = ap (λ (r : PairRow). r.control) p.pair ∙ has.control; volume = ap (λ (r : PairRow). r.volume) p.pair ∙ has.volume; state = tt }
 
-  kept_behind : IsSoundForRows next after
-  kept_behind = record {
+  kept_after : IsSoundForRows next after
+  kept_after = record {
     keeps = stands.0;
     apart = apart;
     each = λ r among. record {
@@ -214,7 +214,7 @@ epochs_rest tells left faults was is limit group next lanes then site after ran 
   time = reached.time.time;
   lanes_of = reached.lanes;
   begins = reached.begins;
-  kept = subst (λ (end : Group). IsSoundForRows end after.told) (sym ran.ended) (kept_behind group ran.end site.told after.told ran.log all.known ran.runs ran.seats kept reached.time.pairs
+  kept = subst (λ (end : Group). IsSoundForRows end after.told) (sym ran.ended) (kept_after group ran.end site.told after.told ran.log all.known ran.runs ran.seats kept reached.time.pairs
       (subst (λ (end : Group). KnowsRows (volumes_known end) after.told) ran.ended reached.begins.knows.rows)
       (rows_stand group ran.end ran.log site.time after.time site.told after.told (plans_of_rows site.told) all.known (deeds_of ran.steps) kept.keeps ran.runs ran.seats (stands_kept group site.told kept) all.makes));
 }

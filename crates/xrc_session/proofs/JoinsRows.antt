@@ -40,7 +40,7 @@ some_of test (x ∷ items) some = elim (or_cases (test x) (list_any test items) 
   | inr later ↦ let n = some_of test items later in let c = n.among in record { item = n.item; among = (suc c.0, (let low = c.1 in omega (arith, low)), c.2); is = n.is }
 ]
 
--- ---- the volumes of a control
+-- ---- the volumes of a controller
 
 known_named : (v : ℕ) (volumes : List Volume) → list_any (names_number v) (map known_volume volumes) ≡ has_volume v volumes
 known_named v [] = refl

@@ -95,16 +95,16 @@ module _ (s : Group) (k v : ℕ) (change : ControlState → ControlState) (rows 
         other_row r apart (kept.each r (subst (λ (x : PairRow). Contains rows x) was.same was.was.among))
   ]
 
-  rowed_behind : k < length s.controls → (is_volume_kept v (change (control_at s k)) ≡ true → HasRowIn IsAny k v next) → (j w : ℕ) → is_volume_kept w (control_at end j) ≡ true → HasRowIn IsAny j w next
-  rowed_behind low rowed = at_volume k v (λ (j w : ℕ). is_volume_kept w (control_at end j) ≡ true → HasRowIn IsAny j w next)
+  rowed_after : k < length s.controls → (is_volume_kept v (change (control_at s k)) ≡ true → HasRowIn IsAny k v next) → (j w : ℕ) → is_volume_kept w (control_at end j) ≡ true → HasRowIn IsAny j w next
+  rowed_after low rowed = at_volume k v (λ (j w : ℕ). is_volume_kept w (control_at end j) ≡ true → HasRowIn IsAny j w next)
       (λ there. rowed (ap (is_volume_kept v) (sym (own_is s k change low)) ∙ there))
       (λ j w apart there.
       let within = kept_within end j w there in
       let low : j < length s.controls = omega (arith, within, same_count s k change) in
       others.forth j w apart (kept.rowed j w (sym (kept_other w (control_at s j) (control_at end j) (other_at s k v j w change change_other apart low)) ∙ there)))
 
-  pub kept_behind : k < length s.controls → none_clash next ≡ true → IsGroupSound end → ((has : HasRowIn IsAny k v next) → IsSoundForRow end has.row) → (is_volume_kept v (change (control_at s k)) ≡ true → HasRowIn IsAny k v next) → IsSoundForRows end next
-  kept_behind low apart keeps own rowed = record { keeps = keeps; apart = apart; each = each_row own; rowed = rowed_behind low rowed }
+  pub kept_after : k < length s.controls → none_clash next ≡ true → IsGroupSound end → ((has : HasRowIn IsAny k v next) → IsSoundForRow end has.row) → (is_volume_kept v (change (control_at s k)) ≡ true → HasRowIn IsAny k v next) → IsSoundForRows end next
+  kept_after low apart keeps own rowed = record { keeps = keeps; apart = apart; each = each_row own; rowed = rowed_after low rowed }
 
   pub counted_still : k < length s.controls → counts (control_at s k).phase ≡ true → counts (control_at end k).phase ≡ true
   counted_still low is = counted k low is
@@ -133,7 +133,7 @@ module _ (s : Group) (rows : List PairRow) (r : PairRow) (kept : IsSoundForRows 
   -- The row is suspended, and its volume dropped.
   pub kept_dropped_row : (state : PairState) (all : Bool) → is_suspended state ≡ true → IsSoundForRows (group_after s (Drop r.control r.volume all)) (with_state r.device state rows)
   kept_dropped_row state all suspends =
-      kept_behind s r.control r.volume (dropped r.volume all) rows (with_state r.device state rows) (stated_others r state rows kept.apart there) (λ u apart. drop_other r.volume u all c apart) (λ d. refl) kept own.low
+      kept_after s r.control r.volume (dropped r.volume all) rows (with_state r.device state rows) (stated_others r state rows kept.apart there) (λ u apart. drop_other r.volume u all c apart) (λ d. refl) kept own.low
       (apart_still rows (with_state r.device state rows) (stated_pairs r state rows kept.apart there) kept.apart) (keeps_drop s r.control r.volume all own.low kept.keeps)
       (λ has. subst (IsSoundForRow (end_dropped all)) (sym (stated_own r state rows kept.apart there IsAny has)) itself) (λ is. stated_there r state rows kept.apart there)
     where
@@ -157,7 +157,7 @@ module _ (s : Group) (rows : List PairRow) (r : PairRow) (kept : IsSoundForRows 
   -- The row is pending again, and its volume is carried again.
   pub kept_resumed_row : is_suspended r.state ≡ true → counts c.phase ≡ true → IsSoundForRows (group_after s (Resume r.control r.volume)) (with_state r.device Pending rows)
   kept_resumed_row suspended counted =
-      kept_behind s r.control r.volume (resumed r.volume) rows (with_state r.device Pending rows) (stated_others r Pending rows kept.apart there) (λ u apart. resume_other r.volume u c apart) (λ d. refl) kept own.low
+      kept_after s r.control r.volume (resumed r.volume) rows (with_state r.device Pending rows) (stated_others r Pending rows kept.apart there) (λ u apart. resume_other r.volume u c apart) (λ d. refl) kept own.low
       (apart_still rows (with_state r.device Pending rows) (stated_pairs r Pending rows kept.apart there) kept.apart) (keeps_resume s r.control r.volume own.low (own.own.dropped suspended) kept.keeps)
       (λ has. subst (IsSoundForRow end_resumed) (sym (stated_own r Pending rows kept.apart there IsAny has)) itself) (λ is. stated_there r Pending rows kept.apart there)
     where
@@ -180,7 +180,7 @@ module _ (s : Group) (rows : List PairRow) (r : PairRow) (kept : IsSoundForRows 
   -- The row is taken out, and its volume, which is dropped, is forgotten.
   pub kept_forgotten_row : is_suspended r.state ≡ true → IsSoundForRows (group_after s (Forget r.control r.volume)) (without_row r.device rows)
   kept_forgotten_row suspended =
-      kept_behind s r.control r.volume (forgotten r.volume) rows (without_row r.device rows) (without_others r rows kept.apart there) (λ u apart. forget_other r.volume u c distinct apart) (λ d. refl) kept own.low
+      kept_after s r.control r.volume (forgotten r.volume) rows (without_row r.device rows) (without_others r rows kept.apart there) (λ u apart. forget_other r.volume u c distinct apart) (λ d. refl) kept own.low
       (apart-filter (λ t. not (is_of r.device t)) rows kept.apart) (keeps_forget s r.control r.volume own.low (own.own.dropped suspended) kept.keeps)
       (λ has. absurd (without_own r rows kept.apart there IsAny has)) (λ is. absurd (true≢false (sym is ∙ ap (passes is_there) (forget_itself r.volume c distinct))))
 
@@ -195,7 +195,7 @@ added_never : (r : PairRow) (rows : List PairRow) → none_clash (rows ++ r ∷ 
 added_never r rows apart has =
     not_itself has.row.control has.row.volume r.control r.volume (apart_last r has.row rows apart (among_of rows has.row has.among)).volume has.control has.volume
 
--- No volume is kept of a control and a number that no row has.
+-- No volume is kept of a controller and a number that no row has.
 unknown_of : (s : Group) (rows : List PairRow) (r : PairRow) → IsSoundForRows s rows → none_clash (rows ++ r ∷ []) ≡ true → has_volume r.volume (control_at s r.control).volumes ≡ false
 unknown_of s rows r kept apart = choose (volume_of r.volume (control_at s r.control).volumes) refl
   where
@@ -234,7 +234,7 @@ module _ (s : Group) (rows : List PairRow) (r : PairRow) (kept : IsSoundForRows 
 
   pub kept_added_row : IsSoundForRows (group_after s (Carry r.control r.volume plan)) (rows ++ r ∷ [])
   kept_added_row =
-      kept_behind s r.control r.volume (begun_volume r.volume plan) rows (rows ++ r ∷ []) (added_others r rows apart) (λ u other. begin_other r.volume u plan (control_at s r.control) may_carry_row.unknown other) (λ d. refl) kept low
+      kept_after s r.control r.volume (begun_volume r.volume plan) rows (rows ++ r ∷ []) (added_others r rows apart) (λ u other. begin_other r.volume u plan (control_at s r.control) may_carry_row.unknown other) (λ d. refl) kept low
       apart (keeps_begin s r.control r.volume plan low may_carry_row kept.keeps)
       (λ has. subst (IsSoundForRow end_there) (sym (added_own r rows apart IsAny has)) itself) (λ is. added_there r rows apart)
 

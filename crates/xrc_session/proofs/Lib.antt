@@ -82,7 +82,7 @@ pub mod AnswerMarks
 pub mod AnswerChanges
 pub mod AnswerCalls
 pub mod AnswerBreaks
-pub mod AnswerTells
+pub mod AnswerSays
 pub mod AnswerTracks
 pub mod LastPoints
 pub mod CommandsSuspend

@@ -1,4 +1,4 @@
--- A line behind whose command a session stands may be replied to, and the session stands behind the line.
+-- A line after whose command a session stands may be replied to, and the session stands after the line.
 use Rattle.xrc_session.specs.MapsTaken.{WantsOwed}
 use Rattle.xrc_session.proofs.OnTrail.{shown_on_trail}
 use Rattle.std.proofs.Common.{◌≡◌, inl, inr, ℕ, ◌^◌, ◌<◌, Bool, true, false, true≢false, List, [], ◌∷◌, ◌++◌, length, Option, Some, None, refl, sym, ap, subst, ◌∙◌, arith}
@@ -19,7 +19,7 @@ use Rattle.site_store.specs.Sites.{SiteState}
 use Rattle.consistency.specs.Answering.{answered_by, reply_content, points_before}
 use Rattle.consistency.specs.Bearing.{MayBeMeant, ShowsPoint}
 use Rattle.consistency.specs.Stages.{ScriptRun, Stage, accepts, accepts_end, breaks_of, names_of}
-use Rattle.consistency.specs.Pauses.{AreToldOf, HasPassed, MayReply, asked_in}
+use Rattle.consistency.specs.Pauses.{AreSaidOf, HasPassed, MayReply, asked_in}
 use Rattle.consistency.specs.Courses.{Answered, IsAnswered}
 use Rattle.consistency.specs.Leads.{Comes, Point}
 use Rattle.consistency.specs.Replying.{HasNames, IsExact}
@@ -38,12 +38,12 @@ use Rattle.mover.specs.Working.{LinesAsked}
 use Rattle.xrc_status.specs.declared.stop.Stop.TheVariants.{NoMemory}
 use Rattle.xrc_session.specs.declared.answering.LineAnswer.{LineAnswer}
 use Rattle.xrc_session.specs.Answering.{AreOfCommand, HasCommanded, stage_then}
-use Rattle.xrc_session.specs.Answering.AreOfCommand.{BehindMark, OfCommand, OfEnd}
+use Rattle.xrc_session.specs.Answering.AreOfCommand.{AfterMark, OfCommand, OfEnd}
 use Rattle.xrc_session.specs.AppliedEnds.{IsAllApplied}
-use Rattle.xrc_session.specs.LinePauses.{GoesOnFrom, HasComeToRest, HasNotBegun, IsRunOfSession, RestsAtSite, StandsAtLeg, StandsBehindLines, site_point, stage_behind}
+use Rattle.xrc_session.specs.LinePauses.{GoesOnFrom, HasComeToRest, HasNotBegun, IsRunOfSession, RestsAtSite, StandsAfterLines, StandsAtLeg, site_point, stage_after_text}
 use Rattle.xrc_session.specs.Ends.{StopsInLine}
 use Rattle.xrc_session.specs.States.{SessionState, site_time}
-use Rattle.xrc_session.specs.Steps.{IsExactBehind, IsToReply, PassesPointsOn, TellsAnswer, line_answered}
+use Rattle.xrc_session.specs.Steps.{IsExactAfter, IsToReply, PassesPointsOn, SaysAnswer, line_answered}
 use Rattle.xrc_session.specs.Trails.{AreNext, BeginsAtStart, BringsChanges, GoesForth, Trail, asked_with, first_leg, last_leg, with_points, StandsOnTrail}
 use Rattle.xrc_session.proofs.Asked.{asked_of_lines, asked_there, fold_append}
 use Rattle.xrc_session.proofs.Courses.{none_next, past_counted}
@@ -72,15 +72,15 @@ ended_stays run table line ended = subst (λ (e : Bool). (commanded (breaks_of r
 -- Its lines change nothing.
 ended_command : (run : ScriptRun) (asked : LinesAsked) (number : ℕ) (hits : List Timed) (l : Leg) (more : List PassedPoint) → l.point.is_ended ≡ true → AreOfCommand number hits more → AreLinked (ComesNext run asked) leg_after l more → hits ≡ []
 ended_command run asked number hits l more ended (OfCommand n is) linked = ((subst (λ (w : Way). ComesBy run asked l n.point w) is linked.0.0).2.ended ended).1
-ended_command run asked number hits l more ended (OfEnd n m own behind is ends all) linked =
+ended_command run asked number hits l more ended (OfEnd n m own follows is ends all) linked =
     let come = subst (λ (w : Way). ComesBy run asked l n.point w) is linked.0.0 in
     let there = subst (λ (w : Way). ComesNext run asked (leg_by l n.point w) m) is linked.1.0 in
     let ending = subst (λ (w : Way). ComesBy run asked (leg_by l n.point (Commanded number own)) m.point w) ends there.0 in
     absurd (never_ended run n.point (asked number) (ap (λ (p : Point). p.is_ended) (come.2.ended ended).0 ∙ ended) ending.1.accepted)
-ended_command run asked number hits l more ended (BehindMark n points (inl way) rest) linked =
+ended_command run asked number hits l more ended (AfterMark n points (inl way) rest) linked =
     let come = subst (λ (w : Way). ComesBy run asked l n.point w) way linked.0.0 in
     absurd (true≢false (sym ended ∙ come.0.goes_on))
-ended_command run asked number hits l more ended (BehindMark n points (inr marked) rest) linked =
+ended_command run asked number hits l more ended (AfterMark n points (inr marked) rest) linked =
     let come = subst (λ (w : Way). ComesBy run asked l n.point w) marked.1 linked.0.0 in
     absurd (true≢false (sym ended ∙ come.1.goes_on))
 
@@ -94,10 +94,10 @@ begun_at run s before l leg begun =
     let rows : l.point.rows ≡ s.table.rows = leg.whole.leads.rows ∙ ap (λ (c : List Timed). after_changes run.level c s.table.rows) begun.changes in
     (λ i. record { time = time i; rows = rows i; due = sym there.1 i; is_ended = leg.whole.leads.goes_on i })
 
--- ---- behind the command
+-- ---- after the command
 
--- What a session has that stands behind the command of a line.
-pub record IsBehindCommand {S : Type 0} (run : ScriptRun) (s : SessionState) (lanes : List (Lane S)) (site : SiteState) (now : PlantState) : Type 0 where
+-- What a session has that stands after the command of a line.
+pub record IsAfterCommand {S : Type 0} (run : ScriptRun) (s : SessionState) (lanes : List (Lane S)) (site : SiteState) (now : PlantState) : Type 0 where
   pub its : IsRunOfSession s run
   pub site_is : s.site ≡ Some site
   pub table : s.table ≡ site.table
@@ -115,13 +115,13 @@ pub record IsAtLeg (run : ScriptRun) (lines : List Answered) (stage : Stage) (l 
   pub answered : l.answered ≡ length lines
   pub ended : stage.table.is_ended ≡ true → (l.point ≡ stage_point stage) × (l.changes ≡ [])
 
-module _ {S : Type 0} (run : ScriptRun) (lines : List Answered) (trail : Trail) (more : List PassedPoint) (text : List ℕ) (line : Line) (began mid new : PlantState) (heard : (stage_behind run lines text began).next ≡ Some line)
-    (before : IsWithin run lines trail text (Some line) began mid) (at_leg : IsAtLeg run lines (stage_behind run lines text began) (last_leg run lines trail)) (behind : IsWithin run lines (with_points more trail) text (Some line) began new)
-    (passes : PassesPointsOn run (stage_behind run lines text began) (asked_with lines (Some line)) (last_leg run lines trail) more None mid new) (answered : LineAnswer) (s : SessionState) (lanes : List (Lane S)) (site : SiteState)
-    (stands : IsBehindCommand run s lanes site new)
-    (done : HasCommanded run (stage_behind run lines text began) line (asked_with lines (Some line)) (last_leg run lines trail) (first_leg run lines trail).point trail.points more answered site began new s.group) (short : line.time.0 < 2 ^ 64) where
+module _ {S : Type 0} (run : ScriptRun) (lines : List Answered) (trail : Trail) (more : List PassedPoint) (text : List ℕ) (line : Line) (began mid new : PlantState) (heard : (stage_after_text run lines text began).next ≡ Some line)
+    (before : IsWithin run lines trail text (Some line) began mid) (at_leg : IsAtLeg run lines (stage_after_text run lines text began) (last_leg run lines trail)) (follows : IsWithin run lines (with_points more trail) text (Some line) began new)
+    (passes : PassesPointsOn run (stage_after_text run lines text began) (asked_with lines (Some line)) (last_leg run lines trail) more None mid new) (answered : LineAnswer) (s : SessionState) (lanes : List (Lane S)) (site : SiteState)
+    (stands : IsAfterCommand run s lanes site new)
+    (done : HasCommanded run (stage_after_text run lines text began) line (asked_with lines (Some line)) (last_leg run lines trail) (first_leg run lines trail).point trail.points more answered site began new s.group) (short : line.time.0 < 2 ^ 64) where
   abbrev stage : Stage
-  stage = stage_behind run lines text began
+  stage = stage_after_text run lines text began
 
   abbrev asked : LinesAsked
   asked = asked_with lines (Some line)
@@ -160,7 +160,7 @@ module _ {S : Type 0} (run : ScriptRun) (lines : List Answered) (trail : Trail) 
   has_names = course_has_names run lines stands.its.names before.goes.now.course (length lines) (omega arith)
 
   of_line : AreOfLine run stage asked first trail.points more l.answered done.hits
-  of_line = record { before = before.next; leg = at_leg.leg; none_marked = before.marked; answered = refl; behind = passes.linked; by = done.by }
+  of_line = record { before = before.next; leg = at_leg.leg; none_marked = before.marked; answered = refl; after = passes.linked; by = done.by }
 
   -- ---- the answer
 
@@ -201,7 +201,7 @@ module _ {S : Type 0} (run : ScriptRun) (lines : List Answered) (trail : Trail) 
 
     passed : 0 < new.clock → HasPassed run (asked_in (lines ++ a ∷ [])) first after.points new new.clock
     passed up =
-        let forth = behind.goes_forth up in
+        let forth = follows.goes_forth up in
         record {
           rowless = forth.rowless;
           from = forth.from;
@@ -210,9 +210,9 @@ module _ {S : Type 0} (run : ScriptRun) (lines : List Answered) (trail : Trail) 
           linked = subst (λ (f : LinesAsked). AreLinked (ComesNext run f) leg_after first after.points) (sym (asked_of_lines lines a)) forth.linked;
         }
 
-    told : 0 < new.clock → AreToldOf run stage lines (first_leg run (lines ++ a ∷ []) after) after.points a new new.clock
+    told : 0 < new.clock → AreSaidOf run stage lines (first_leg run (lines ++ a ∷ []) after) after.points a new new.clock
     told up =
-        subst (λ (k : Leg). AreToldOf run stage lines k after.points a new new.clock) (sym first_is)
+        subst (λ (k : Leg). AreSaidOf run stage lines k after.points a new new.clock) (sym first_is)
         (told_of_line run stage asked first trail.points more l.answered done.hits of_line lines a new new.clock at_leg.answered refl (passed up))
 
     brings : BringsChanges run stage (first_leg run (lines ++ a ∷ []) after) after.points (length lines) a
@@ -220,7 +220,7 @@ module _ {S : Type 0} (run : ScriptRun) (lines : List Answered) (trail : Trail) 
         subst (λ (k : Leg). BringsChanges run stage k after.points (length lines) a) (sym first_is)
         (brings_of_line run stage asked first trail.points more l.answered done.hits of_line lines a at_leg.answered refl)
 
-    may_reply : IsExactBehind run lines after text began a → MayReply run stage lines (first_leg run (lines ++ a ∷ []) after) after.points a new
+    may_reply : IsExactAfter run lines after text began a → MayReply run stage lines (first_leg run (lines ++ a ∷ []) after) after.points a new
     may_reply exact = record {
       asks = heard;
       answered = answers reply (first_leg run (lines ++ a ∷ []) after).point after.points (length lines) exact;
@@ -228,23 +228,23 @@ module _ {S : Type 0} (run : ScriptRun) (lines : List Answered) (trail : Trail) 
       names = has_names;
       short = short;
       told = λ up started. told up;
-      may = λ started. subst (λ (p : Point). MayBeMeant run stage p) (ap (λ (k : Leg). k.point) joined ∙ point_is) behind.may;
+      may = λ started. subst (λ (p : Point). MayBeMeant run stage p) (ap (λ (k : Leg). k.point) joined ∙ point_is) follows.may;
       shows = λ started c is. subst (λ (p : Point). ShowsPoint run (shape_of new) p c) (sym at.here ∙ point_is) (at.shows c is);
     }
 
-    -- ---- behind the line
+    -- ---- after the line
 
-    abbrev behind_stage : Stage
-    behind_stage = stage_behind run (lines ++ a ∷ []) [] began
+    abbrev after_stage : Stage
+    after_stage = stage_after_text run (lines ++ a ∷ []) [] began
 
-    stage_is : behind_stage ≡ then_stage
+    stage_is : after_stage ≡ then_stage
     stage_is = stage_answered run began.script lines a
 
     -- The session's table is that of its point.
     site_table : site.table ≡ table_at run (site_point site)
     site_table = λ i. record { session = stands.session i; is_started = stands.started i; is_ended = sym stands.flag i; rows = sym stands.told i }
 
-    table_is : behind_stage.table ≡ s.table
+    table_is : after_stage.table ≡ s.table
     table_is =
         ap (λ (x : Stage). x.table) stage_is ∙ at.leg.table ∙ ap (table_at run) (sym point_is ∙ at.here) ∙ sym site_table ∙ sym stands.table
 
@@ -288,26 +288,26 @@ module _ {S : Type 0} (run : ScriptRun) (lines : List Answered) (trail : Trail) 
           ∙ not_ending (accepts_end run (table_at run last.point) (Some line)) refl;
     }
 
-    begins_behind : BeginsAtStart run (lines ++ a ∷ []) after
-    begins_behind = record {
+    begins_after : BeginsAtStart run (lines ++ a ∷ []) after
+    begins_after = record {
       within = omega (arith, before.started, length_push lines a);
       before = λ n early within. ap (λ (x : Stage). x.table.is_started) (stage_front run lines (a ∷ []) n (omega (arith, early, before.started))) ∙ before.begins.before n early (omega (arith, early, before.started));
       after = λ some there. ap (λ (x : Stage). x.table.is_started) (stage_front run lines (a ∷ []) after.started (omega (arith, before.started))) ∙ before.begins.after before.some before.started;
     }
 
-    rests : RestsAtSite run (lines ++ a ∷ []) behind_stage after s began new site
+    rests : RestsAtSite run (lines ++ a ∷ []) after_stage after s began new site
     rests = record {
       under_way = record {
         some = before.some;
         started = omega (arith, before.started, length_push lines a);
-        begins = begins_behind;
+        begins = begins_after;
         rowless = ap (λ (k : Leg). k.point.rows) first_is ∙ before.rowless;
-        next = subst (λ (o : Option Line). AreNext run (lines ++ a ∷ []) o after) (sym nothing_next) (next_answered run lines after a before.started behind.next);
+        next = subst (λ (o : Option Line). AreNext run (lines ++ a ∷ []) o after) (sym nothing_next) (next_answered run lines after a before.started follows.next);
         goes_forth = λ up.
             subst (λ (o : Option Line). GoesForth run (lines ++ a ∷ []) o after None began new) (sym nothing_next)
-            (forth_answered run lines after a before.started began new (behind.goes_forth up));
+            (forth_answered run lines after a before.started began new (follows.goes_forth up));
         at =
-            subst (λ (k : Leg). StandsAtLeg run behind_stage k site began new) (sym last_is)
+            subst (λ (k : Leg). StandsAtLeg run after_stage k site began new) (sym last_is)
             (subst (λ (x : Stage). StandsAtLeg run x last site began new) (sym stage_is) at);
         goes_on = λ on. subst (λ (k : Leg). IsSomeAnd s.group (GoesOnFrom run k.point after.points site new)) (sym first_is) (done.goes_on on);
       };
@@ -315,57 +315,57 @@ module _ {S : Type 0} (run : ScriptRun) (lines : List Answered) (trail : Trail) 
       named = stands.named;
     }
       where
-        nothing_next : behind_stage.next ≡ None
+        nothing_next : after_stage.next ≡ None
         nothing_next = none_next run began.script (lines ++ a ∷ [])
 
-    stands_behind : StandsBehindLines run (lines ++ a ∷ []) behind_stage after s began new
-    stands_behind = record {
+    stands_after : StandsAfterLines run (lines ++ a ∷ []) after_stage after s began new
+    stands_after = record {
       its = stands.its;
       table = table_is;
-      volumes = behind.volumes;
-      place = subst (λ (o : Option SiteState). MatchOption o (HasNotBegun after began new) (RestsAtSite run (lines ++ a ∷ []) behind_stage after s began new)) (sym stands.site_is) rests;
+      volumes = follows.volumes;
+      place = subst (λ (o : Option SiteState). MatchOption o (HasNotBegun after began new) (RestsAtSite run (lines ++ a ∷ []) after_stage after s began new)) (sym stands.site_is) rests;
     }
 
-    tells : TellsAnswer line (reply_content run stage (first_leg run (lines ++ a ∷ []) after).point after.points (length lines) a) answered
+    tells : SaysAnswer line (reply_content run stage (first_leg run (lines ++ a ∷ []) after).point after.points (length lines) a) answered
     tells =
-        subst (λ (k : Leg). TellsAnswer line (reply_content run stage k.point after.points (length lines) a) answered) (sym first_is)
-        (subst (λ (n : ℕ). TellsAnswer line (reply_content run stage first.point after.points n a) answered) at_leg.answered (done.tells text reply))
+        subst (λ (k : Leg). SaysAnswer line (reply_content run stage k.point after.points (length lines) a) answered) (sym first_is)
+        (subst (λ (n : ℕ). SaysAnswer line (reply_content run stage first.point after.points n a) answered) at_leg.answered (done.tells text reply))
 
-  -- Where there is no memory for the reply the session stops behind the points.
+  -- Where there is no memory for the reply the session stops after the points.
   stops : StopsInLine run lines text began new NoMemory
   stops = record {
     trail = after;
     stopped = record {
       part = None;
-      stands = behind.goes;
-      exact = behind.exact;
-      unstarted = λ unstarted. absurd (omega (arith, unstarted, behind.some));
-      begun = λ on. (behind.some, behind.begins);
+      stands = follows.goes;
+      exact = follows.exact;
+      unstarted = λ unstarted. absurd (omega (arith, unstarted, follows.some));
+      begun = λ on. (follows.some, follows.begins);
       next = None;
       on_trail = λ some.
           subst (λ (o : Option Line). StandsOnTrail run lines o after None new) (sym heard)
-          (shown_on_trail run lines (Some line) after new behind.rowless behind.next behind.marked
+          (shown_on_trail run lines (Some line) after new follows.rowless follows.next follows.marked
           (subst (λ (p : Point). AtNow (ShowsPoint run (shape_of new) p) new) (sym (ap (λ (k : Leg). k.point) joined ∙ at.here)) at.shows));
-      goes_forth = λ past some. subst (λ (o : Option Line). GoesForth run lines o after None began new) (sym heard) (behind.goes_forth (omega (arith, past, behind.goes.now.later)));
+      goes_forth = λ past some. subst (λ (o : Option Line). GoesForth run lines o after None began new) (sym heard) (follows.goes_forth (omega (arith, past, follows.goes.now.later)));
     };
-    volumes = behind.volumes;
+    volumes = follows.volumes;
     spent = λ is. absurd cc;
   }
 
   -- The line may be replied to.
   pub line_to_reply : IsToReply run lines after text line answered s lanes began new
   line_to_reply = record {
-    goes = behind.goes;
+    goes = follows.goes;
     changes = l.changes;
     hits = done.hits;
-    begins = behind.begins;
-    exact = behind.exact;
+    begins = follows.begins;
+    exact = follows.exact;
     brings = λ reply on. brings reply;
     stops = stops;
     unhit = done.unhit;
     tells = tells;
     may = may_reply;
-    stands = stands_behind;
+    stands = stands_after;
     broke = subst (λ (o : Option SiteState). LanesBrokeAs (site_time o) run.traces lanes) (sym stands.site_is) stands.broke;
     applied = λ reply ended. stands.applied (sym (ap (λ (t : Table). t.is_ended) (table_is reply ∙ stands.table)) ∙ ended);
     wants = λ reply device is on.

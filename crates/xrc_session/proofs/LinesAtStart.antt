@@ -22,7 +22,7 @@ use Rattle.site_store.specs.Sites.{SiteState}
 use Rattle.mover.specs.declared.lane.Lane.{Lane}
 use Rattle.xrc_command.specs.declared.line.Line.{Line}
 use Rattle.xrc_session.specs.declared.answering.LineAnswer.{LineAnswer}
-use Rattle.xrc_session.specs.Answering.{answer_told}
+use Rattle.xrc_session.specs.Answering.{answer_said}
 use Rattle.xrc_session.specs.LinePauses.{IsAtSite, IsBetween, IsUnstarted}
 use Rattle.xrc_session.specs.Frames.{SuspendsByCounts}
 use Rattle.xrc_session.specs.Lines.{IsBegunTable, IsStartAnswered, IsStartedAt}
@@ -46,9 +46,9 @@ level_in_done (Ok (changes.Suspended devices)) c level is = absurd cc
 level_in_done (Ok changes.Ended) c level is = absurd cc
 level_in_done (Err why) c level is = absurd cc
 
--- What the session's own table tells of a line's command, and what the table is behind it.
+-- What the session's own table tells of a line's command, and what the table is after it.
 module _ (names : Naming) (s : SessionState) (table now : Table) (line : Line) (done : Result Change CommandError) (told : Result Change Refusal) (table_is : table ≡ s.table) (change : IfOk done (λ change. answer names table line.session line.command ≡ Ok change))
-    (refused : (why : Refusal) → done ≡ Err (errors.Refused why) → refusal names table line.session line.command ≡ Some why) (same : answer_told done ≡ Ok told) where
+    (refused : (why : Refusal) → done ≡ Err (errors.Refused why) → refusal names table line.session line.command ≡ Some why) (same : answer_said done ≡ Ok told) where
   pub answer_is : told ≡ answer names s.table line.session line.command
   answer_is = told_answer names table line.session line.command line.time.0 done told change refused same ∙ ap (λ (t : Table). answer names t line.session line.command) table_is
 

@@ -26,8 +26,8 @@ use Rattle.xrc_command.specs.declared.line.Line.{Line}
 use Rattle.xrc_status.specs.declared.stop.Stop.{Stop}
 use Rattle.xrc_status.specs.declared.stop.Stop.TheVariants.{NoMemory, Spent}
 use Rattle.xrc_session.specs.declared.answering.LineAnswer.{LineAnswer}
-use Rattle.xrc_session.specs.Answering.{answer_told}
-use Rattle.xrc_session.specs.LinePauses.{AreCountsFrom, IsBetween, IsRunOver, stage_behind}
+use Rattle.xrc_session.specs.Answering.{answer_said}
+use Rattle.xrc_session.specs.LinePauses.{AreCountsFrom, IsBetween, IsRunOver, stage_after_text}
 use Rattle.xrc_session.specs.Lines.{IsDoneLine, IsStartedAt, StandsStartedAt}
 use Rattle.xrc_session.specs.Replying.{level_in}
 use Rattle.xrc_session.specs.Starting.{MeansStart, level_started}
@@ -43,10 +43,10 @@ use Rattle.xrc_session.proofs.StartWorks.{volumes_here}
 
 -- ---- a table's command
 
--- What is told of a command is its answer, and the table is the one behind it.
+-- What is told of a command is its answer, and the table is the one after it.
 module _ (names : Naming) (table : Table) (session : List ℕ) (c : Command) (time : ℕ) where
   pub told_answer : (done : Result Change CommandError) (told : Result Change Refusal) → IfOk done (λ change. answer names table session c ≡ Ok change) → ((why : Refusal) → done ≡ Err (errors.Refused why) → refusal names table session c ≡ Some why)
-      → answer_told done ≡ Ok told → told ≡ answer names table session c
+      → answer_said done ≡ Ok told → told ≡ answer names table session c
   told_answer (Ok change) told is refused same = (let change_is : Ok change ≡ told = cc in sym change_is) ∙ sym is
   told_answer (Err (errors.Refused why)) told is refused same =
       let why_is : Err why ≡ told = cc in
@@ -54,13 +54,13 @@ module _ (names : Naming) (table : Table) (session : List ℕ) (c : Command) (ti
   told_answer (Err errors.NoMemory) told is refused same = absurd cc
 
   pub told_table : (now : Table) (done : Result Change CommandError) (told : Result Change Refusal) → OnOk done (now ≡ table_after names table session c time) → OnErr done (now ≡ table) → ((why : Refusal) → done ≡ Err (errors.Refused why) → refusal names table session c ≡ Some why)
-      → answer_told done ≡ Ok told → now ≡ table_after names table session c time
+      → answer_said done ≡ Ok told → now ≡ table_after names table session c time
   told_table now (Ok change) told ok err refused same = ok
   told_table now (Err (errors.Refused why)) told ok err refused same = err ∙ sym (ap (λ (o : Option Refusal). if is_none o then accepted names time c table else table) (refused why refl))
   told_table now (Err errors.NoMemory) told ok err refused same = absurd cc
 
 -- There was no memory for it.
-pub told_memory : (done : Result Change CommandError) (stop : Stop) → answer_told done ≡ Err stop → stop ≡ NoMemory
+pub told_memory : (done : Result Change CommandError) (stop : Stop) → answer_said done ≡ Err stop → stop ≡ NoMemory
 told_memory (Ok change) stop same = absurd cc
 told_memory (Err (errors.Refused why)) stop same = absurd cc
 told_memory (Err errors.NoMemory) stop same = cc
@@ -149,7 +149,7 @@ module _ {S : Type 0} (tells : Type 0) (left : S → Option (List ℕ)) (s : Ses
                 (sym (ap (λ (n : List ℕ). level_started n line) session_is ∙ start_level)) mean
 
             by_next : AtNow (MeansStart s.session level line.time.0 old) new
-                → IsSomeAnd (stage_behind run lines text began).next (λ l. IsSomeAnd (level_started run.session l) (λ k. AtNow (MeansStart run.session k l.time.0 began) new))
+                → IsSomeAnd (stage_after_text run lines text began).next (λ l. IsSomeAnd (level_started run.session l) (λ k. AtNow (MeansStart run.session k l.time.0 began) new))
             by_next mean =
                 subst (λ (o : Option Line). IsSomeAnd o (λ l. IsSomeAnd (level_started run.session l) (λ k. AtNow (MeansStart run.session k l.time.0 began) new))) (sym heard.next)
                 (by_level

@@ -83,7 +83,7 @@ module _ {S : Type 0} (tells : Type 0) (s : SessionState) (lanes : List (Lane S)
     lanes_of = unstarted_is.lanes_of;
   }
 
-  -- Behind its start it stands between two lines.
+  -- After its start it stands between two lines.
   module _ (level : Level) (at : ℕ) (lanes_now : List (Lane S)) (names : Naming) (group : Option Group) (site : SiteState) (new : PlantState) (same : SameSite old new) (home : NoneLent new) (lanes_same : AreSameLanes lanes lanes_now)
       (primaries : names.primaries ≡ s.names.primaries) (started : IsSiteStarted tells s.session level s.controls at lanes_now names group new site) where
     abbrev now : SessionState

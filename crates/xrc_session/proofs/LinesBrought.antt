@@ -35,7 +35,7 @@ use Rattle.xrc_session.specs.Lanes.{HaveVolumes, primaries_in, with_lanes_broken
 use Rattle.xrc_session.specs.States.{SessionState}
 use Rattle.xrc_session.specs.Taking.{IsSoundForRows}
 use Rattle.xrc_session.proofs.JoinsCommands.{added_of_lane}
-use Rattle.xrc_session.proofs.JoinsLanes.{changes_stay, lanes_behind}
+use Rattle.xrc_session.proofs.JoinsLanes.{changes_stay, lanes_after}
 use Rattle.xrc_session.proofs.JoinsRows.{kept_known}
 use Rattle.xrc_session.proofs.LinesBegun.{lanes_may_go_on}
 use Rattle.xrc_session.proofs.Readying.{broken_alone, commands_again, controls_count, named_of_lanes, primaries_stay, volumes_stay}
@@ -62,9 +62,9 @@ end_by_change names (Start level) rows = refl
 end_by_change names Query rows = refl
 end_by_change names End rows = refl
 
--- A session has ended behind a command if it had before, or if the command is an end that is accepted.
-pub ended_behind : (names : Naming) (table : Table) (session : List ℕ) (c : Command) (time : ℕ) → (table_after names table session c time).is_ended ≡ (table.is_ended || is_end_accepted (answer names table session c))
-ended_behind names table session c time = by_end table.is_ended refl
+-- A session has ended after a command if it had before, or if the command is an end that is accepted.
+pub ended_after : (names : Naming) (table : Table) (session : List ℕ) (c : Command) (time : ℕ) → (table_after names table session c time).is_ended ≡ (table.is_ended || is_end_accepted (answer names table session c))
+ended_after names table session c time = by_end table.is_ended refl
   where
     by_refusal : table.is_ended ≡ false → (o : Option Refusal) → (if is_none o then accepted names time c table else table).is_ended ≡ is_end_accepted (answer_by o (change_of names c table.rows))
     by_refusal goes None = sym (end_by_change names c table.rows)
@@ -76,8 +76,8 @@ ended_behind names table session c time = by_end table.is_ended refl
     by_end false goes = by_refusal goes (refusal names table session c) ∙ sym (ap (λ (e : Bool). e || is_end_accepted (answer names table session c)) goes)
 
 -- The session and its name stay, and a started one stays started.
-pub started_behind : (names : Naming) (table : Table) (session : List ℕ) (c : Command) (time : ℕ) → table.is_started ≡ true → ((table_after names table session c time).session ≡ table.session) × ((table_after names table session c time).is_started ≡ true)
-started_behind names table session c time started = by_refusal (is_none (refusal names table session c))
+pub started_after : (names : Naming) (table : Table) (session : List ℕ) (c : Command) (time : ℕ) → table.is_started ≡ true → ((table_after names table session c time).session ≡ table.session) × ((table_after names table session c time).is_started ≡ true)
+started_after names table session c time started = by_refusal (is_none (refusal names table session c))
   where
     by_refusal : (b : Bool) → ((if b then accepted names time c table else table).session ≡ table.session) × ((if b then accepted names time c table else table).is_started ≡ true)
     by_refusal true = (refl, refl)
@@ -85,7 +85,7 @@ started_behind names table session c time started = by_refusal (is_none (refusal
 
 -- ---- the shared state
 
--- The shared state behind a line's change.
+-- The shared state after a line's change.
 module _ {S : Type 0} (tells : Type 0) (lanes : List (Lane S)) (names : Naming) (answered : Result Change Refusal) (before : List PairRow) (group : Group) (site : SiteState) (time : ℕ) (new : PlantState) (named : names.primaries ≡ primaries_in 0 lanes)
     (may : MayCommandSite tells names new site) (at : site.time ≡ time) (lanes_of : AreLanesOf group time lanes) (cut : HasCut time group) (few : length (volumes_known group) ≤ site.controls) (kept : IsSoundForRows (group_taken answered before site.told group) site.told) (marked : site.since ≡ 0) where
   taken_stays : (r : Result Change Refusal) → StaysForReaders group (group_taken r before site.told group)
@@ -94,7 +94,7 @@ module _ {S : Type 0} (tells : Type 0) (lanes : List (Lane S)) (names : Naming) 
 
   taken_lanes : (r : Result Change Refusal) → AreLanesOf (group_taken r before site.told group) time lanes
   taken_lanes (Ok change) =
-      lanes_behind lanes time change before site.told group lanes_of
+      lanes_after lanes time change before site.told group lanes_of
       (added_of_lane lanes names (named_of_lanes lanes names named) change site.told (subst (λ (rows : List PairRow). PrimariesAreNamed names rows) (sym may.idle.same) may.commands.command.named))
   taken_lanes (Err why) = lanes_of
 
@@ -109,8 +109,8 @@ module _ {S : Type 0} (tells : Type 0) (lanes : List (Lane S)) (names : Naming) 
       let count : length (volumes_known next) ≡ length (volumes_known group) = length-map next.controls known_of ∙ (taken_stays answered).many ∙ sym (length-map group.controls known_of) in
       omega (arith, count, few)
 
-  pub ready_behind : IsReadyForEpoch tells lanes site new next
-  ready_behind = record {
+  pub ready_after : IsReadyForEpoch tells lanes site new next
+  ready_after = record {
     begins = record {
       rests = may.idle.may;
       marked = marked;
@@ -126,8 +126,8 @@ module _ {S : Type 0} (tells : Type 0) (lanes : List (Lane S)) (names : Naming) 
     kept = kept;
   }
 
-  pub cut_behind : HasCut site.time next
-  cut_behind = last_is ∙ sym at
+  pub cut_after : HasCut site.time next
+  cut_after = last_is ∙ sym at
 
 -- ---- a line
 
@@ -230,10 +230,10 @@ module _ {S : Type 0} (tells : Type 0) (s : SessionState) (lanes : List (Lane S)
           controls_count some.0 next.time lanes_now s.names names some.2.lanes_of (volumes_stay lanes lanes_now lanes_same between.headed) (between.named ∙ sym (primaries_stay lanes lanes_now lanes_same)) between.apart names_are,
         )
 
--- ---- behind the command
+-- ---- after the command
 
 module _ {S : Type 0} (tells : Type 0) (s : SessionState) (lanes : List (Lane S)) (names : Naming) (group : Option Group) (site : SiteState) (line : Line) (mid new : PlantState) (at : IsAtLine tells s lanes names group site line.time.0 mid) (names_now : Naming) (names_are : names_now ≡ names)
-    (group_now : Option Group) (next : SiteState) (answered : Result Change Refusal) (behind : IsSiteAnswered tells names line answered site next new) (kept : next.table.is_ended ≡ false → IsSomeAnd group_now (λ g. IsSoundForRows g next.told))
+    (group_now : Option Group) (next : SiteState) (answered : Result Change Refusal) (after : IsSiteAnswered tells names line answered site next new) (kept : next.table.is_ended ≡ false → IsSomeAnd group_now (λ g. IsSoundForRows g next.told))
     (taken : next.table.is_ended ≡ false → group_now ≡ option_map (group_taken answered site.told next.told) group) (flag : Bool) (flag_as : flag ≡ (s.is_ended || is_end_accepted answered)) where
   abbrev now : SessionState
   now = record { session = s.session; controls = s.controls; names = names_now; group = group_now; table = next.table; site = Some next; is_ended = flag }
@@ -241,8 +241,8 @@ module _ {S : Type 0} (tells : Type 0) (s : SessionState) (lanes : List (Lane S)
   -- The session's own flag.
   flag_is : now.is_ended ≡ next.table.is_ended
   flag_is =
-      flag_as ∙ ap (λ (b : Bool). b || is_end_accepted answered) at.ended ∙ ap (λ (r : Result Change Refusal). site.table.is_ended || is_end_accepted r) behind.answer_is
-      ∙ sym (ended_behind names site.table line.session line.command line.time.0) ∙ sym (ap (λ (t : Table). t.is_ended) behind.table)
+      flag_as ∙ ap (λ (b : Bool). b || is_end_accepted answered) at.ended ∙ ap (λ (r : Result Change Refusal). site.table.is_ended || is_end_accepted r) after.answer_is
+      ∙ sym (ended_after names site.table line.session line.command line.time.0) ∙ sym (ap (λ (t : Table). t.is_ended) after.table)
 
   -- It had not ended before, if it goes on.
   pub goes_before : next.table.is_ended ≡ false → site.table.is_ended ≡ false
@@ -259,26 +259,26 @@ module _ {S : Type 0} (tells : Type 0) (s : SessionState) (lanes : List (Lane S)
   ready_now on =
       let g = some_group on in
       let goes = goes_before on in
-      let time : next.time ≡ line.time.0 = behind.time ∙ at.time_is goes in
+      let time : next.time ≡ line.time.0 = after.time ∙ at.time_is goes in
       let group_is : group_now ≡ Some (group_taken answered site.told next.told g.0) = taken on ∙ ap (option_map (group_taken answered site.told next.told)) g.1 in
       let cut = subst (λ (o : Option Group). IsSomeAnd o (HasCut line.time.0)) g.1 (at.cut goes) in
       let kept_now = subst (λ (o : Option Group). IsSomeAnd o (λ x. IsSoundForRows x next.told)) group_is (kept on) in
       let lanes_of = subst (λ (n : ℕ). AreLanesOf g.0 n lanes) (at.time_is goes) g.2.lanes_of in
-      let marked : next.since ≡ 0 = behind.marked g.2.begins.marked in
-      let few : length (volumes_known g.0) ≤ next.controls = omega (arith, g.2.begins.knows.controls, behind.controls) in
-      let ready = ready_behind tells lanes names answered site.told g.0 next line.time.0 new at.named behind.may time lanes_of cut few kept_now marked in
-      let cuts = cut_behind tells lanes names answered site.told g.0 next line.time.0 new at.named behind.may time lanes_of cut few kept_now marked in
+      let marked : next.since ≡ 0 = after.marked g.2.begins.marked in
+      let few : length (volumes_known g.0) ≤ next.controls = omega (arith, g.2.begins.knows.controls, after.controls) in
+      let ready = ready_after tells lanes names answered site.told g.0 next line.time.0 new at.named after.may time lanes_of cut few kept_now marked in
+      let cuts = cut_after tells lanes names answered site.told g.0 next line.time.0 new at.named after.may time lanes_of cut few kept_now marked in
       (subst (λ (o : Option Group). IsSomeAnd o (IsReadyForEpoch tells lanes next new)) (sym group_is) ready, subst (λ (o : Option Group). IsSomeAnd o (HasCut next.time)) (sym group_is) cuts)
 
   pub answered_at_site : IsAtSite tells now lanes new next
   answered_at_site = record {
     table = refl;
-    session = ap (λ (t : Table). t.session) behind.table ∙ (started_behind names site.table line.session line.command line.time.0 at.may.commands.started).0 ∙ at.session;
-    controls = behind.controls ∙ at.controls;
+    session = ap (λ (t : Table). t.session) after.table ∙ (started_after names site.table line.session line.command line.time.0 at.may.commands.started).0 ∙ at.session;
+    controls = after.controls ∙ at.controls;
     ended = flag_is;
-    flag = behind.flag;
-    may = subst (λ (n : Naming). MayCommandSite tells n new next) (sym names_are) behind.may;
-    empty = λ ended. by_empty ended (behind.empty ended);
+    flag = after.flag;
+    may = subst (λ (n : Naming). MayCommandSite tells n new next) (sym names_are) after.may;
+    empty = λ ended. by_empty ended (after.empty ended);
     may_go_on = at.may_go_on;
     ready = λ on. (ready_now on).0;
     cut = λ on. (ready_now on).1;

@@ -87,7 +87,7 @@ from_start_done {S} tells s next lanes plant line answered was site was_is site_
 
 -- ---- the session by which runs are known
 
--- It is the one behind a line before the start, and the one before the line from then on.
+-- It is the one after a line before the start, and the one before the line from then on.
 pub known_unstarted : (s next : SessionState) → s.site ≡ None → known_by s next ≡ next
 known_unstarted s next none = by_site s.site none
   where

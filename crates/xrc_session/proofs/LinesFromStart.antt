@@ -25,7 +25,7 @@ use Rattle.xrc_status.specs.declared.stop.Stop.{Stop}
 use Rattle.xrc_status.specs.declared.stop.Stop.TheVariants.{Spent}
 use Rattle.xrc_session.specs.declared.answering.LineAnswer.{LineAnswer}
 use Rattle.xrc_session.specs.Answering.{EndsCommand, IsSiteAnswered, MayAnswer}
-use Rattle.xrc_session.specs.LinePauses.{GoesOnFrom, HasCut, IsAtSite, IsRunOfSession, RestsAtSite, stage_behind}
+use Rattle.xrc_session.specs.LinePauses.{GoesOnFrom, HasCut, IsAtSite, IsRunOfSession, RestsAtSite, stage_after_text}
 use Rattle.xrc_session.specs.Ends.{StopsInLine}
 use Rattle.xrc_session.specs.States.{SessionState}
 use Rattle.xrc_session.specs.Steps.{EndsBringing, EndsDoing, HasBrought, HasHeard, MayBring, PassesPointsOn}
@@ -33,8 +33,8 @@ use Rattle.xrc_session.specs.Stops.{IsSpentNow}
 use Rattle.xrc_session.specs.Trails.{Trail, asked_with, first_leg, last_leg, with_points}
 use Rattle.xrc_session.proofs.RestingMarks.{nothing_is_walked}
 use Rattle.xrc_session.proofs.Asked.{answered_rises, asked_alike, asked_number, asked_there, fold_append, fresh_points, none_of_number, same_ending}
-use Rattle.xrc_session.proofs.LinesAnswered.{IsAtLeg, IsBehindCommand, line_to_reply}
-use Rattle.xrc_session.proofs.LinesBrought.{some_value, started_behind}
+use Rattle.xrc_session.proofs.LinesAnswered.{IsAfterCommand, IsAtLeg, line_to_reply}
+use Rattle.xrc_session.proofs.LinesBrought.{some_value, started_after}
 use Rattle.xrc_session.proofs.LinesWithin.{IsWithin, rests_at, within_first, within_on, within_stops}
 use Rattle.xrc_session.proofs.OfCommands.{just_begun}
 
@@ -43,7 +43,7 @@ use Rattle.xrc_session.proofs.OfCommands.{just_begun}
 module _ {S : Type 0} (tells : Type 0) (run : ScriptRun) (lines : List Answered) (trail : Trail) (text : List ℕ) (line : Line) (s : SessionState) (lanes : List (Lane S)) (began old : PlantState) (heard : HasHeard run lines trail text line s lanes began old) (site : SiteState)
     (is : s.site ≡ Some site) (at_site : IsAtSite tells s lanes old site) where
   abbrev stage : Stage
-  stage = stage_behind run lines text began
+  stage = stage_after_text run lines text began
 
   abbrev asked : LinesAsked
   asked = asked_with lines (Some line)
@@ -127,31 +127,31 @@ module _ {S : Type 0} (tells : Type 0) (run : ScriptRun) (lines : List Answered)
     module _ (mid : PlantState) (same : SameSite old mid) (past : Elapses old mid) (silent : Silent old mid) (next : SiteState) (group : Option Group) (names : Naming) (named : names ≡ names_at line.time.0 (breaks_of run) (names_of run)) (same_level : next.level ≡ site.level)
         (still_goes : next.table.is_ended ≡ false) (cut : IsSomeAnd group (HasCut next.time)) (more : List PassedPoint) (passes : PassesPointsOn run stage asked l more None old mid)
         (brought : IsSomeAnd group (HasBrought run stage line asked (fold leg_after l more) first (trail.points ++ more) next began mid)) where
-      abbrev behind : Trail
-      behind = with_points more trail
+      abbrev after : Trail
+      after = with_points more trail
 
       some : (g : Group) × (group ≡ Some g) × HasBrought run stage line asked (fold leg_after l more) first (trail.points ++ more) next began mid g
       some = some_value {P = HasBrought run stage line asked (fold leg_after l more) first (trail.points ++ more) next began mid} group brought
 
-      joined : last_leg run lines behind ≡ fold leg_after l more
+      joined : last_leg run lines after ≡ fold leg_after l more
       joined = fold_append (first_leg run lines trail) trail.points more
 
       -- It is answered as many lines as before.
       same_answered : (fold leg_after l more).answered ≡ length lines
       same_answered = asked_number lines line (fold leg_after l more).answered (omega (arith, answered_rises l more, rests.rest.answered)) some.2.asked_is
 
-      pub brought_within : IsWithin run lines behind text (Some line) began mid
+      pub brought_within : IsWithin run lines after text (Some line) began mid
       brought_within = within_on run lines trail text (Some line) began old mid heard.next (within_first run lines trail text line s lanes began old heard site is) same past silent more passes some.2.at_work.none_marked (omega (arith, same_answered))
 
-      brought_fresh : All (λ n. is_command_of (last_leg run lines behind).answered n.way ≡ false) behind.points
+      brought_fresh : All (λ n. is_command_of (last_leg run lines after).answered n.way ≡ false) after.points
       brought_fresh =
-          fresh_points (last_leg run lines behind).answered behind.points
-          (none_of_number run asked (first_leg run lines trail) behind.points (last_leg run lines behind).answered brought_within.marked (omega arith) brought_within.next)
+          fresh_points (last_leg run lines after).answered after.points
+          (none_of_number run asked (first_leg run lines trail) after.points (last_leg run lines after).answered brought_within.marked (omega arith) brought_within.next)
 
-      here : HasBrought run stage line asked (last_leg run lines behind) first behind.points next began mid some.0
-      here = subst (λ (k : Leg). HasBrought run stage line asked k first behind.points next began mid some.0) (sym joined) some.2
+      here : HasBrought run stage line asked (last_leg run lines after) first after.points next began mid some.0
+      here = subst (λ (k : Leg). HasBrought run stage line asked k first after.points next began mid some.0) (sym joined) some.2
 
-      pub brought_may_answer : MayAnswer run stage line asked (last_leg run lines behind) first behind.points names next group began mid
+      pub brought_may_answer : MayAnswer run stage line asked (last_leg run lines after) first after.points names next group began mid
       brought_may_answer = record {
         heard = heard.next;
         asked_is = here.asked_is;
@@ -161,11 +161,11 @@ module _ {S : Type 0} (tells : Type 0) (run : ScriptRun) (lines : List Answered)
         at = here.at;
         active = λ on. (here.may, here.at_work, named);
         ended = λ ended. absurd (true≢false (sym ended ∙ still_goes));
-        goes_on = λ on. subst (λ (o : Option Group). IsSomeAnd o (GoesOnFrom run first behind.points next mid)) (sym some.1) here.goes_on;
+        goes_on = λ on. subst (λ (o : Option Group). IsSomeAnd o (GoesOnFrom run first after.points next mid)) (sym some.1) here.goes_on;
         cut = λ on. cut;
       }
 
-      pub brought_at_leg : IsAtLeg run lines stage (last_leg run lines behind)
+      pub brought_at_leg : IsAtLeg run lines stage (last_leg run lines after)
       brought_at_leg = record {
         leg = here.at.leg;
         answered = ap (λ (k : Leg). k.answered) joined ∙ same_answered;
@@ -174,11 +174,11 @@ module _ {S : Type 0} (tells : Type 0) (run : ScriptRun) (lines : List Answered)
 
 -- ---- the command
 
--- How a line ends behind the command of a session that was brought to its time, or that has ended.
-module _ {S : Type 0} (run : ScriptRun) (lines : List Answered) (trail : Trail) (text : List ℕ) (line : Line) (began mid new : PlantState) (heard : (stage_behind run lines text began).next ≡ Some line) (within : IsWithin run lines trail text (Some line) began mid)
-    (at_leg : IsAtLeg run lines (stage_behind run lines text began) (last_leg run lines trail)) (same : SameSite mid new) (past : Elapses mid new) (silent : Silent mid new) (short : line.time.0 < 2 ^ 64) where
-  pub command_ends : (s : SessionState) (lanes : List (Lane S)) (site : SiteState) (result : Result LineAnswer Stop) → (IsErrOf result Spent → IsSpentNow new) → OnOk result (IsBehindCommand run s lanes site new)
-      → EndsCommand run (stage_behind run lines text began) line (asked_with lines (Some line)) (last_leg run lines trail) (first_leg run lines trail).point trail.points site s.group began mid new result → EndsDoing run lines text line s lanes began new result
+-- How a line ends after the command of a session that was brought to its time, or that has ended.
+module _ {S : Type 0} (run : ScriptRun) (lines : List Answered) (trail : Trail) (text : List ℕ) (line : Line) (began mid new : PlantState) (heard : (stage_after_text run lines text began).next ≡ Some line) (within : IsWithin run lines trail text (Some line) began mid)
+    (at_leg : IsAtLeg run lines (stage_after_text run lines text began) (last_leg run lines trail)) (same : SameSite mid new) (past : Elapses mid new) (silent : Silent mid new) (short : line.time.0 < 2 ^ 64) where
+  pub command_ends : (s : SessionState) (lanes : List (Lane S)) (site : SiteState) (result : Result LineAnswer Stop) → (IsErrOf result Spent → IsSpentNow new) → OnOk result (IsAfterCommand run s lanes site new)
+      → EndsCommand run (stage_after_text run lines text began) line (asked_with lines (Some line)) (last_leg run lines trail) (first_leg run lines trail).point trail.points site s.group began mid new result → EndsDoing run lines text line s lanes began new result
   command_ends s lanes site (Err stop) spent stands ends =
       within_stops run lines trail text (Some line) began mid new heard within same past silent stop (λ is. spent (ap (λ (x : Stop). let r : Result LineAnswer Stop = Err x in r) is)) ends
   command_ends s lanes site (Ok answered) spent stands ends =
@@ -186,26 +186,26 @@ module _ {S : Type 0} (run : ScriptRun) (lines : List Answered) (trail : Trail) 
       let passes = ends.1 in
       let done = ends.2 in
       let begun = just_begun (last_leg run lines trail).answered done.hits (last_leg run lines trail) more done.by in
-      let behind = within_on run lines trail text (Some line) began mid new heard within same past silent more passes begun.marked (omega (arith, begun.answered, at_leg.answered)) in
-      (with_points more trail, line_to_reply run lines trail more text line began mid new heard within at_leg behind passes answered s lanes site stands done short)
+      let after = within_on run lines trail text (Some line) began mid new heard within same past silent more passes begun.marked (omega (arith, begun.answered, at_leg.answered)) in
+      (with_points more trail, line_to_reply run lines trail more text line began mid new heard within at_leg after passes answered s lanes site stands done short)
 
--- What a session is to its run behind the command.
-pub behind_command_is : {S : Type 0} (tells : Type 0) (run : ScriptRun) (s : SessionState) (lanes_now : List (Lane S)) (names names_now : Naming) (site next : SiteState) (line : Line) (answered : Result Change Refusal) (new : PlantState) (group : Option Group) (flag : Bool) → IsRunOfSession s run → run.level ≡ site.level → run.labels ≡ names.labels
+-- What a session is to its run after the command.
+pub after_command_is : {S : Type 0} (tells : Type 0) (run : ScriptRun) (s : SessionState) (lanes_now : List (Lane S)) (names names_now : Naming) (site next : SiteState) (line : Line) (answered : Result Change Refusal) (new : PlantState) (group : Option Group) (flag : Bool) → IsRunOfSession s run → run.level ≡ site.level → run.labels ≡ names.labels
     → names_now ≡ names → site.table.session ≡ s.session → site.table.is_started ≡ true → IsSiteAnswered tells names line answered site next new → (next.table.is_ended ≡ false → names ≡ names_at site.time (breaks_of run) (names_of run)) → LanesBrokeAs site.time run.traces lanes_now
     → tells → (next.table.is_ended ≡ true → next.at ≡ next.mark.at)
-    → IsBehindCommand run (record { session = s.session; controls = s.controls; names = names_now; group = group; table = next.table; site = Some next; is_ended = flag }) lanes_now next new
-behind_command_is {S} tells run s lanes_now names names_now site next line answered new group flag its level labels same session started behind named broke told empty = record {
-  its = record { names = its.names; session = its.session; level = level ∙ sym behind.level; labels = labels ∙ sym (ap (λ (n : Naming). n.labels) same) };
+    → IsAfterCommand run (record { session = s.session; controls = s.controls; names = names_now; group = group; table = next.table; site = Some next; is_ended = flag }) lanes_now next new
+after_command_is {S} tells run s lanes_now names names_now site next line answered new group flag its level labels same session started after named broke told empty = record {
+  its = record { names = its.names; session = its.session; level = level ∙ sym after.level; labels = labels ∙ sym (ap (λ (n : Naming). n.labels) same) };
   site_is = refl;
   table = refl;
-  flag = behind.flag;
-  told = behind.may.idle.same;
-  session = ap (λ (t : Table). t.session) behind.table ∙ facts.0 ∙ session ∙ sym its.session;
-  started = ap (λ (t : Table). t.is_started) behind.table ∙ facts.1;
-  named = λ on. same ∙ named on ∙ ap (λ (n : ℕ). names_at n (breaks_of run) (names_of run)) (sym behind.time);
-  broke = subst (λ (n : ℕ). LanesBrokeAs n run.traces lanes_now) (sym behind.time) broke;
-  applied = λ ended. let stand = behind.may.idle.may.fast.stands told in nothing_is_walked new stand.0 next stand.1 (empty ended);
+  flag = after.flag;
+  told = after.may.idle.same;
+  session = ap (λ (t : Table). t.session) after.table ∙ facts.0 ∙ session ∙ sym its.session;
+  started = ap (λ (t : Table). t.is_started) after.table ∙ facts.1;
+  named = λ on. same ∙ named on ∙ ap (λ (n : ℕ). names_at n (breaks_of run) (names_of run)) (sym after.time);
+  broke = subst (λ (n : ℕ). LanesBrokeAs n run.traces lanes_now) (sym after.time) broke;
+  applied = λ ended. let stand = after.may.idle.may.fast.stands told in nothing_is_walked new stand.0 next stand.1 (empty ended);
 }
   where
     facts : ((table_after names site.table line.session line.command line.time.0).session ≡ site.table.session) × ((table_after names site.table line.session line.command line.time.0).is_started ≡ true)
-    facts = started_behind names site.table line.session line.command line.time.0 started
+    facts = started_after names site.table line.session line.command line.time.0 started

@@ -21,9 +21,9 @@ use Rattle.mover.specs.declared.lane.Lane.{Lane}
 use Rattle.mover.specs.Epochs.{LanesBrokeAs}
 use Rattle.xrc_status.specs.declared.stop.Stop.{Stop}
 use Rattle.xrc_status.specs.declared.stop.Stop.TheVariants.{BadLine, ConsoleFault}
-use Rattle.xrc_session.specs.LinePauses.{HasAnswered, HasNotBegun, IsAtSite, IsBetween, IsRunOver, IsUnstarted, RestsAtSite, stage_behind}
+use Rattle.xrc_session.specs.LinePauses.{HasAnswered, HasNotBegun, IsAtSite, IsBetween, IsRunOver, IsUnstarted, RestsAtSite, stage_after_text}
 use Rattle.xrc_session.specs.Frames.{KeepsPlant, SaidGrows}
-use Rattle.xrc_session.specs.Runs.{AreLabels, IsBadBehind, IsKnownSession, RunsLines}
+use Rattle.xrc_session.specs.Runs.{AreLabels, IsBadAfter, IsKnownSession, RunsLines}
 use Rattle.xrc_session.specs.Starting.{BeginsRun, HasBegunRun}
 use Rattle.xrc_session.specs.States.{SessionState, site_time}
 use Rattle.xrc_session.specs.Stops.{HasRunCause, StopsByCount}
@@ -63,7 +63,7 @@ module _ {S : Type 0} (tells : Type 0) (left : S → Option (List ℕ)) (faults 
     applied = λ number below. absurd (omega (arith, below));
   }
     where
-      by_place : (o : Option SiteState) → o ≡ None → MatchOption o (HasNotBegun no_trail began began) (RestsAtSite run [] (stage_behind run [] [] began) no_trail s began began)
+      by_place : (o : Option SiteState) → o ≡ None → MatchOption o (HasNotBegun no_trail began began) (RestsAtSite run [] (stage_after_text run [] [] began) no_trail s began began)
       by_place None is = record { started = refl; points = refl; devices = leaves_here began }
       by_place (Some site) is = absurd cc
 
@@ -85,7 +85,7 @@ module _ {S : Type 0} (tells : Type 0) (left : S → Option (List ℕ)) (faults 
 
 -- ---- what was heard
 
--- So a run of a script stands where its next line was heard, behind lines that it answered.
+-- So a run of a script stands where its next line was heard, after lines that it answered.
 pub record Heard {S : Type 0} (tells : Type 0) (left : S → Option (List ℕ)) (faults : S → ℕ) (first s : SessionState) (lanes lanes_now : List (Lane S)) (began old : PlantState) (number before : ℕ) (mid : PlantState) (text : List ℕ) : Type 0 where
   pub running : IsRunning tells left faults first s lanes lanes_now began old number before
   pub works : WorksOnConsole tells old mid
@@ -163,7 +163,7 @@ module _ {S : Type 0} {tells : Type 0} {left : S → Option (List ℕ)} {faults 
               bad = λ bad. inr (refl, front.no_feed);
               of_bad = λ n is. absurd cc;
               applied = at.1.1.applied;
-              behind_end = λ ended. inr (inl refl);
+              after_end = λ ended. inr (inl refl);
             },
           ),
         );
@@ -204,7 +204,7 @@ module _ {S : Type 0} {tells : Type 0} {left : S → Option (List ℕ)} {faults 
                 bad = λ is. inl (ap (λ (n : ℕ). BadLine n) at.2);
                 of_bad = λ n is. (sym (bad_number number n is) ∙ at.2, same);
                 applied = at.1.1.applied;
-                behind_end = λ ended. inr (inr (number, refl));
+                after_end = λ ended. inr (inr (number, refl));
               },
             ),
           );
@@ -213,7 +213,7 @@ module _ {S : Type 0} {tells : Type 0} {left : S → Option (List ℕ)} {faults 
         bad_number : (n m : ℕ) → BadLine n ≡ BadLine m → n ≡ m
         bad_number n m is = cc
 
-        bad_of : (lines : List Answered) → number ≡ length lines + 1 → last_line_time lines (length lines) ≡ before → IsBadBehind tells lines text mid.script
+        bad_of : (lines : List Answered) → number ≡ length lines + 1 → last_line_time lines (length lines) ≡ before → IsBadAfter tells lines text mid.script
         bad_of lines counted time =
             subst (λ (n : ℕ). IsNextLine tells n (last_line_time lines (length lines)) text mid.script next.Bad) counted
             (subst (λ (b : ℕ). IsNextLine tells number b text mid.script next.Bad) (sym time) bad)

@@ -58,7 +58,7 @@ module _ {S : Type 0} (tells : Type 0) (session : List ℕ) (controls : ℕ) (ke
   end_flag = at.flag
 
   -- What it leaves.
-  module _ (new : PlantState) (kept_now : SessionParts) (next : SiteState) (result : Result LineAnswer Stop) (behind : IfOk result (λ a. IsSiteAnswered tells kept.names line a.answer site next new)) (names_are : kept_now.names ≡ kept.names) (works : IsWorkOfStore tells site next old new result) where
+  module _ (new : PlantState) (kept_now : SessionParts) (next : SiteState) (result : Result LineAnswer Stop) (after : IfOk result (λ a. IsSiteAnswered tells kept.names line a.answer site next new)) (names_are : kept_now.names ≡ kept.names) (works : IsWorkOfStore tells site next old new result) where
     abbrev now : SessionState
     now = session_on session controls kept_now next ended
 
@@ -72,7 +72,7 @@ module _ {S : Type 0} (tells : Type 0) (session : List ℕ) (controls : ℕ) (ke
     end_same = subst (λ (x : SessionState). IsSameSession x now) same (record { session = refl; controls = refl })
 
     pub end_hits : OnOk result (SuspendsByCounts s.table.rows now.table.rows old new)
-    end_hits = subst (λ (x : SessionState). OnOk result (SuspendsByCounts x.table.rows now.table.rows old new)) same (by_result result behind works.hits)
+    end_hits = subst (λ (x : SessionState). OnOk result (SuspendsByCounts x.table.rows now.table.rows old new)) same (by_result result after works.hits)
       where
         by_result : (r : Result LineAnswer Stop) → IfOk r (λ a. IsSiteAnswered tells kept.names line a.answer site next new) → OnOk r (SuspendsByCounts site.told next.told old new) → OnOk r (SuspendsByCounts site.table.rows next.table.rows old new)
         by_result (Ok a) is hits = suspends_as site.told next.told site.table.rows next.table.rows old new at.may.idle.same is.may.idle.same hits
@@ -80,7 +80,7 @@ module _ {S : Type 0} (tells : Type 0) (session : List ℕ) (controls : ℕ) (ke
 
     pub end_done : OnOk result (next.table.is_ended ≡ false → IsSomeAnd kept_now.group (λ g. IsSoundForRows g next.told)) → IfOk result (λ a. next.table.is_ended ≡ false → kept_now.group ≡ option_map (group_taken a.answer site.told next.told) kept.group)
         → IfOk result (IsDoneLine tells s now line lanes new)
-    end_done keeps_rows taken = subst (λ (x : SessionState). IfOk result (IsDoneLine tells x now line lanes new)) same (by_result result behind keeps_rows taken)
+    end_done keeps_rows taken = subst (λ (x : SessionState). IfOk result (IsDoneLine tells x now line lanes new)) same (by_result result after keeps_rows taken)
       where
         by_result : (r : Result LineAnswer Stop) → IfOk r (λ a. IsSiteAnswered tells kept.names line a.answer site next new) → OnOk r (next.table.is_ended ≡ false → IsSomeAnd kept_now.group (λ g. IsSoundForRows g next.told))
             → IfOk r (λ a. next.table.is_ended ≡ false → kept_now.group ≡ option_map (group_taken a.answer site.told next.told) kept.group) → IfOk r (IsDoneLine tells was now line lanes new)
@@ -92,4 +92,4 @@ module _ {S : Type 0} (tells : Type 0) (session : List ℕ) (controls : ℕ) (ke
     pub end_does_line : (left : S → Option (List ℕ)) → line.time.0 < 2 ^ 64 → tells → (began : PlantState) → AnswersCommands line kept kept_now site next began old new result → DoesLine left line s now lanes lanes began old new result
     end_does_line left short told began answers =
         subst (λ (x : SessionState). DoesLine left line x now lanes lanes began old new result) same
-        (end_does tells told left was lanes old stands site refl line short ended_is new works.works.site (works.works.elapses told) (works.works.silent told) kept_now next result names_are behind (works.spent told) kept refl refl began answers)
+        (end_does tells told left was lanes old stands site refl line short ended_is new works.works.site (works.works.elapses told) (works.works.silent told) kept_now next result names_are after (works.spent told) kept refl refl began answers)

@@ -17,7 +17,7 @@ use Rattle.xrc_session.specs.Frames.{KeepsPlant, SuspendsByCounts}
 use Rattle.xrc_session.specs.Lines.{IsDoneLine, IsSameSession, IsStartAnswered, KeepsStart, StartsByLine}
 use Rattle.xrc_session.specs.Replying.{reply_composed}
 use Rattle.xrc_session.specs.Runs.{AreLabelsRead}
-use Rattle.xrc_session.specs.Starting.{BeginsByLine, RepliesToStart, StandsBehindStart, level_started}
+use Rattle.xrc_session.specs.Starting.{BeginsByLine, RepliesToStart, StandsAfterStart, level_started}
 use Rattle.xrc_session.specs.States.{SessionState, session_time}
 use Rattle.xrc_session.specs.Steps.{AnswersLine, DoesLine}
 use Rattle.xrc_session.specs.Stops.{HasStopCause, StopsByCount}
@@ -102,7 +102,7 @@ module _ {S T E : Type 0} (tells : Type 0) (left : S → Option (List ℕ)) (s n
   pub reply_unheard : tells → HearsNothing old new
   reply_unheard = spoken_unheard tells left s next lanes after line answered old mid done keeps silent none reply composed_next new T E result says
 
-  pub reply_begins : tells → BeginsByLine s.session line old mid → IfSome (level_started s.session line) (λ level. StandsBehindStart s.session level line.time.0 old mid) → BeginsByLine s.session line old new
+  pub reply_begins : tells → BeginsByLine s.session line old mid → IfSome (level_started s.session line) (λ level. StandsAfterStart s.session level line.time.0 old mid) → BeginsByLine s.session line old new
   reply_begins told begins means = spoken_begins tells left s next lanes after line answered old mid done keeps silent none reply composed_next new T E result says told s.session begins means
 
   -- ---- said whole

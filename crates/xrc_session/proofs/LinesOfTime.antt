@@ -25,7 +25,7 @@ use Rattle.xrc_session.specs.States.{SessionState, session_time}
 use Rattle.xrc_session.specs.Steps.{BringsOn, DoesLine}
 use Rattle.xrc_session.specs.Stops.{HasStopCause, StopsByCount}
 use Rattle.xrc_session.specs.Taking.{IsSoundForRows}
-use Rattle.xrc_session.proofs.InTurn.{NoneRisen, cause_before, counts_behind, counts_fell, done_raises_none, keeps_lent, keeps_then, none_risen_then, none_stop, suspends_then}
+use Rattle.xrc_session.proofs.InTurn.{NoneRisen, cause_before, counts_after, counts_fell, done_raises_none, keeps_lent, keeps_then, none_risen_then, none_stop, suspends_then}
 use Rattle.xrc_session.proofs.LinesBrought.{IsAtLine, at_site, brought_at_line, brought_counts}
 use Rattle.xrc_session.proofs.LinesInTime.{bring_does, in_time_does, in_time_done, suspends_as}
 use Rattle.xrc_session.proofs.LinesPlaces.{cause_of, counts_of, session_on}
@@ -122,10 +122,10 @@ module _ {S : Type 0} (tells : Type 0) (session : List ℕ) (controls : ℕ) (ke
       -- In each run the line is done.
       line_does : (left : S → Option (List ℕ)) → tells → (began : PlantState) → line.time.0 < 2 ^ 64 → BreakOnAsTraces left line.time.0 lanes after → (let r : Result (Unit {0}) Stop = Ok tt in BringsOn left line.time.0 lanes after kept kept_mid site brought began old mid r) → (flag : Bool) (result : Result LineAnswer Stop)
           → IfOk result (λ a. IsSiteAnswered tells kept_mid.names line a.answer brought next new) → IsWorkOfStore tells brought next mid new result → AnswersCommands line kept_mid kept_now brought next began mid new result → DoesLine left line s (session_on session controls kept_now next flag) lanes after began old new result
-      line_does left told began short broke brings flag result behind worked answers =
+      line_does left told began short broke brings flag result site_answered worked answers =
           subst (λ (x : SessionState). DoesLine left line x (session_on session controls kept_now next flag) lanes after began old new result) same
           (in_time_does tells told left was lanes old stands site refl line off up after mid works.works.site (works.works.elapses told) (works.works.silent told) began kept kept_mid refl brought short lanes_same broke at_line site_is names_is labels brings new
-          (counts_fell mid new result worked.counts) worked.works.site (worked.works.elapses told) (worked.works.silent told) kept_now names_are next flag result behind (worked.spent told) answers)
+          (counts_fell mid new result worked.counts) worked.works.site (worked.works.elapses told) (worked.works.silent told) kept_now names_are next flag result site_answered (worked.spent told) answers)
 
       keeps_new : {T : Type 0} (result : Result T Stop) → IsWorkOfStore tells brought next mid new result → KeepsPlant tells old new
       keeps_new {T} result worked = keeps_then tells old mid new keeps_mid (keeps_lent tells (IsOfMover brought) mid new worked.works keeps_mid.home)
@@ -152,7 +152,7 @@ module _ {S : Type 0} (tells : Type 0) (session : List ℕ) (controls : ℕ) (ke
         then_cause = cause_of old new result stop is (cause_before old mid new stop none_mid.fell worked.cause)
 
         pub then_counts : StopsByCount old new result
-        then_counts = counts_of {T = LineAnswer} {U = LineAnswer} old new result stop is (counts_behind old mid new (let r : Result LineAnswer Stop = Err stop in r) none_mid worked.counts)
+        then_counts = counts_of {T = LineAnswer} {U = LineAnswer} old new result stop is (counts_after old mid new (let r : Result LineAnswer Stop = Err stop in r) none_mid worked.counts)
 
         pub then_does : (left : S → Option (List ℕ)) → line.time.0 < 2 ^ 64 → BreakOnAsTraces left line.time.0 lanes after → tells → (began : PlantState) → (let r : Result (Unit {0}) Stop = Ok tt in BringsOn left line.time.0 lanes after kept kept_mid site brought began old mid r)
             → (let r : Result LineAnswer Stop = Err stop in AnswersCommands line kept_mid kept_now brought next began mid new r) → DoesLine left line s halted lanes after began old new result
@@ -162,7 +162,7 @@ module _ {S : Type 0} (tells : Type 0) (session : List ℕ) (controls : ℕ) (ke
 
       -- ---- done
 
-      module _ (a : LineAnswer) (worked : let r : Result LineAnswer Stop = Ok a in IsWorkOfStore tells brought next mid new r) (behind : IsSiteAnswered tells kept_mid.names line a.answer brought next new) (flag : Bool) (flag_is : flag ≡ is_end_accepted a.answer) where
+      module _ (a : LineAnswer) (worked : let r : Result LineAnswer Stop = Ok a in IsWorkOfStore tells brought next mid new r) (site_answered : IsSiteAnswered tells kept_mid.names line a.answer brought next new) (flag : Bool) (flag_is : flag ≡ is_end_accepted a.answer) where
         abbrev now : SessionState
         now = session_on session controls kept_now next flag
 
@@ -184,14 +184,14 @@ module _ {S : Type 0} (tells : Type 0) (session : List ℕ) (controls : ℕ) (ke
         pub done_hits : SuspendsByCounts s.table.rows now.table.rows old new
         done_hits =
             subst (λ (x : SessionState). SuspendsByCounts x.table.rows now.table.rows old new) same
-            (suspends_as site.told next.told site.table.rows next.table.rows old new at.may.idle.same behind.may.idle.same (suspends_then site.told brought.told next.told old mid new none_mid.fell none_then.fell works.hits worked.hits))
+            (suspends_as site.told next.told site.table.rows next.table.rows old new at.may.idle.same site_answered.may.idle.same (suspends_then site.told brought.told next.told old mid new none_mid.fell none_then.fell works.hits worked.hits))
 
         pub done_line : (next.table.is_ended ≡ false → IsSomeAnd kept_now.group (λ g. IsSoundForRows g next.told)) → (next.table.is_ended ≡ false → kept_now.group ≡ option_map (group_taken a.answer brought.told next.told) kept_mid.group) → IsDoneLine tells s now line after new a
         done_line rows taken =
             subst (λ (x : SessionState). IsDoneLine tells x now line after new a) same
-            (in_time_done tells was site refl line after kept_mid.names kept_mid.group brought mid at_line site_is.level labels new kept_now.names names_are kept_now.group next a behind rows taken flag
+            (in_time_done tells was site refl line after kept_mid.names kept_mid.group brought mid at_line site_is.level labels new kept_now.names names_are kept_now.group next a site_answered rows taken flag
             (flag_is ∙ sym (ap (λ (b : Bool). b || is_end_accepted a.answer) off)) worked.works.site done_keeps.home)
 
         pub done_does : (left : S → Option (List ℕ)) → line.time.0 < 2 ^ 64 → BreakOnAsTraces left line.time.0 lanes after → tells → (began : PlantState) → (let r : Result (Unit {0}) Stop = Ok tt in BringsOn left line.time.0 lanes after kept kept_mid site brought began old mid r)
             → (let r : Result LineAnswer Stop = Ok a in AnswersCommands line kept_mid kept_now brought next began mid new r) → (let r : Result LineAnswer Stop = Ok a in DoesLine left line s now lanes after began old new r)
-        done_does left short broke told began brings answers = line_does left told began short broke brings flag (let r : Result LineAnswer Stop = Ok a in r) behind worked answers
+        done_does left short broke told began brings answers = line_does left told began short broke brings flag (let r : Result LineAnswer Stop = Ok a in r) site_answered worked answers

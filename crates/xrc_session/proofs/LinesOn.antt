@@ -25,7 +25,7 @@ use Rattle.xrc_session.specs.LinePauses.{IsBetween, IsRunOfSession, IsRunOver, L
 use Rattle.xrc_session.specs.Frames.{KeepsPlant}
 use Rattle.xrc_session.specs.Lanes.{AllWent}
 use Rattle.xrc_session.specs.Lines.{IsSameSession, KeepsStart, StartsByLine}
-use Rattle.xrc_session.specs.Runs.{AreLabels, AreLabelsRead, IsBadBehind, IsKnownSession, RunsLines}
+use Rattle.xrc_session.specs.Runs.{AreLabels, AreLabelsRead, IsBadAfter, IsKnownSession, RunsLines}
 use Rattle.xrc_session.specs.Starting.{BeginsByLine, BeginsRun, BeginsSafely, HasBegunRun, HasStartedRun, RepliesToStart, level_started, reply_to_start}
 use Rattle.xrc_session.specs.Starting.BeginsRun.{Unstarted}
 use Rattle.xrc_session.specs.States.{SessionState, session_time}
@@ -33,7 +33,7 @@ use Rattle.xrc_session.specs.Steps.{AnswersLine, EndsLine, known_by}
 use Rattle.xrc_session.specs.Stops.{HasRunCause, HasStopCause, StopsByCount}
 use Rattle.xrc_session.proofs.HeardLines.{HasHeardLines, heard_now, last_more, lines_heard, start_heard}
 use Rattle.xrc_session.proofs.Hearings.{next_one}
-use Rattle.xrc_session.proofs.InTurn.{NoneFell, NoneRisen, cause_before, counts_behind, fell_then, keeps_then, none_risen_then, rises_before, went_read, went_then}
+use Rattle.xrc_session.proofs.InTurn.{NoneFell, NoneRisen, cause_before, counts_after, fell_then, keeps_then, none_risen_then, rises_before, went_read, went_then}
 use Rattle.xrc_session.proofs.LinesDone.{known_started, known_unstarted}
 use Rattle.xrc_session.proofs.LinesNext.{Heard, fell_heard, heard_begun, heard_counts, heard_keeps, labels_mid}
 use Rattle.xrc_session.proofs.LinesBegun.{between_may_go_on}
@@ -43,7 +43,7 @@ use Rattle.xrc_session.proofs.SafeStarts.{begins_by_start, begun_run, has_starte
 
 -- ---- a line that counts
 
--- What counts at a number and behind a time.
+-- What counts at a number and after a time.
 line_counts : (number before : ℕ) (o : Option Line) (line : Line) → later_line number before o ≡ Some line → (number < most_lines) × (before ≤ line.time.0) × (o ≡ Some line)
 line_counts number before None line is = absurd cc
 line_counts number before (Some l) line is = by_bound (nat_lt number most_lines) (nat_le before l.time.0) refl refl is
@@ -211,7 +211,7 @@ module _ {S : Type 0} {tells : Type 0} {left : S → Option (List ℕ)} {faults 
               bad = λ bad. absurd (whole_not_bad tells number before text mid.script line d.is (bad_here at.0 at.2 at.3 bad));
               of_bad = λ n same_stop. absurd (no_bad n (subst (λ (x : Stop). HasStopCause mid new x) same_stop cause));
               applied = at.1.1;
-              behind_end = at.1.2;
+              after_end = at.1.2;
             },
           ),
         );
@@ -220,7 +220,7 @@ module _ {S : Type 0} {tells : Type 0} {left : S → Option (List ℕ)} {faults 
       no_bad : (n : ℕ) → HasStopCause mid new (BadLine n) → ⊥
       no_bad n never = never
 
-      bad_here : (lines : List Answered) → number ≡ length lines + 1 → last_line_time lines (length lines) ≡ before → IsBadBehind tells lines text new.script → IsNextLine tells number before text mid.script next.Bad
+      bad_here : (lines : List Answered) → number ≡ length lines + 1 → last_line_time lines (length lines) ≡ before → IsBadAfter tells lines text new.script → IsNextLine tells number before text mid.script next.Bad
       bad_here lines counted time bad =
           subst (λ (b : ℕ). IsNextLine tells number b text mid.script next.Bad) time
           (subst (λ (n : ℕ). IsNextLine tells n (last_line_time lines (length lines)) text mid.script next.Bad) (sym counted)
@@ -230,7 +230,7 @@ module _ {S : Type 0} {tells : Type 0} {left : S → Option (List ℕ)} {faults 
   line_cause stop cause = inl (cause_before began mid new stop (heard_counts h d.quiet).fell cause)
 
   pub line_counts_on : (result : Result (Unit {0}) Stop) → StopsByCount mid new result → StopsByCount began new result
-  line_counts_on result counts = counts_behind began mid new result (heard_counts h d.quiet) counts
+  line_counts_on result counts = counts_after began mid new result (heard_counts h d.quiet) counts
 
   -- ---- it is answered
 

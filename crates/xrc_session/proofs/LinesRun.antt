@@ -22,7 +22,7 @@ use Rattle.mover.proofs.TurningOut.{traces_turn_out}
 use Rattle.xrc_command.specs.declared.line.Line.{Line}
 use Rattle.xrc_status.specs.declared.stop.Stop.{Stop}
 use Rattle.xrc_status.specs.declared.stop.Stop.TheVariants.{Spent}
-use Rattle.xrc_session.specs.LinePauses.{HasAnswered, HasNotBegun, IsBetween, IsRunOver, LeavesAll, RestsAtSite, stage_behind}
+use Rattle.xrc_session.specs.LinePauses.{HasAnswered, HasNotBegun, IsBetween, IsRunOver, LeavesAll, RestsAtSite, stage_after_text}
 use Rattle.xrc_session.specs.Ends.{StopsInLine}
 use Rattle.xrc_session.specs.Frames.{KeepsPlant}
 use Rattle.xrc_session.specs.Lanes.{AllWent, HaveHeadsOf}
@@ -31,7 +31,7 @@ use Rattle.xrc_session.specs.Runs.{AreLabels}
 use Rattle.xrc_session.specs.Starting.{HasBegunRun}
 use Rattle.xrc_session.specs.States.{SessionState, session_time}
 use Rattle.xrc_session.specs.Trails.{GoesForth, Trail, BeginsAtStart, StandsOnTrail}
-use Rattle.xrc_session.proofs.Consoles.{behind_heard, behind_on}
+use Rattle.xrc_session.proofs.Consoles.{after_heard, after_on}
 use Rattle.xrc_session.proofs.HeardLines.{HasHeardLines, next_is_line}
 use Rattle.xrc_session.proofs.AppliedEnds.{stays_on}
 use Rattle.xrc_session.proofs.Hearings.{hearing_goes_on}
@@ -52,25 +52,25 @@ labels_before old mid new labels site leaves are = labels_since old mid new 0 la
 
 module _ {S : Type 0} (run : ScriptRun) (lines : List Answered) (trail : Trail) (text : List ℕ) (s : SessionState) (lanes : List (Lane S)) (began old new : PlantState) (tells : Type 0) (told : tells) (works : WorksOnConsole tells old new) (heard : HearsText text old new) (silent : SaysNothing old new)
     (one : lines_begun text ≤ 1) (keeps : KeepsHearing [] text began old new) (answered : HasAnswered run lines trail [] s lanes began old) where
-  -- So much was heard behind the lines that a session has answered.
+  -- So much was heard after the lines that a session has answered.
   pub hears_on : HasAnswered run lines trail text s lanes began new
   hears_on = record {
     goes = hearing_goes_on began old new run lines text answered.goes tells told works heard silent one keeps;
     exact = answered.exact;
     stands =
-        behind_on tells old new works told run lines (stage_behind run lines text began) trail s began answered.goes.now.site answered.goes.now.later
-        (behind_heard run lines (stage_behind run lines [] began) (stage_behind run lines text began).next trail s began old (answered.goes.now.heard ∙ ap (λ (l : List ℕ). began.heard began.clock ++ l) (append-nil (texts_of lines))) answered.goes.now.said answered.stands);
+        after_on tells old new works told run lines (stage_after_text run lines text began) trail s began answered.goes.now.site answered.goes.now.later
+        (after_heard run lines (stage_after_text run lines [] began) (stage_after_text run lines text began).next trail s began old (answered.goes.now.heard ∙ ap (λ (l : List ℕ). began.heard began.clock ++ l) (append-nil (texts_of lines))) answered.goes.now.said answered.stands);
     broke = answered.broke;
     applied = stays_on tells told run lines began old new works answered.applied;
   }
 
   -- A line that was heard whole is the next one.
-  pub hears_line : (line : Line) (number before : ℕ) → IsNextLine tells number before text new.script (next.Line line) → number ≡ length lines + 1 → last_line_time lines (length lines) ≡ before → (stage_behind run lines text began).next ≡ Some line
+  pub hears_line : (line : Line) (number before : ℕ) → IsNextLine tells number before text new.script (next.Line line) → number ≡ length lines + 1 → last_line_time lines (length lines) ≡ before → (stage_after_text run lines text began).next ≡ Some line
   hears_line line number before is counted time =
       next_is_line tells told began.script lines text new.script line number before
       (answered.goes.now.script ∙ ap (λ (l : List ℕ). l ++ old.script) (append-nil (texts_of lines)) ∙ ap (λ (l : List ℕ). texts_of lines ++ l) heard.script ∙ sym (append_assoc (texts_of lines) text new.script)) is counted time
 
--- A run stops behind lines where so much was heard of the next one.
+-- A run stops after lines where so much was heard of the next one.
 pub hearing_stops : {S : Type 0} (run : ScriptRun) (lines : List Answered) (trail : Trail) (text : List ℕ) (s : SessionState) (lanes : List (Lane S)) (began now : PlantState) (stop : Stop) → HasAnswered run lines trail text s lanes began now → (s.site ≡ None → s.table.is_started ≡ false) → ¬ (stop ≡ Spent) → StopsInLine run lines text began now stop
 hearing_stops {S} run lines trail text s lanes began now stop answered unstarted other = record {
   trail = trail;
@@ -88,22 +88,22 @@ hearing_stops {S} run lines trail text s lanes began now stop answered unstarted
   spent = λ is. absurd (other is);
 }
   where
-    by_begun : (o : Option SiteState) → s.site ≡ o → IsTrue (stage_at run lines (length lines)).table.is_started → MatchOption o (HasNotBegun trail began now) (RestsAtSite run lines (stage_behind run lines text began) trail s began now)
+    by_begun : (o : Option SiteState) → s.site ≡ o → IsTrue (stage_at run lines (length lines)).table.is_started → MatchOption o (HasNotBegun trail began now) (RestsAtSite run lines (stage_after_text run lines text began) trail s began now)
         → (0 < trail.started) × BeginsAtStart run lines trail
     by_begun None is on none = absurd (true≢false (sym on ∙ ap (λ (t : Table). t.is_started) answered.stands.table ∙ unstarted is))
     by_begun (Some site) is on rests = (rests.under_way.some, rests.under_way.begins)
 
-    by_none : (o : Option SiteState) → trail.started ≡ 0 → MatchOption o (HasNotBegun trail began now) (RestsAtSite run lines (stage_behind run lines text began) trail s began now) → trail.points ≡ []
+    by_none : (o : Option SiteState) → trail.started ≡ 0 → MatchOption o (HasNotBegun trail began now) (RestsAtSite run lines (stage_after_text run lines text began) trail s began now) → trail.points ≡ []
     by_none None zero not_begun = not_begun.points
     by_none (Some site) zero rests = absurd (omega (arith, zero, rests.under_way.some))
 
-    by_along : (o : Option SiteState) → 0 < trail.started → MatchOption o (HasNotBegun trail began now) (RestsAtSite run lines (stage_behind run lines text began) trail s began now)
-        → StandsOnTrail run lines (stage_behind run lines text began).next trail None now
+    by_along : (o : Option SiteState) → 0 < trail.started → MatchOption o (HasNotBegun trail began now) (RestsAtSite run lines (stage_after_text run lines text began) trail s began now)
+        → StandsOnTrail run lines (stage_after_text run lines text began).next trail None now
     by_along None some none = absurd (omega (arith, some, none.started))
-    by_along (Some site) some rests = rests_on_trail run lines (stage_behind run lines text began) trail s began now site rests
+    by_along (Some site) some rests = rests_on_trail run lines (stage_after_text run lines text began) trail s began now site rests
 
-    by_place : (o : Option SiteState) → 0 < now.clock → 0 < trail.started → MatchOption o (HasNotBegun trail began now) (RestsAtSite run lines (stage_behind run lines text began) trail s began now)
-        → GoesForth run lines (stage_behind run lines text began).next trail None began now
+    by_place : (o : Option SiteState) → 0 < now.clock → 0 < trail.started → MatchOption o (HasNotBegun trail began now) (RestsAtSite run lines (stage_after_text run lines text began) trail s began now)
+        → GoesForth run lines (stage_after_text run lines text began).next trail None began now
     by_place None up some none = absurd (omega (arith, some, none.started))
     by_place (Some site) up some rests = rests.under_way.goes_forth up
 
@@ -135,7 +135,7 @@ pub record IsRunning {S : Type 0} (tells : Type 0) (left : S → Option (List �
 
 -- ---- one line
 
--- A run over what a session has come to behind a line is one over what it was before it.
+-- A run over what a session has come to after a line is one over what it was before it.
 pub over_before : {S : Type 0} (left : S → Option (List ℕ)) (run : ScriptRun) (s next : SessionState) (lanes mid after : List (Lane S)) (began old new : PlantState) → KeepsStart s next → next.session ≡ s.session → AllReadOn left lanes mid → AllMayGoOn mid → AllReadOn left mid after → NoneFell old new
     → IsRunOver left run next lanes after began new → IsRunOver left run s lanes mid began old × AllTurnOut left run.traces mid after
 over_before {S} left run s next lanes mid after began old new keeps name first may on_to fell over =

@@ -1,5 +1,5 @@
 -- A line's reply is said.
-use Rattle.xrc_session.proofs.RepliesNow.{bears_behind}
+use Rattle.xrc_session.proofs.RepliesNow.{bears_after}
 use Rattle.xrc_session.proofs.OnTrail.{rests_on_trail}
 use Rattle.pair_table.specs.Tables.{Table}
 use Rattle.std.proofs.Common.{◌≡◌, ℕ, ◌<◌, ◌≤◌, true, List, [], ◌∷◌, ◌++◌, length, take, Option, Some, None, refl, sym, ap, subst, ◌∙◌, append_assoc, arith, true≢false}
@@ -18,16 +18,16 @@ use Rattle.xrc_command.specs.declared.line.Line.{Line}
 use Rattle.xrc_status.specs.Saying.{SaidWhole}
 use Rattle.xrc_status.specs.declared.stop.Stop.TheVariants.{ConsoleFault}
 use Rattle.xrc_session.specs.declared.answering.LineAnswer.{LineAnswer}
-use Rattle.xrc_session.specs.AppliedEnds.{IsAllApplied, StaysApplied, StaysAppliedBehind}
-use Rattle.xrc_session.specs.LinePauses.{HasAnswered, HasNotBegun, RestsAtSite, StandsBehindLines, stage_behind}
+use Rattle.xrc_session.specs.AppliedEnds.{IsAllApplied, StaysApplied, StaysAppliedAfter}
+use Rattle.xrc_session.specs.LinePauses.{HasAnswered, HasNotBegun, RestsAtSite, StandsAfterLines, stage_after_text}
 use Rattle.xrc_session.specs.Ends.{StopsInLine}
 use Rattle.xrc_session.specs.Replying.{reply_composed}
 use Rattle.xrc_session.specs.States.{SessionState}
-use Rattle.xrc_session.specs.Steps.{IsExactBehind, IsToReply, line_answered}
+use Rattle.xrc_session.specs.Steps.{IsExactAfter, IsToReply, line_answered}
 use Rattle.xrc_session.specs.Stops.{RepliesInPart}
 use Rattle.xrc_session.specs.Trails.{AreExact, GoesForth, Trail, first_leg, BeginsAtStart, StandsOnTrail}
 use Rattle.xrc_session.proofs.AppliedEnds.{applied_still, applies_before, said_before, stays_more, stays_on}
-use Rattle.xrc_session.proofs.Consoles.{behind_on}
+use Rattle.xrc_session.proofs.Consoles.{after_on}
 use Rattle.xrc_session.proofs.Courses.{none_next}
 use Rattle.xrc_session.proofs.Exactly.{exact_more}
 use Rattle.xrc_session.proofs.Replied.{IsAsTold, reply_is_exact}
@@ -38,10 +38,10 @@ module _ {S : Type 0} (run : ScriptRun) (lines : List Answered) (trail : Trail) 
   abbrev a : Answered
   a = line_answered run lines text line to.changes to.hits began reply
 
-  exact : IsExactBehind run lines trail text began a
+  exact : IsExactAfter run lines trail text began a
   exact = reply_is_exact run lines trail text line answer s lanes began mid to as_told many reply composed
 
-  may : MayReply run (stage_behind run lines text began) lines (first_leg run (lines ++ a ∷ []) trail) trail.points a mid
+  may : MayReply run (stage_after_text run lines text began) lines (first_leg run (lines ++ a ∷ []) trail) trail.points a mid
   may = to.may reply exact
 
   answered : IsAnswered run (stage_at run lines (length lines)) a
@@ -50,17 +50,17 @@ module _ {S : Type 0} (run : ScriptRun) (lines : List Answered) (trail : Trail) 
   exact_all : AreExact run (lines ++ a ∷ []) trail
   exact_all = exact_more run lines trail to.begins a to.exact (record { exact = exact; brings = λ on. let b = to.brings reply on in record { changes = b.changes; rows = b.rows } })
 
-  stands : StandsBehindLines run (lines ++ a ∷ []) (stage_behind run (lines ++ a ∷ []) [] began) trail s began new
-  stands = behind_on tells mid new works told run (lines ++ a ∷ []) (stage_behind run (lines ++ a ∷ []) [] began) trail s began to.goes.now.site to.goes.now.later (to.stands reply)
+  stands : StandsAfterLines run (lines ++ a ∷ []) (stage_after_text run (lines ++ a ∷ []) [] began) trail s began new
+  stands = after_on tells mid new works told run (lines ++ a ∷ []) (stage_after_text run (lines ++ a ∷ []) [] began) trail s began to.goes.now.site to.goes.now.later (to.stands reply)
 
-  applied_now : (stage_behind run (lines ++ a ∷ []) [] began).table.is_ended ≡ true → IsAllApplied new new.clock
+  applied_now : (stage_after_text run (lines ++ a ∷ []) [] began).table.is_ended ≡ true → IsAllApplied new new.clock
   applied_now ended = applied_still tells told mid new works (to.applied reply ended)
 
   later : mid.clock ≤ new.clock
   later = ((works.elapses told).kept Control).later
 
   -- So it is from the reply's first byte on.
-  stays_now : 0 < began.clock → (stage_behind run (lines ++ a ∷ []) [] began).table.is_ended ≡ true → StaysAppliedBehind lines began new
+  stays_now : 0 < began.clock → (stage_after_text run (lines ++ a ∷ []) [] began).table.is_ended ≡ true → StaysAppliedAfter lines began new
   stays_now up ended = applies_before tells told lines began mid new works to.goes.now.later (said_before run lines text began mid (to.goes.keeps up)) (to.applied reply ended) up
 
   -- Once it was said whole, the line is answered.
@@ -87,7 +87,7 @@ module _ {S : Type 0} (run : ScriptRun) (lines : List Answered) (trail : Trail) 
         applied = applied_now;
         stays = stays_now;
         bears = λ up. replies_fail run lines (first_leg run (lines ++ a ∷ []) trail) trail.points a began mid new to.goes may tells told works says up;
-        bears_now = bears_behind run lines (first_leg run (lines ++ a ∷ []) trail) trail.points a began mid new to.goes may tells told works;
+        bears_now = bears_after run lines (first_leg run (lines ++ a ∷ []) trail) trail.points a began mid new to.goes may tells told works;
       }
 
   -- Where the console failed the session stops within the reply.
@@ -109,22 +109,22 @@ module _ {S : Type 0} (run : ScriptRun) (lines : List Answered) (trail : Trail) 
   }
     where
       by_begun : (o : Option SiteState) → s.site ≡ o → IsTrue (stage_at run (lines ++ a ∷ []) (length (lines ++ a ∷ []))).table.is_started
-          → MatchOption o (HasNotBegun trail began new) (RestsAtSite run (lines ++ a ∷ []) (stage_behind run (lines ++ a ∷ []) [] began) trail s began new) → (0 < trail.started) × BeginsAtStart run (lines ++ a ∷ []) trail
+          → MatchOption o (HasNotBegun trail began new) (RestsAtSite run (lines ++ a ∷ []) (stage_after_text run (lines ++ a ∷ []) [] began) trail s began new) → (0 < trail.started) × BeginsAtStart run (lines ++ a ∷ []) trail
       by_begun None is on none = absurd (true≢false (sym on ∙ ap (λ (t : Table). t.is_started) stands.table ∙ as_told.unstarted is))
       by_begun (Some site) is on rests = (rests.under_way.some, rests.under_way.begins)
 
-      by_none : (o : Option SiteState) → trail.started ≡ 0 → MatchOption o (HasNotBegun trail began new) (RestsAtSite run (lines ++ a ∷ []) (stage_behind run (lines ++ a ∷ []) [] began) trail s began new) → trail.points ≡ []
+      by_none : (o : Option SiteState) → trail.started ≡ 0 → MatchOption o (HasNotBegun trail began new) (RestsAtSite run (lines ++ a ∷ []) (stage_after_text run (lines ++ a ∷ []) [] began) trail s began new) → trail.points ≡ []
       by_none None zero not_begun = not_begun.points
       by_none (Some site) zero rests = absurd (omega (arith, zero, rests.under_way.some))
 
-      by_along : (o : Option SiteState) → 0 < trail.started → MatchOption o (HasNotBegun trail began new) (RestsAtSite run (lines ++ a ∷ []) (stage_behind run (lines ++ a ∷ []) [] began) trail s began new)
+      by_along : (o : Option SiteState) → 0 < trail.started → MatchOption o (HasNotBegun trail began new) (RestsAtSite run (lines ++ a ∷ []) (stage_after_text run (lines ++ a ∷ []) [] began) trail s began new)
           → StandsOnTrail run (lines ++ a ∷ []) None trail None new
       by_along None some none = absurd (omega (arith, some, none.started))
       by_along (Some site) some rests =
           subst (λ (o : Option Line). StandsOnTrail run (lines ++ a ∷ []) o trail None new) (none_next run began.script (lines ++ a ∷ []))
-          (rests_on_trail run (lines ++ a ∷ []) (stage_behind run (lines ++ a ∷ []) [] began) trail s began new site rests)
+          (rests_on_trail run (lines ++ a ∷ []) (stage_after_text run (lines ++ a ∷ []) [] began) trail s began new site rests)
 
-      by_place : (o : Option SiteState) → 0 < new.clock → 0 < trail.started → MatchOption o (HasNotBegun trail began new) (RestsAtSite run (lines ++ a ∷ []) (stage_behind run (lines ++ a ∷ []) [] began) trail s began new)
+      by_place : (o : Option SiteState) → 0 < new.clock → 0 < trail.started → MatchOption o (HasNotBegun trail began new) (RestsAtSite run (lines ++ a ∷ []) (stage_after_text run (lines ++ a ∷ []) [] began) trail s began new)
           → GoesForth run (lines ++ a ∷ []) None trail None began new
       by_place None up some none = absurd (omega (arith, some, none.started))
       by_place (Some site) up some rests =

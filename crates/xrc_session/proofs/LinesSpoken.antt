@@ -27,9 +27,9 @@ use Rattle.xrc_session.specs.declared.answering.LineAnswer.{LineAnswer}
 use Rattle.xrc_session.specs.LinePauses.{IsBetween, IsRunOver}
 use Rattle.xrc_session.specs.Frames.{KeepsPlant, SuspendsByCounts}
 use Rattle.xrc_session.specs.Lines.{IsDoneLine, IsStartAnswered}
-use Rattle.xrc_session.specs.Replying.{causes_in, reply_composed, report_in, reported_site, time_told}
+use Rattle.xrc_session.specs.Replying.{causes_in, reply_composed, report_in, reported_site, time_said}
 use Rattle.xrc_session.specs.Runs.{AreLabelsRead}
-use Rattle.xrc_session.specs.Starting.{BeginsByLine, RepliesToStart, StandsBehindStart, level_started, reply_to_start}
+use Rattle.xrc_session.specs.Starting.{BeginsByLine, RepliesToStart, StandsAfterStart, level_started, reply_to_start}
 use Rattle.xrc_session.specs.States.{SessionState}
 use Rattle.xrc_session.specs.Steps.{AnswersLine, DoesLine, known_by, line_answered}
 use Rattle.xrc_session.specs.Stops.{HasStopCause, StopsByCount}
@@ -45,9 +45,9 @@ use Rattle.xrc_session.proofs.SafeStarts.{begins_said}
 
 -- ---- the reply to a start
 
--- No report is told before the reply to a start.
+-- No report is said before the reply to a start.
 start_reply : (site : SiteState) (causes : List (Option Cause)) (time : ℕ) (c : Command) (answer : Result Change Refusal) (tracks : ℕ) (level : Level) → c ≡ Start level → answer ≡ Ok changes.Started → tracks ≡ 0 → site.time ≡ time
-    → report_in (reported_site (Some site) c answer) causes ++ reply_line time c answer tracks (time_told (Some site)) ≡ reply_to_start level time
+    → report_in (reported_site (Some site) c answer) causes ++ reply_line time c answer tracks (time_said (Some site)) ≡ reply_to_start level time
 start_reply site causes time c answer tracks level command started none same =
     ap (λ (x : Command). report_in (reported_site (Some site) x answer) causes ++ reply_line time x answer tracks (Some (stamp site.time))) command
     ∙ ap (λ (r : Result Change Refusal). report_in (reported_site (Some site) (Start level) r) causes ++ reply_line time (Start level) r tracks (Some (stamp site.time))) started
@@ -87,7 +87,7 @@ module _ {S : Type 0} (tells : Type 0) (left : S → Option (List ℕ)) (s next 
   pub spoken_labels : (labels : List NamedDevice) → AreLabelsRead old mid labels → AreLabelsRead old new labels
   spoken_labels labels read = read_still old mid new labels (λ d. none.fell.devices (Volume d)) (λ d. works.faults (Volume d)) read
 
-  pub spoken_begins : (told : tells) (session : List ℕ) → BeginsByLine session line old mid → IfSome (level_started session line) (λ level. StandsBehindStart session level line.time.0 old mid) → BeginsByLine session line old new
+  pub spoken_begins : (told : tells) (session : List ℕ) → BeginsByLine session line old mid → IfSome (level_started session line) (λ level. StandsAfterStart session level line.time.0 old mid) → BeginsByLine session line old new
   spoken_begins told session begins means = begins_said session line tells old mid new told keeps.site (keeps.elapses told) works begins means
 
   -- ---- in a run
@@ -127,7 +127,7 @@ module _ {S : Type 0} (tells : Type 0) (left : S → Option (List ℕ)) (s next 
       by_site level is None site_is time start tracks = absurd time
       by_site level is (Some site) site_is time start tracks =
           said ∙ ap (λ (l : List ℕ). old.said old.clock ++ l)
-          (composed ∙ ap (λ (o : Option SiteState). report_in (reported_site o line.command answered.answer) (causes_in after) ++ reply_line line.time.0 line.command answered.answer answered.tracks (time_told o)) site_is
+          (composed ∙ ap (λ (o : Option SiteState). report_in (reported_site o line.command answered.answer) (causes_in after) ++ reply_line line.time.0 line.command answered.answer answered.tracks (time_said o)) site_is
           ∙ start_reply site (causes_in after) line.time.0 line.command answered.answer answered.tracks level (started_command session line level is) start tracks time)
 
       by_level : (o : Option Level) → level_started session line ≡ o → IfSome o (λ level. IsStartAnswered next.site line.time.0 answered) → IfSome o (λ level. new.said new.clock ≡ old.said old.clock ++ reply_to_start level line.time.0)

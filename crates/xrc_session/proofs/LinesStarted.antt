@@ -1,4 +1,4 @@
--- The line that starts a session may be replied to, and the session stands behind it.
+-- The line that starts a session may be replied to, and the session stands after it.
 use Rattle.std.proofs.Common.{◌≡◌, ℕ, suc, ◌^◌, ◌<◌, ◌≤◌, Bool, false, true≢false, List, [], ◌∷◌, ◌++◌, length, take, Option, Some, None, refl, sym, ap, subst, ◌∙◌, append-nil, arith}
 use Rattle.std.specs.Prelude.{◌-◌, IfSome, IsSomeAnd, MatchOption, if◌then◌else◌}
 use Rattle.std.proofs.lemmas.List.{length_push, take-append-le, take_all}
@@ -36,7 +36,7 @@ use Rattle.mover.specs.Working.{LinesAsked}
 use Rattle.xrc_command.specs.declared.line.Line.{Line}
 use Rattle.xrc_status.specs.declared.stop.Stop.TheVariants.{NoMemory}
 use Rattle.xrc_session.specs.declared.answering.LineAnswer.{LineAnswer}
-use Rattle.xrc_session.specs.LinePauses.{GoesOnFrom, HasNotBegun, IsRunOfSession, RestsAtSite, StandsAtLeg, StandsBehindLines, site_point, stage_behind}
+use Rattle.xrc_session.specs.LinePauses.{GoesOnFrom, HasNotBegun, IsRunOfSession, RestsAtSite, StandsAfterLines, StandsAtLeg, site_point, stage_after_text}
 use Rattle.xrc_session.specs.Frames.{ChangesRows, rows_passed}
 use Rattle.xrc_session.specs.Starting.{StandsStarted, level_started}
 use Rattle.xrc_session.specs.States.{SessionState, site_time}
@@ -70,7 +70,7 @@ module _ {S : Type 0} (run : ScriptRun) (lines : List Answered) (trail : Trail) 
     (is : answered.answer ≡ answer names s.table line.session line.command) (level : Level) (starts : level_started s.session line ≡ Some level) (command : line.command ≡ Start level) (next : SessionState) (lanes_now : List (Lane S)) (site : SiteState)
     (started : IsJustStarted run s next lanes_now site line.time.0 level began new) (short : line.time.0 < 2 ^ 64) where
   abbrev stage : Stage
-  stage = stage_behind run lines text began
+  stage = stage_after_text run lines text began
 
   abbrev begun : Trail
   begun = record { started = suc (length lines); points = [] }
@@ -107,16 +107,16 @@ module _ {S : Type 0} (run : ScriptRun) (lines : List Answered) (trail : Trail) 
     table_then : a.table ≡ started_table s.session []
     table_then = unstarted_table run lines trail text line s lanes began old heard unstarted fresh reply ∙ ap (table_by_level s.session) starts
 
-    abbrev behind : Stage
-    behind = stage_behind run (lines ++ a ∷ []) [] began
+    abbrev new_stage : Stage
+    new_stage = stage_after_text run (lines ++ a ∷ []) [] began
 
-    stage_is : behind ≡ stage_after (stage_at run lines (length lines)) a
+    stage_is : new_stage ≡ stage_after (stage_at run lines (length lines)) a
     stage_is = stage_answered run began.script lines a
 
     not_ended : stage.table.is_ended ≡ false
     not_ended = ap (λ (t : Table). t.is_ended) (table_is run lines trail text line s lanes began old heard unstarted fresh)
 
-    -- The site's point is the one behind the line.
+    -- The site's point is the one after the line.
     point_is : stage_point (stage_after stage a) ≡ site_point site
     point_is = λ i. record {
       time = (ap (λ (e : Bool). if e then stage.replied else line.time.0) not_ended ∙ sym started.time) i;
@@ -139,30 +139,30 @@ module _ {S : Type 0} (run : ScriptRun) (lines : List Answered) (trail : Trail) 
     first_point : first.point ≡ site_point site
     first_point = ap stage_point more_is ∙ point_is
 
-    table_there : behind.table ≡ table_at run (stage_point behind)
+    table_there : new_stage.table ≡ table_at run (stage_point new_stage)
     table_there =
-        let t : behind.table ≡ started_table s.session [] = ap (λ (x : Stage). x.table) stage_is ∙ table_then in
-        (λ i. record { session = (ap (λ (x : Table). x.session) t ∙ sym session_is) i; is_started = (ap (λ (x : Table). x.is_started) t) i; is_ended = behind.table.is_ended; rows = behind.table.rows })
+        let t : new_stage.table ≡ started_table s.session [] = ap (λ (x : Stage). x.table) stage_is ∙ table_then in
+        (λ i. record { session = (ap (λ (x : Table). x.session) t ∙ sym session_is) i; is_started = (ap (λ (x : Table). x.is_started) t) i; is_ended = new_stage.table.is_ended; rows = new_stage.table.rows })
 
-    first_is : first ≡ leg_at behind (suc (length lines))
+    first_is : first ≡ leg_at new_stage (suc (length lines))
     first_is = ap (λ (x : Stage). leg_at x (suc (length lines))) (more_is ∙ sym stage_is)
 
-    past_is : behind.past ≡ []
+    past_is : new_stage.past ≡ []
     past_is =
         ap (λ (x : Stage). x.past) stage_is ∙ append-nil (stage.past ++ []) ∙ append-nil stage.past ∙ none_past run lines trail text line s lanes began old heard unstarted fresh
 
-    hits : AreHitsOfFaults (leg_at behind (suc (length lines))) began new
+    hits : AreHitsOfFaults (leg_at new_stage (suc (length lines))) began new
     hits d below =
-        let none : hit_count d behind.past ≡ 0 = ap (hit_count d) past_is in
+        let none : hit_count d new_stage.past ≡ 0 = ap (hit_count d) past_is in
         omega (arith, none, started.faults d)
 
-    at : StandsAtLeg run behind first site began new
+    at : StandsAtLeg run new_stage first site began new
     at =
-        subst (λ (k : Leg). StandsAtLeg run behind k site began new) (sym first_is)
+        subst (λ (k : Leg). StandsAtLeg run new_stage k site began new) (sym first_is)
         (record {
           here = ap (λ (k : Leg). k.point) (sym first_is) ∙ first_point;
           shows = started.stands.shows;
-          leg = leg_begins run behind (suc (length lines)) table_there;
+          leg = leg_begins run new_stage (suc (length lines)) table_there;
           counted = hits;
         })
 
@@ -191,7 +191,7 @@ module _ {S : Type 0} (run : ScriptRun) (lines : List Answered) (trail : Trail) 
         ∙ ap (accepts_end run (table_at run first.point)) (asked_there lines (Some line) (length lines) refl)
         ∙ ap (λ (c : Command). accepts_end run (table_at run first.point) (Some (record line { command = c }))) command
 
-    rests : RestsAtSite run (lines ++ a ∷ []) behind begun next began new site
+    rests : RestsAtSite run (lines ++ a ∷ []) new_stage begun next began new site
     rests = record {
       under_way = record {
         some = omega arith;
@@ -219,13 +219,13 @@ module _ {S : Type 0} (run : ScriptRun) (lines : List Answered) (trail : Trail) 
       named = λ on. started.named;
     }
 
-    stands_behind : StandsBehindLines run (lines ++ a ∷ []) behind begun next began new
-    stands_behind = record {
+    stands_after : StandsAfterLines run (lines ++ a ∷ []) new_stage begun next began new
+    stands_after = record {
       its = started.its;
       table = ap (λ (x : Stage). x.table) stage_is ∙ table_then ∙ sym started.table;
       volumes = subst (λ (xs : List PassedPoint). ChangesRows (rows_passed xs) began new) (not_begun run lines trail text line s lanes began old heard unstarted fresh).points
           (unstarted_volumes run lines trail text line s lanes began old heard unstarted fresh new same elapses silent tells told volumes);
-      place = subst (λ (o : Option SiteState). MatchOption o (HasNotBegun begun began new) (RestsAtSite run (lines ++ a ∷ []) behind begun next began new)) (sym started.site_is) rests;
+      place = subst (λ (o : Option SiteState). MatchOption o (HasNotBegun begun began new) (RestsAtSite run (lines ++ a ∷ []) new_stage begun next began new)) (sym started.site_is) rests;
     }
 
   -- The line may be replied to.
@@ -251,7 +251,7 @@ module _ {S : Type 0} (run : ScriptRun) (lines : List Answered) (trail : Trail) 
       may = λ on. absurd (true≢false (sym on ∙ stage_off));
       shows = λ on. shows reply;
     };
-    stands = stands_behind;
+    stands = stands_after;
     broke = subst (λ (o : Option SiteState). LanesBrokeAs (site_time o) run.traces lanes_now) (sym started.site_is) started.broke;
     wants = unstarted_wants run lines trail text line s lanes began old heard unstarted fresh names answered is begun next;
   }

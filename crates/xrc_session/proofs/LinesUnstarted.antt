@@ -22,7 +22,7 @@ use Rattle.consistency.specs.Stages.{ScriptRun, Stage, accepts, breaks_of, names
 use Rattle.consistency.specs.Pauses.{RunGoesOn}
 use Rattle.consistency.specs.Courses.{Answered, IsAnswered, stage_at}
 use Rattle.consistency.specs.Leads.{Point}
-use Rattle.consistency.specs.Replying.{HasNames, IsExact, told_tracks}
+use Rattle.consistency.specs.Replying.{HasNames, IsExact, said_tracks}
 use Rattle.consistency.specs.Steps.{names_at}
 use Rattle.consistency.specs.Ways.{PassedPoint}
 use Rattle.consistency.proofs.Keeping.{stage_answered}
@@ -34,13 +34,13 @@ use Rattle.xrc_command.specs.declared.line.Line.{Line}
 use Rattle.xrc_status.specs.declared.stop.Stop.{Stop}
 use Rattle.xrc_status.specs.declared.stop.Stop.TheVariants.{NoMemory, Spent}
 use Rattle.xrc_session.specs.declared.answering.LineAnswer.{LineAnswer}
-use Rattle.xrc_session.specs.LinePauses.{HasNotBegun, RestsAtSite, StandsBehindLines, stage_behind}
+use Rattle.xrc_session.specs.LinePauses.{HasNotBegun, RestsAtSite, StandsAfterLines, stage_after_text}
 use Rattle.xrc_session.specs.Ends.{StopsInLine}
 use Rattle.xrc_session.specs.Frames.{ChangesRows, rows_passed}
 use Rattle.xrc_session.specs.Replying.{level_in}
 use Rattle.xrc_session.specs.Starting.{AreOwnSpent, level_started}
 use Rattle.xrc_session.specs.States.{SessionState, session_time, site_time}
-use Rattle.xrc_session.specs.Steps.{HasHeard, IsToReply, TellsAnswer, line_answered, WantsAsOwed}
+use Rattle.xrc_session.specs.Steps.{HasHeard, IsToReply, SaysAnswer, line_answered, WantsAsOwed}
 use Rattle.xrc_session.specs.Trails.{Trail, first_leg}
 use Rattle.xrc_session.proofs.Courses.{past_counted, unstarted_before, unstarted_past}
 use Rattle.xrc_session.proofs.Exactly.{unstarted_told}
@@ -114,7 +114,7 @@ level_is_started names name line = by_answer line.command (answers_unstarted nam
     by_answer c (Refuses d why some other) =
         ap (λ (o : Option Refusal). level_in (answer_by o (change_of names d [])) d) some ∙ err_level d why ∙ none_started d other
 
--- the table behind a line, by the level of the start that it is
+-- the table after a line, by the level of the start that it is
 abbrev pub table_by_level : (name : List ℕ) → Option Level → Table
 table_by_level name None = new_table name
 table_by_level name (Some level) = started_table name []
@@ -157,7 +157,7 @@ none_resumes names name session c device is = by_answer c (answers_unstarted nam
 module _ {S : Type 0} (run : ScriptRun) (lines : List Answered) (trail : Trail) (text : List ℕ) (line : Line) (s : SessionState) (lanes : List (Lane S)) (began old : PlantState) (heard : HasHeard run lines trail text line s lanes began old) (unstarted : s.site ≡ None)
     (fresh : s.table ≡ new_table s.session) where
   abbrev stage : Stage
-  stage = stage_behind run lines text began
+  stage = stage_after_text run lines text began
 
   pub not_begun : HasNotBegun trail began old
   not_begun = subst (λ (o : Option SiteState). MatchOption o (HasNotBegun trail began old) (RestsAtSite run lines stage trail s began old)) unstarted heard.answered.stands.place
@@ -228,13 +228,13 @@ module _ {S : Type 0} (run : ScriptRun) (lines : List Answered) (trail : Trail) 
   abbrev then_table : Table
   then_table = table_by_level s.session (level_started s.session line)
 
-  -- The table behind the line.
+  -- The table after the line.
   pub unstarted_table : (reply : List ℕ) → (line_answered run lines text line [] [] began reply).table ≡ then_table
   unstarted_table reply =
       ap (λ (t : Table). table_after (names_at line.time.0 (breaks_of run) (names_of run)) t line.session line.command line.time.0) table_is ∙ table_unstarted (names_at line.time.0 (breaks_of run) (names_of run)) s.session line
 
   module _ (names : Naming) (answered : LineAnswer) (is : answered.answer ≡ answer names s.table line.session line.command) where
-    pub unstarted_tells : (reply : List ℕ) (p : Point) (points : List PassedPoint) (number : ℕ) → TellsAnswer line (reply_content run stage p points number (line_answered run lines text line [] [] began reply)) answered
+    pub unstarted_tells : (reply : List ℕ) (p : Point) (points : List PassedPoint) (number : ℕ) → SaysAnswer line (reply_content run stage p points number (line_answered run lines text line [] [] began reply)) answered
     unstarted_tells reply p points number =
         let a = line_answered run lines text line [] [] began reply in
         let content = reply_content run stage p points number a in
@@ -242,7 +242,7 @@ module _ {S : Type 0} (run : ScriptRun) (lines : List Answered) (trail : Trail) 
           is = content_is names ∙ sym is;
           tracks =
               unstarted_told (names_at line.time.0 (breaks_of run) (names_of run)) stage.table line.session line.command off content.tracks answered.tracks
-              ∙ ap (λ (r : Result Change Refusal). told_tracks line.command r answered.tracks) (content_is names ∙ sym is);
+              ∙ ap (λ (r : Result Change Refusal). said_tracks line.command r answered.tracks) (content_is names ∙ sym is);
         }
 
     -- It resumes nothing.
@@ -289,13 +289,13 @@ module _ {S : Type 0} (run : ScriptRun) (lines : List Answered) (trail : Trail) 
           shows = λ started. absurd (true≢false (sym started ∙ not_started reply));
         };
         stands = λ reply. let a = line_answered run lines text line [] [] began reply in
-            subst (λ (x : SessionState). StandsBehindLines run (lines ++ a ∷ []) (stage_behind run (lines ++ a ∷ []) [] began) trail x began old) (sym same)
+            subst (λ (x : SessionState). StandsAfterLines run (lines ++ a ∷ []) (stage_after_text run (lines ++ a ∷ []) [] began) trail x began old) (sym same)
             (record {
               its = heard.answered.stands.its;
               table = ap (λ (x : Stage). x.table) (stage_answered run began.script lines a) ∙ unstarted_table reply ∙ table_stays;
               volumes = heard.answered.stands.volumes;
               place =
-                  subst (λ (o : Option SiteState). MatchOption o (HasNotBegun trail began old) (RestsAtSite run (lines ++ a ∷ []) (stage_behind run (lines ++ a ∷ []) [] began) trail s began old)) (sym unstarted)
+                  subst (λ (o : Option SiteState). MatchOption o (HasNotBegun trail began old) (RestsAtSite run (lines ++ a ∷ []) (stage_after_text run (lines ++ a ∷ []) [] began) trail s began old)) (sym unstarted)
                   not_begun;
             });
         wants = unstarted_wants trail next;

@@ -1,4 +1,4 @@
--- A started session within a line: behind what it heard, and behind points that it has passed since.
+-- A started session within a line: after what it heard, and after points that it has passed since.
 use Rattle.xrc_session.proofs.OnTrail.{passed_on_trail}
 use Rattle.std.proofs.Common.{◌≡◌, ◌⊎◌, inl, inr, ℕ, ◌<◌, ◌≤◌, Bool, true, false, true≢false, List, [], ◌++◌, length, Option, Some, None, refl, sym, subst, ◌∙◌, arith}
 use Rattle.std.specs.Prelude.{fold, MatchOption}
@@ -19,7 +19,7 @@ use Rattle.passages.proofs.InARow.{links_go_on}
 use Rattle.mover.specs.declared.lane.Lane.{Lane}
 use Rattle.xrc_status.specs.declared.stop.Stop.{Stop}
 use Rattle.xrc_status.specs.declared.stop.Stop.TheVariants.{Spent}
-use Rattle.xrc_session.specs.LinePauses.{HasNotBegun, RestsAtSite, stage_behind}
+use Rattle.xrc_session.specs.LinePauses.{HasNotBegun, RestsAtSite, stage_after_text}
 use Rattle.xrc_session.specs.Ends.{StopsInLine}
 use Rattle.xrc_session.specs.Frames.{ChangesRows, rows_passed}
 use Rattle.xrc_session.specs.States.{SessionState}
@@ -32,7 +32,7 @@ use Rattle.xrc_session.proofs.Exactly.{exact_stays}
 use Rattle.xrc_session.proofs.RowFrames.{changes_rows_on}
 use Rattle.xrc_session.proofs.Trails.{goes_forth_on, last_meant, rest_is_meant, works_to_run}
 
--- A session that has started is within a line that it heard behind others, or behind them where it heard none: its devices have gone to the last leg
+-- A session that has started is within a line that it heard after others, or after them where it heard none: its devices have gone to the last leg
 -- of its trail, whose point may be meant. All lines before were answered there, and no mark was made for the line's command alone.
 pub record IsWithin (run : ScriptRun) (lines : List Answered) (trail : Trail) (text : List ℕ) (line : Option Line) (began now : PlantState) : Type 0 where
   pub goes : RunGoesOn run lines text began now
@@ -46,12 +46,12 @@ pub record IsWithin (run : ScriptRun) (lines : List Answered) (trail : Trail) (t
   pub marked : (last_leg run lines trail).marked ≡ []
   pub answered : length lines ≤ (last_leg run lines trail).answered
   pub volumes : ChangesRows (rows_passed trail.points) began now
-  pub may : MayBeMeant run (stage_behind run lines text began) (last_leg run lines trail).point
+  pub may : MayBeMeant run (stage_after_text run lines text began) (last_leg run lines trail).point
 
-module _ (run : ScriptRun) (lines : List Answered) (trail : Trail) (text : List ℕ) (line : Option Line) (began old new : PlantState) (heard : (stage_behind run lines text began).next ≡ line) (within : IsWithin run lines trail text line began old)
+module _ (run : ScriptRun) (lines : List Answered) (trail : Trail) (text : List ℕ) (line : Option Line) (began old new : PlantState) (heard : (stage_after_text run lines text began).next ≡ line) (within : IsWithin run lines trail text line began old)
     (site : SameSite old new) (elapses : Elapses old new) (silent : Silent old new) where
   abbrev stage : Stage
-  stage = stage_behind run lines text began
+  stage = stage_after_text run lines text began
 
   abbrev l : Leg
   l = last_leg run lines trail
@@ -97,7 +97,7 @@ module _ (run : ScriptRun) (lines : List Answered) (trail : Trail) (text : List 
           let before = unstarted_before run lines within.goes.now.course (length lines) trail.started within.started (omega arith) is in
           absurd (true≢false (sym (within.begins.after within.some within.started) ∙ before))
 
-  -- It goes on by points, and stops behind some.
+  -- It goes on by points, and stops after some.
   pub within_stops : (stop : Stop) → (stop ≡ Spent → IsSpentNow new) → BeginsToPass run stage (asked_with lines line) l old new → StopsInLine run lines text began new stop
   within_stops stop spent begins =
       let more = begins.0 in
@@ -145,8 +145,8 @@ module _ (run : ScriptRun) (lines : List Answered) (trail : Trail) (text : List 
 
 -- A started session that heard a line at rest is within it.
 module _ {S : Type 0} (run : ScriptRun) (lines : List Answered) (trail : Trail) (text : List ℕ) (line : Line) (s : SessionState) (lanes : List (Lane S)) (began old : PlantState) (heard : HasHeard run lines trail text line s lanes began old) (site : SiteState) (is : s.site ≡ Some site) where
-  pub rests_at : RestsAtSite run lines (stage_behind run lines text began) trail s began old site
-  rests_at = subst (λ (o : Option SiteState). MatchOption o (HasNotBegun trail began old) (RestsAtSite run lines (stage_behind run lines text began) trail s began old)) is heard.answered.stands.place
+  pub rests_at : RestsAtSite run lines (stage_after_text run lines text began) trail s began old site
+  rests_at = subst (λ (o : Option SiteState). MatchOption o (HasNotBegun trail began old) (RestsAtSite run lines (stage_after_text run lines text began) trail s began old)) is heard.answered.stands.place
 
   pub within_first : IsWithin run lines trail text (Some line) began old
   within_first = record {

@@ -7,7 +7,7 @@ use Rattle.ckd_track.specs.declared.layout.TheConstants.{BLOCKS_OF_QUEUE, WRITES
 use Rattle.crash_plant.specs.declared.device.Device.{Device}
 use Rattle.crash_plant.specs.Calls.{NoneLent}
 use Rattle.crash_plant.specs.Moments.{PlantState}
-use Rattle.group_state.specs.Controls.{ControlState, is_telling, new_control}
+use Rattle.group_state.specs.Controls.{ControlState, is_reporting, new_control}
 use Rattle.group_state.specs.Groups.{Group, control_at, new_controls, new_group}
 use Rattle.pair_table.specs.Naming.{Naming, no_names, none_alike}
 use Rattle.pair_table.specs.Tables.{Table, new_table}
@@ -127,7 +127,7 @@ new_lanes left faults controls records blocks before opened are many = record { 
           control = is.0;
           sized = ap (λ (c : ControlState). list_all (is_of_header (heads_of r.feed)) c.volumes) control;
           floor = λ goes. ap (λ (c : ControlState). c.floor.0) control ∙ sym is.3;
-          telling = λ goes. ap (λ (c : ControlState). is_telling c.phase) control;
+          reporting = λ goes. ap (λ (c : ControlState). is_reporting c.phase) control;
           broken = λ cause upto halted. absurd (let none = is.1 in cc (none, halted));
           within = (let upto = is.2 in omega arith);
           goes = λ halted. let none = is.1 in cc (none, halted);

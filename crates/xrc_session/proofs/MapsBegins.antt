@@ -19,17 +19,17 @@ use Rattle.group_state.specs.Machine.Reply.{Made}
 use Rattle.group_state.specs.Machine.Call.{Join, NextWanted, Copied, Raise, Break, Form, Carry, Drop, Resume, Forget}
 use Rattle.group_state.specs.Calls.{is_by_reader}
 use Rattle.group_state.specs.Runs.{Answer}
-use Rattle.group_state.specs.SoundStates.{has_told, is_dropped, is_entry_of_control}
+use Rattle.group_state.specs.SoundStates.{has_reported, is_dropped, is_entry_of_control}
 use Rattle.group_state.proofs.FormLaws.{all_at}
-use Rattle.record_rows.specs.Deeds.{Deed, rows_behind, rows_by_deed, time_by_deed}
+use Rattle.record_rows.specs.Deeds.{Deed, rows_after_deeds, rows_by_deed, time_by_deed}
 use Rattle.record_rows.specs.Deeds.Deed.{Logged}
 use Rattle.pair_table.specs.States.{is_by_device, is_device_suspended, is_duplex}
 use Rattle.fed_logs.specs.Feeds.{IsFedBy, is_call_of_reader}
 use Rattle.fed_logs.specs.Logs.{BeginsLog, IsFedLog, Sizes, is_call_of_seat}
 use Rattle.fed_logs.specs.Moves.{AreQuiet, HasRowIn, IsDuplex, IsKeptWhole, IsLogged, KeepsCall, KeepsDropped, KeepsShown, Plans, ShowsNothing, is_plan_shown_done, plans_with_shown, plans_without}
-use Rattle.fed_logs.specs.ToldTracks.{HeldTracks, floor_of, has_changed, held_behind_group}
+use Rattle.fed_logs.specs.ToldTracks.{HeldTracks, floor_of, has_changed, held_after_group}
 use Rattle.fed_logs.proofs.Bearing.{kept_shown}
-use Rattle.fed_logs.proofs.Keeping.{at_map, told_to_last}
+use Rattle.fed_logs.proofs.Keeping.{at_map, reported_to_last}
 use Rattle.fed_logs.proofs.Standing.{at_with}
 use Rattle.fed_logs.proofs.ReadCalls.{ReadOn, answer_of, drop_begins, drop_log, fed_own, form_begins, form_log, nothing_begins, quiet_begins, read_begins, read_on}
 use Rattle.fed_logs.proofs.Went.{form_shown}
@@ -42,7 +42,7 @@ use Rattle.xrc_session.proofs.MapsLogs.{grows_over, never_owes, some_flag, test_
 use Rattle.xrc_session.proofs.MapsSince.{IsSince, all_flags, drop_maps, none_due, since_formed, since_now, since_up}
 use Rattle.xrc_session.proofs.MapsWaits.{WaitsAsWritten, cut_above, drop_waits, form_waits, read_waits, waits_first}
 use Rattle.xrc_session.proofs.MapsWrites.{written_both}
-use Rattle.xrc_session.proofs.MapsRows.{duplex_of, ends_suspended, has_row, row_is, stands_behind, stays_suspended, stood_before}
+use Rattle.xrc_session.proofs.MapsRows.{duplex_of, ends_suspended, has_row, row_is, stands_after, stays_suspended, stood_before}
 use Rattle.xrc_session.proofs.MapsVolumes.{dropped_is, is_live, kept_of, live_steady}
 use Rattle.xrc_session.proofs.MapsCounted.{counted_before, read_cut, read_up}
 use Rattle.xrc_session.proofs.MapsNever.{Kept, Stands, StandsBy, low_in, never_over, quiet_walk, stands_by}
@@ -72,13 +72,13 @@ module _ (size : Sizes) (traces : List Trace) (k v place : ℕ) (t : Trace) (own
 
   record Stage (done : Plans) (last : ℕ) (c : ControlState) (rows : List PairRow) (deeds : List Deed) : Type 0 where
     stands : StandsAt rows
-    ends : slice_get (rows_behind deeds rows) place ≡ Some z
+    ends : slice_get (rows_after_deeds deeds rows) place ≡ Some z
     entries : LogsEntriesOf rows deeds
     knows : HasRowIn IsDuplex k v rows → done k v ≡ true
     phase : StandsSo done last c rows deeds stands.row
 
   -- The row is suspended as at the end, if it is suspended and its device fails no more.
-  as_at_end : (time : ℕ) (rows : List PairRow) (deeds : List Deed) (r : PairRow) → RowsGo time rows deeds → slice_get rows place ≡ Some r → slice_get (rows_behind deeds rows) place ≡ Some z → is_suspended r.state ≡ true → r.state ≡ z.state
+  as_at_end : (time : ℕ) (rows : List PairRow) (deeds : List Deed) (r : PairRow) → RowsGo time rows deeds → slice_get rows place ≡ Some r → slice_get (rows_after_deeds deeds rows) place ≡ Some z → is_suspended r.state ≡ true → r.state ≡ z.state
   as_at_end time rows deeds r go at ends is = elim (ends_suspended time rows deeds place r z go at ends is) [ inl same ↦ sym same | inr failed ↦ absurd (true≢false (sym failed ∙ unfailed)) ]
 
   -- a deed, and what goes with it
@@ -101,7 +101,7 @@ module _ (size : Sizes) (traces : List Trace) (k v place : ℕ) (t : Trace) (own
       b = stands_by traces k v place t own (time_by_deed time deed) rows (rows_by_deed deed) go.0 h.stands
 
       by : (s : Bool) → is_suspended b.stands.row.state ≡ s → is_suspended h.stands.row.state ≡ false → stood_duplex place rows (deed ∷ deeds) ≡ true → StandsSo next_done next_last d (rows_by_deed deed) deeds b.stands.row
-      by false is live stood = inl (is, stands_behind (time_by_deed time deed) rows deed deeds place h.stands.row b.stands.row h.stands.at b.stands.at b.goes is stood)
+      by false is live stood = inl (is, stands_after (time_by_deed time deed) rows deed deeds place h.stands.row b.stands.row h.stands.at b.stands.at b.goes is stood)
       by true is live stood =
           let same = as_at_end (time_by_deed time deed) (rows_by_deed deed) deeds b.stands.row go.1 b.stands.at h.ends is in
           let duplex = stood_before time rows deed deeds place h.stands.row b.stands.row go h.stands.at b.stands.at is stood in
@@ -116,7 +116,7 @@ module _ (size : Sizes) (traces : List Trace) (k v place : ℕ) (t : Trace) (own
   quiet_stage done last c time quiet more rows next cut is go h =
       quiet_walk (Stage done last c) time (λ rows deed deeds at fewer entries go h. stage_by done done last last c c time rows deed deeds go (λ e. subst (λ (T : Type 0). T) entries e) (λ e. e) (λ has. inl (fewer.duplex k v has)) (at ∙ sym cut) (λ h same known old. old) h) quiet more rows next is go h
 
-  -- the same rows, with other plans and another state of the control
+  -- the same rows, with other plans and another state of the controller
   stage_on : (done next_done : Plans) (last next_last : ℕ) (c d : ControlState) (rows : List PairRow) (deeds : List Deed) → (done k v ≡ true → next_done k v ≡ true) → (IsSince t v since.0 last c → IsSince t v since.0 next_last d) → Stage done last c rows deeds → Stage next_done next_last d rows deeds
   stage_on done next_done last next_last c d rows deeds known older h = record {
     stands = h.stands;
@@ -147,11 +147,11 @@ module _ (size : Sizes) (traces : List Trace) (k v place : ℕ) (t : Trace) (own
   low_at : (s end : Group) (run : List Answer) → IsFedLog traces s end run → k < length s.controls
   low_at s end run log = low_in traces k v place t own s end run log
 
-  -- The control has told up to the last cut.
+  -- The controller has reported up to the last cut.
   told_at : (s end : Group) (run : List Answer) → IsFedLog traces s end run → counts (control_at end k).phase ≡ true → s.last.0 ≤ floor_of s k
   told_at s end run log counted =
       let low = low_at s end run log in
-      told_to_last s.last (control_at s k) (all_at (has_told s.last) s.controls k (new_control 0 0 0) log.kept.told low) (counted_before traces k run s end log low counted)
+      reported_to_last s.last (control_at s k) (all_at (has_reported s.last) s.controls k (new_control 0 0 0) log.kept.told low) (counted_before traces k run s end log low counted)
 
   read_mapped : (call : Call) (reply : Reply) (run : List Answer) → is_call_of_reader call ≡ true → owed_by_call k v call ≡ None → Maps run → (s end : Group) (held : HeldTracks) (time : ℕ) (rows : List PairRow) (done : Plans) (deeds : List Deed) (ended : ℕ) (last : List PairRow) (known : Plans)
       → IsFedLog traces s end (answer_of call reply ∷ run) → Kept traces k v place t own run time rows done deeds ended last known → Ready held s time rows done deeds → counts (control_at end k).phase ≡ true → owed_by_calls k v (answer_of call reply ∷ run) ≡ Some false → Mapped end
@@ -248,7 +248,7 @@ module _ (size : Sizes) (traces : List Trace) (k v place : ℕ) (t : Trace) (own
               (since_formed t v since.0 s.last.0 cut c (mid.stand.plans k v known).1 h.waits up (none_due s cut k v log.kept low (none_of l.mid (shown_at cut s).entries m.stands same m.entries.0)) old)
 
           logged : Stage done s.last.0 c l.mid (Logged cut.0 (shown_at cut s).entries l.next ∷ l.later) × RowsGo time l.mid (Logged cut.0 (shown_at cut s).entries l.next ∷ l.later) → Mapped end
-          logged m = rest next end (held_behind_group (shown_at cut s).entries held) cut.0 l.next more l.later ended last known then l.goes_on (record {
+          logged m = rest next end (held_after_group (shown_at cut s).entries held) cut.0 l.next more l.later ended last known then l.goes_on (record {
             begins = form_begins size traces held s end limit reply run time l.mid l.next done log l.follow mid;
             keeps = form_maps s cut h.keeps;
             cut = refl;
@@ -261,7 +261,7 @@ module _ (size : Sizes) (traces : List Trace) (k v place : ℕ) (t : Trace) (own
 
   -- ---- the drop
 
-  -- What the drop leaves of the control.
+  -- What the drop leaves of the controller.
   record IsBegun (last : ℕ) (d : ControlState) : Type 0 where
     gone : is_dropped v d.volumes ≡ true
     mapped : (x : ℕ) → maps_track v x d ≡ has_write_between t v x last d.floor.0

@@ -28,7 +28,7 @@ use Rattle.xrc_session.specs.Maps.{maps_track, has_write_between}
 use Rattle.xrc_session.proofs.MapsWrites.{or_none, written_both, written_in, written_none}
 use Rattle.xrc_session.proofs.MapsVolumes.{dropped_is, gone_steady, has_in, is_gone, kept_of, mapped_copied, mapped_formed, mapped_writes, none_tracked, other_dropped, steady_copied, steady_formed, steady_writes}
 
--- A volume stays dropped, and its map gets what a trace writes from the control's floor to the one behind it.
+-- A volume stays dropped, and its map gets what a trace writes from the controller's floor to the one after it.
 pub record Grown (t : Trace) (v : ℕ) (c d : ControlState) : Type 0 where
   pub dropped : is_dropped v d.volumes ≡ true
   pub up : c.floor.0 ≤ d.floor.0

@@ -1,4 +1,4 @@
--- Whether a track of a row has changed is whether its control's trace writes on it.
+-- Whether a track of a row has changed is whether its controller's trace writes on it.
 use Rattle.std.proofs.Common.{◌≡◌, ℕ, zero, suc, ◌+◌, ◌<◌, Bool, true, false, cond, nat_eq, nat_lt, nat_le, ◌&&◌, ◌||◌, List, [], ◌∷◌, filter, map, Some, refl, ap, ◌∙◌, arith}
 use Rattle.std.specs.Prelude.{slice_get}
 use Rattle.std.specs.List.{list_any}
@@ -93,14 +93,14 @@ module _ (k v x since to : ℕ) where
       ∙ ap (λ (b : Bool). b || list_any counts (all_writes (j + 1) traces)) (none_of j (writes_of s.entries) (ne_eqb j k (λ e. omega (arith, is, e))))
       ∙ at_place place (j + 1) traces t (omega (arith, is)) at
 
--- A track is changed exactly if its control's trace writes on it.
+-- A track is changed exactly if its controller's trace writes on it.
 pub changed_is : (run : ScriptRun) (k v x since to : ℕ) (t : Trace) → slice_get run.traces k ≡ Some t → is_changed run k v since to x ≡ has_write_between t v x since to
 changed_is run k v x since to t at =
     any_order (λ w. is_on_track k v x w && nat_lt since w.write.stamp.0) is_written_earlier (filter (λ w. nat_le w.write.stamp.0 to) (all_writes 0 run.traces))
     ∙ any_filter (λ w. is_on_track k v x w && nat_lt since w.write.stamp.0) (λ w. nat_le w.write.stamp.0 to) (all_writes 0 run.traces)
     ∙ at_place k v x since to k 0 run.traces t (omega arith) at
 
--- No track changes behind a time up to that time.
+-- No track changes after a time up to that time.
 pub none_changed : (run : ScriptRun) (k v time x : ℕ) → is_changed run k v time time x ≡ false
 none_changed run k v time x =
     any_order (λ w. is_on_track k v x w && nat_lt time w.write.stamp.0) is_written_earlier (filter (λ w. nat_le w.write.stamp.0 time) (all_writes 0 run.traces))

@@ -1,4 +1,4 @@
--- Maps have what rows owe behind a command's change, where they had it before.
+-- Maps have what rows owe after a command's change, where they had it before.
 use Rattle.std.proofs.Common.{◌≡◌, inl, inr, ℕ, suc, ◌<◌, Bool, true, false, cond, not, nat_eq, ◌&&◌, ◌||◌, List, [], ◌∷◌, ◌++◌, length, Option, Some, None, refl, sym, ap, subst, ◌∙◌, arith, true≢false}
 use Rattle.std.specs.Prelude.{IfSome, IsSomeAnd}
 use Rattle.std.specs.List.{flat_map, list_all}
@@ -38,7 +38,7 @@ use Rattle.fed_logs.proofs.Standing.{same_count}
 use Rattle.mover.proofs.Pairs.{Among, among_of, apart_still, contains_of, found_of_device}
 use Rattle.xrc_session.specs.Maps.{RestsAtCut, maps_track}
 use Rattle.xrc_session.specs.MapsOwed.{MapsOwed, MapsRest, SuspendedUpTo}
-use Rattle.xrc_session.specs.MapsTaken.{MapsOwedBehindChanges, PassesBy, SuspendsAt}
+use Rattle.xrc_session.specs.MapsTaken.{MapsOwedAfterChanges, PassesBy, SuspendsAt}
 use Rattle.xrc_session.specs.Taking.{AllMay, IsSoundForRow, IsSoundForRows, MayTake, after_calls, as_pending, calls_of_change, command_calls, drop_call, drop_calls, is_begun, is_suspended_as, owes_again}
 use Rattle.xrc_session.specs.Taking.{resume_calls, rows_by_command, stands_again, state_by_command, state_or_pending, tracks_owed_to}
 use Rattle.xrc_session.proofs.CallRuns.{after_both, first_may, second_may}
@@ -50,12 +50,12 @@ use Rattle.xrc_session.proofs.JoinsLanes.{Each, changes_stay, each_of_both}
 use Rattle.xrc_session.proofs.KeptRows.{apart_last}
 use Rattle.xrc_session.proofs.MapsChanged.{none_changed}
 use Rattle.xrc_session.proofs.MapsCommands.{ComesFrom, SplitAt, WasThere, all_off, came_from, command_off, split_at, was_there}
-use Rattle.xrc_session.proofs.MapsMarks.{duplex_before, duplex_behind, never_in, state_sym}
+use Rattle.xrc_session.proofs.MapsMarks.{duplex_after, duplex_before, never_in, state_sym}
 use Rattle.xrc_session.proofs.MapsOff.{IsOff, after_count, calls_keep, calls_left, done_quiet, dropped_part, dropped_quiet, dropped_whole, is_off_volume, maps_keep}
 use Rattle.xrc_session.proofs.MapsOwed.{suspended_as}
 use Rattle.xrc_session.proofs.MapsStates.{live_other, pair_at, same_itself}
 use Rattle.xrc_session.proofs.StandsAgain.{none_had}
-use Rattle.xrc_session.proofs.Walking.{Walked, begun_state, found_in, same_behind}
+use Rattle.xrc_session.proofs.Walking.{Walked, begun_state, found_in, same_after}
 
 -- ---- a set that has a track
 
@@ -152,7 +152,7 @@ module _ (run : ScriptRun) (first : Point) (points more : List PassedPoint) (p q
   walk = taken s change before after kept may
 
   clear : none_clash after ≡ true
-  clear = apart_still (rows_by_command change before after) after (same_behind (rows_by_command change before after) after may.follow) may.apart
+  clear = apart_still (rows_by_command change before after) after (same_after (rows_by_command change before after) after may.follow) may.apart
 
   module _ (z : PairRow) (there : Among z after) (cause : SuspendCause) (at : Stamp) (is : z.state ≡ Suspended cause at) (counted : counts (control_at end z.control).phase ≡ true) (x : ℕ) (low : x < tracks_of_row z) where
     suspends : is_suspended z.state ≡ true
@@ -196,9 +196,9 @@ module _ (run : ScriptRun) (first : Point) (points more : List PassedPoint) (p q
     itself : (state : PairState) → has_pair_in z state after ≡ is_same_state state z.state
     itself state = let has = contains_of z after there in pair_at after has.0 z z state (apart_of after clear) (slice_get-get_or after has.0 z has.1 ∙ ap Some has.2) refl
 
-    was_behind : is_by_device cause ≡ false → was_duplex z first (points ++ more) ≡ was_duplex z first points
-    was_behind unfailed =
-        duplex_behind z first p q points more here passed (ap is_device_suspended is ∙ unfailed) there (itself Duplex ∙ ap (is_same_state Duplex) is) (itself z.state ∙ same_itself z.state)
+    was_after : is_by_device cause ≡ false → was_duplex z first (points ++ more) ≡ was_duplex z first points
+    was_after unfailed =
+        duplex_after z first p q points more here passed (ap is_device_suspended is ∙ unfailed) there (itself Duplex ∙ ap (is_same_state Duplex) is) (itself z.state ∙ same_itself z.state)
 
     unchanged : at.0 ≡ p.time → is_changed run z.control z.volume at.0 q.time x ≡ false
     unchanged is = ap (λ (n : ℕ). is_changed run z.control z.volume n q.time x) is ∙ ap (λ (n : ℕ). is_changed run z.control z.volume p.time n x) on ∙ none_changed run z.control z.volume p.time x
@@ -274,7 +274,7 @@ module _ (run : ScriptRun) (first : Point) (points more : List PassedPoint) (p q
           by true device =
               failed_or (is_by_device cause) (not (was_duplex z first points)) (is_changed run z.control z.volume at.0 p.time x) device
               ∙ sym (failed_or (is_by_device cause) (not (was_duplex z first (points ++ more))) (is_changed run z.control z.volume at.0 q.time x) device)
-          by false unfailed = λ i. is_by_device cause || not (sym (was_behind unfailed) i) || is_changed run z.control z.volume at.0 (sym on i) x
+          by false unfailed = λ i. is_by_device cause || not (sym (was_after unfailed) i) || is_changed run z.control z.volume at.0 (sym on i) x
 
       -- It was pending or copying.
       begins : owes_between (state_by_command change before z) z.state ≡ Some true → is_same_state Duplex r.state ≡ false → is_suspended r.state ≡ false → Goal
@@ -284,7 +284,7 @@ module _ (run : ScriptRun) (first : Point) (points more : List PassedPoint) (p q
           by true device = mapped_all (filled all) device
           by false unfailed =
               mapped_new (filled all)
-              (was_behind unfailed ∙ duplex_before z first p q points more here ∙ (λ i. (before_is Duplex ∙ never) i || ((before_is z.state ∙ live_other z.state r.state suspends live) i && was_duplex z first points)))
+              (was_after unfailed ∙ duplex_before z first p q points more here ∙ (λ i. (before_is Duplex ∙ never) i || ((before_is z.state ∙ live_other z.state r.state suspends live) i && was_duplex z first points)))
 
       -- It was duplex.
       leaves : r.state ≡ Duplex → Goal
@@ -331,7 +331,7 @@ module _ (run : ScriptRun) (first : Point) (points more : List PassedPoint) (p q
               ∙ ap (passes (λ u. has_track u.map x)) left.found
               ∙ empty
               ∙ sym (flags (is_by_device cause) (was_duplex z first (points ++ more)) (is_changed run z.control z.volume at.0 q.time x) unfailed
-              (was_behind unfailed ∙ duplex_before z first p q points more here ∙ (λ i. (before_is Duplex ∙ ap (is_same_state Duplex) duplex) i || (has_pair_in z z.state before && was_duplex z first points)))
+              (was_after unfailed ∙ duplex_before z first p q points more here ∙ (λ i. (before_is Duplex ∙ ap (is_same_state Duplex) duplex) i || (has_pair_in z z.state before && was_duplex z first points)))
               (unchanged newly))
 
       pub not_begun : Goal
@@ -361,7 +361,7 @@ module _ (run : ScriptRun) (first : Point) (points more : List PassedPoint) (p q
       before_now : (y : ℕ) → is_changed run z.control z.volume at.0 p.time y ≡ false
       before_now y = ap (λ (n : ℕ). is_changed run z.control z.volume n p.time y) newly ∙ none_changed run z.control z.volume p.time y
 
-      -- It is pending behind the command.
+      -- It is pending after the command.
       module _ (fresh : stands_again (row_of z.device before) (Some z) ≡ false) where
         drop : owes_between (state_by_command change before z) z.state ≡ Some true
         drop =
@@ -382,7 +382,7 @@ module _ (run : ScriptRun) (first : Point) (points more : List PassedPoint) (p q
             by false unfailed =
                 let none = never_in z Duplex before (λ r among same. not_duplex_now r.state (was_resumed s change before after z r may begun among same kept.apart).1) in
                 let other = never_in z z.state before other_state in
-                mapped_new (filled drop) (was_behind unfailed ∙ duplex_before z first p q points more here ∙ (λ i. none i || (other i && was_duplex z first points)))
+                mapped_new (filled drop) (was_after unfailed ∙ duplex_before z first p q points more here ∙ (λ i. none i || (other i && was_duplex z first points)))
 
       -- It is suspended as it was.
       module _ (r : PairRow) (found : row_of z.device before ≡ Some r) (as_was : is_suspended_as r.state z.state ≡ true) where
@@ -454,8 +454,8 @@ module _ (run : ScriptRun) (first : Point) (points more : List PassedPoint) (p q
         end_again : (all : Bool) → whole ≡ all → end ≡ after_calls drops (group_after t (Drop k v all))
         end_again all e = ap (λ (calls : List Call). after_calls (calls ++ drops) s) own_are ∙ ap (λ (b : Bool). after_calls drops (group_after t (Drop k v b))) e
 
-        mays_behind : (all : Bool) → whole ≡ all → AllMay drops (group_after t (Drop k v all))
-        mays_behind all e = subst (λ (b : Bool). AllMay drops (group_after t (Drop k v b))) e mays.1.1
+        mays_after : (all : Bool) → whole ≡ all → AllMay drops (group_after t (Drop k v all))
+        mays_after all e = subst (λ (b : Bool). AllMay drops (group_after t (Drop k v b))) e mays.1.1
 
         t_keeps : IsGroupSound t
         t_keeps = kept_next s (Resume k v) kept.keeps mays.0
@@ -469,13 +469,13 @@ module _ (run : ScriptRun) (first : Point) (points more : List PassedPoint) (p q
         filled_again : whole ≡ true → maps_track v x (control_at end k) ≡ true
         filled_again all =
             ap (λ (g : Group). maps_track v x (control_at g k)) (end_again true all)
-            ∙ dropped_whole t k v t_within t_keeps drops (tracks_of_row z) x off_drops (mays_behind true all) low
+            ∙ dropped_whole t k v t_within t_keeps drops (tracks_of_row z) x off_drops (mays_after true all) low
             (ap (λ (g : Group). passes (is_of_size (tracks_of_row z)) (volume_of v (control_at g k).volumes)) (sym (end_again true all)) ∙ its.own.sized)
 
         empty_again : whole ≡ false → maps_track v x (control_at end k) ≡ false
         empty_again part =
             ap (λ (g : Group). maps_track v x (control_at g k)) (end_again false part)
-            ∙ dropped_part t k v t_within t_keeps drops x off_drops (mays_behind false part)
+            ∙ dropped_part t k v t_within t_keeps drops x off_drops (mays_after false part)
             (ap (λ (c : ControlState). list_all (is_off_volume v) c.queue.waiting) t_is ∙ dropped_quiet s k v kept.keeps within mays.0.1)
             ∙ ap (λ (c : ControlState). passes (λ u. has_track u.map x) (volume_of v c.volumes)) t_is
             ∙ ap (passes (λ u. has_track u.map x)) (resume_itself v (control_at s k))
@@ -510,11 +510,11 @@ module _ (run : ScriptRun) (first : Point) (points more : List PassedPoint) (p q
                 empty_again (whole_is ∙ (λ i. unfailed i || not (owes i)))
                 ∙ sym (owes_none v x (control_at s k).volumes (eqb-true (tracks_owed_to s (Some z)) 0 owes))
                 ∙ was_owed x low
-                ∙ (λ i. is_by_device cause || not (sym (was_behind unfailed) i) || is_changed run z.control z.volume at.0 (sym on i) x)
+                ∙ (λ i. is_by_device cause || not (sym (was_after unfailed) i) || is_changed run z.control z.volume at.0 (sym on i) x)
             by false unfailed false owes =
                 let some = owes_some (tracks_of_row z) v (control_at s k).volumes sized owes in
                 let never = flags (is_by_device cause) (was_duplex z first points) (is_changed run z.control z.volume at.0 p.time some.track) unfailed (before_now some.track) (sym (was_owed some.track some.low) ∙ some.has) in
-                mapped_new (filled_again (whole_is ∙ (λ i. unfailed i || not (owes i)))) (was_behind unfailed ∙ never)
+                mapped_new (filled_again (whole_is ∙ (λ i. unfailed i || not (owes i)))) (was_after unfailed ∙ never)
 
       pub was_begun : Goal
       was_begun = by (stands_again (row_of z.device before) (Some z)) refl (row_of z.device before) refl
@@ -551,8 +551,8 @@ module _ (run : ScriptRun) (first : Point) (points more : List PassedPoint) (p q
     | inr then ↦ omega (arith, then, on)
   ]
 
-pub maps_owed_behind_changes : MapsOwedBehindChanges
-maps_owed_behind_changes run first points more p q s change kept may on since here passed rest cut owed = (
+pub maps_owed_after_changes : MapsOwedAfterChanges
+maps_owed_after_changes run first points more p q s change kept may on since here passed rest cut owed = (
   all_owed run first points more p q s change kept may on since here passed rest cut owed,
   record {
     keeps = maps_keep (calls_of_change change s p.rows q.rows) s (taken s change p.rows q.rows kept may).may kept.keeps rest.keeps;

@@ -1,4 +1,4 @@
--- The row that a command left, of which a row behind it comes, and which calls of the command's change are of its volume.
+-- The row that a command left, of which a row after it comes, and which calls of the command's change are of its volume.
 use Rattle.std.proofs.Common.{◌≡◌, inl, inr, ℕ, ◌<◌, Bool, true, false, cond, not, nat_eq, ◌&&◌, List, [], ◌∷◌, ◌++◌, length, Option, Some, None, refl, sym, ap, subst, ◌∙◌, true≢false}
 use Rattle.std.specs.Prelude.{IsSomeAnd}
 use Rattle.std.specs.List.{flat_map}

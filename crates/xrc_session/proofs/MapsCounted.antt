@@ -1,12 +1,12 @@
--- What a log leaves of a control that counts: it counted before, and what readers call leaves the last cut, and no floor falls.
+-- What a log leaves of a controller that counts: it counted before, and what readers call leaves the last cut, and no floor falls.
 use Rattle.std.proofs.Common.{◌≡◌, ℕ, ◌<◌, ◌≤◌, true, List, [], ◌∷◌, length, refl, sym, ap, subst, arith, true≢false}
 use Rattle.std.specs.List.{list_all}
 use Rattle.std.proofs.lemmas.Bool.{and_parts}
 use Rattle.tod_stamp.specs.declared.stamp.Stamp.{Stamp}
 use Rattle.write_trace.specs.declared.trace.Trace.{Trace}
 use Rattle.group_state.specs.declared.phase.Phase.{Phase}
-use Rattle.group_state.specs.declared.phase.Phase.TheVariants.{Telling, Broken, Reported}
-use Rattle.group_state.specs.Controls.{ControlState, broke, copied, counts, dropped, is_telling, joined, phase_after, raised}
+use Rattle.group_state.specs.declared.phase.Phase.TheVariants.{Unbroken, Broken, Reported}
+use Rattle.group_state.specs.Controls.{ControlState, broke, copied, counts, dropped, is_reporting, joined, phase_after, raised}
 use Rattle.group_state.specs.Groups.{Group, control_at, cut_of, formed_at, with_control}
 use Rattle.group_state.specs.Machine.{Call, Reply}
 use Rattle.group_state.specs.Machine.Call.{Join, NextWanted, Copied, Raise, Break, Form, Carry, Drop, Resume, Forget}
@@ -19,10 +19,10 @@ use Rattle.fed_logs.proofs.Standing.{at_with}
 use Rattle.fed_logs.proofs.ReadCalls.{answer_of, drop_log, form_log, read_on}
 use Rattle.fed_logs.proofs.Went.{WentRead}
 use Rattle.fed_logs.proofs.Went.WentRead.{Same, Joins, Copies, Raises, Breaks}
-use Rattle.xrc_session.proofs.MapsKeeps.{telling_counts}
+use Rattle.xrc_session.proofs.MapsKeeps.{reporting_counts}
 
 counted_phase : (cut floor : Stamp) (phase : Phase) → counts (phase_after cut floor phase) ≡ true → counts phase ≡ true
-counted_phase cut floor Telling is = refl
+counted_phase cut floor Unbroken is = refl
 counted_phase cut floor (Broken why) is = refl
 counted_phase cut floor Reported is = is
 
@@ -32,7 +32,7 @@ read_counted s _ _ _ k (Joins b) may low is = subst (λ p. counts p ≡ true) (a
 read_counted s _ _ _ k (Copies j w y at slot wanted) may low is = subst (λ p. counts p ≡ true) (at_with s j k (copied w y at slot) (λ (c : ControlState). c.phase ≡ (control_at s k).phase) low (λ same. refl) (λ apart. refl)) is
 read_counted s _ _ _ k (Raises j upto) may low is = subst (λ p. counts p ≡ true) (at_with s j k (raised upto) (λ (c : ControlState). c.phase ≡ (control_at s k).phase) low (λ same. refl) (λ apart. refl)) is
 read_counted s _ _ _ k (Breaks j upto why) may low is = at_with s j k (broke upto why) (λ (c : ControlState). counts c.phase ≡ true → counts (control_at s k).phase ≡ true) low
-    (λ same now. telling_counts (control_at s k).phase (subst (λ (i : ℕ). is_telling (control_at s i).phase ≡ true) same may.1.telling)) (λ apart now. now) is
+    (λ same now. reporting_counts (control_at s k).phase (subst (λ (i : ℕ). is_reporting (control_at s i).phase ≡ true) same may.1.reporting)) (λ apart now. now) is
 
 pub counted_before : (traces : List Trace) (k : ℕ) (run : List Answer) (s end : Group) → IsFedLog traces s end run → k < length s.controls → counts (control_at end k).phase ≡ true → counts (control_at s k).phase ≡ true
 counted_before traces k [] s end log low is = subst (λ (g : Group). counts (control_at g k).phase ≡ true) log.runs is

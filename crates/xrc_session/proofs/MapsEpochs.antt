@@ -1,4 +1,4 @@
--- Maps have what rows owe behind an epoch that reached its limit.
+-- Maps have what rows owe after an epoch that reached its limit.
 use Rattle.std.proofs.Common.{◌≡◌, ℕ, ◌<◌, true, false, List, [], ◌∷◌, ◌++◌, length, Option, Some, None, refl, sym, ap, subst, ◌∙◌, arith, true≢false}
 use Rattle.std.specs.Prelude.{IsSomeAnd, slice_get, slice_index_or}
 use Rattle.std.specs.Option.{option_map}
@@ -9,10 +9,10 @@ use Rattle.sidefile.specs.Breaks.{Break, break_time}
 use Rattle.sidefile.specs.declared.hand.Halt.{Halt}
 use Rattle.sidefile.specs.declared.hand.Halt.TheVariants as halts
 use Rattle.group_state.specs.declared.phase.Phase.{Phase}
-use Rattle.group_state.specs.declared.phase.Phase.TheVariants.{Telling, Broken, Reported}
-use Rattle.group_state.specs.Controls.{counts, is_telling, new_control}
+use Rattle.group_state.specs.declared.phase.Phase.TheVariants.{Unbroken, Broken, Reported}
+use Rattle.group_state.specs.Controls.{counts, is_reporting, new_control}
 use Rattle.group_state.specs.Groups.{Group, control_at}
-use Rattle.group_state.specs.SoundStates.{IsGroupSound, has_told}
+use Rattle.group_state.specs.SoundStates.{IsGroupSound, has_reported}
 use Rattle.group_state.proofs.FormLaws.{all_at}
 use Rattle.passages.specs.Points.{last_point}
 use Rattle.consistency.specs.Stages.{ScriptRun, breaks_of}
@@ -25,7 +25,7 @@ use Rattle.fed_logs.specs.Logs.{IsFedLog}
 use Rattle.fed_logs.specs.ShownBreaks.{BreaksAreToCome, BrokeAsTraces}
 use Rattle.fed_logs.specs.ToldTracks.{floor_of}
 use Rattle.fed_logs.proofs.Bearing.{reached_holds}
-use Rattle.fed_logs.proofs.Keeping.{told_to_last}
+use Rattle.fed_logs.proofs.Keeping.{reported_to_last}
 use Rattle.fed_logs.proofs.ReadCalls.{some_trace}
 use Rattle.fed_logs.proofs.ShownBreaks.{logs_break_as_traces}
 use Rattle.mover.specs.declared.lane.Lane.{Lane}
@@ -34,9 +34,9 @@ use Rattle.mover.specs.Lanes.{IsReaderOf}
 use Rattle.mover.specs.Moves.{KeepsAll, LogsEntriesOf}
 use Rattle.mover.specs.Readers.{LaneReaderState}
 use Rattle.xrc_session.specs.Maps.{RestsAtCut}
-use Rattle.xrc_session.specs.MapsLaws.{MapsOwedBehindEpochs, ReachesLimit}
+use Rattle.xrc_session.specs.MapsLaws.{MapsOwedAfterEpochs, ReachesLimit}
 use Rattle.xrc_session.specs.MapsOwed.{HasCutOrNoRow, HaveRowsOf, DeedsLeadTo, MapsOwed, MapsRest}
-use Rattle.xrc_session.proofs.MapsOwed.{maps_owed_behind_logs, run_count}
+use Rattle.xrc_session.proofs.MapsOwed.{maps_owed_after_logs, run_count}
 use Rattle.xrc_session.proofs.MapsSteps.{steps_go}
 
 -- ---- at the limit
@@ -45,19 +45,19 @@ broken_at : (next : Group) (k limit : ℕ) (t : Trace) (traces : List Trace) →
     → (cause : Cause) → (control_at next k).phase ≡ Broken cause → ⊥
 broken_at next k limit t traces at low keeps cut broke come cause is =
     let counted : counts (control_at next k).phase ≡ true = ap counts is in
-    let up = told_to_last next.last (control_at next k) (all_at (has_told next.last) next.controls k (new_control 0 0 0) keeps.told low) counted in
+    let up = reported_to_last next.last (control_at next k) (all_at (has_reported next.last) next.controls k (new_control 0 0 0) keeps.told low) counted in
     let time : break_time t ≡ Some (floor_of next k) = ap (option_map (λ (b : Break). b.upto)) (broke k t at cause is) in
     let tells = come k (floor_of next k) t at time (omega (arith, up, cut)) in
-    true≢false (sym tells.telling ∙ ap is_telling is)
+    true≢false (sym tells.reporting ∙ ap is_reporting is)
 
--- Behind an epoch that reached its limit each control that counts has told up to it.
+-- After an epoch that reached its limit each controller that counts has reported up to it.
 told_at_limit : (next : Group) (k limit : ℕ) (t : Trace) (traces : List Trace) (o : Option LaneReaderState) → slice_get traces k ≡ Some t → k < length next.controls → IsGroupSound next → next.last.0 ≡ limit → BrokeAsTraces traces next → BreaksAreToCome traces limit next
     → IsSomeAnd o (IsReaderOf next k limit) → IsSomeAnd o (IsAtLimit limit) → counts (control_at next k).phase ≡ true → floor_of next k ≡ limit
 told_at_limit next k limit t traces None at low keeps cut broke come reads stands counted = absurd reads
 told_at_limit next k limit t traces (Some r) at low keeps cut broke come reads stands counted = choose r.feed.halted refl
   where
-    by : (phase : Phase) → (control_at next k).phase ≡ phase → is_telling phase ≡ false → counts phase ≡ true → ⊥
-    by Telling is told counted = true≢false told
+    by : (phase : Phase) → (control_at next k).phase ≡ phase → is_reporting phase ≡ false → counts phase ≡ true → ⊥
+    by Unbroken is told counted = true≢false told
     by (Broken cause) is told counted = broken_at next k limit t traces at low keeps cut broke come cause is
     by Reported is told counted = true≢false (sym counted)
 
@@ -123,8 +123,8 @@ module _ {S : Type 0} (tells : Type 0) (left : S → Option (List ℕ)) (faults 
       → MapsOwed run first (points ++ more) (point_of after) next × MapsRest (point_of after) next
   maps_over_epoch first points more here have rest cut owed =
       subst (λ (g : Group). MapsOwed run first (points ++ more) (point_of after) g × MapsRest (point_of after) g) (sym e.goes.ran.ended)
-      (maps_owed_behind_logs run e.size e.held group e.goes.ran.end e.goes.ran.log first points more (point_of site) (point_of after) e.done kept.known (deeds_of e.goes.ran.steps) leads here have rest cut (subst (λ (g : Group). RestsAtCut g after.time) e.goes.ran.ended rests) owed)
+      (maps_owed_after_logs run e.size e.held group e.goes.ran.end e.goes.ran.log first points more (point_of site) (point_of after) e.done kept.known (deeds_of e.goes.ran.steps) leads here have rest cut (subst (λ (g : Group). RestsAtCut g after.time) e.goes.ran.ended rests) owed)
 
-pub maps_owed_behind_epochs : {S : Type 0} (tells : Type 0) (left : S → Option (List ℕ)) (faults : S → ℕ) (was is : PlantState) → MapsOwedBehindEpochs tells left faults was is
-maps_owed_behind_epochs tells left faults was is limit run group next old new site after first points more e entries have here rest cut owed =
+pub maps_owed_after_epochs : {S : Type 0} (tells : Type 0) (left : S → Option (List ℕ)) (faults : S → ℕ) (was is : PlantState) → MapsOwedAfterEpochs tells left faults was is
+maps_owed_after_epochs tells left faults was is limit run group next old new site after first points more e entries have here rest cut owed =
     maps_over_epoch tells left faults limit run group next old new site after was is e entries first points more here have rest cut owed

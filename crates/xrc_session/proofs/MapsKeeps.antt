@@ -12,29 +12,29 @@ use Rattle.change_map.proofs.InSets.{has_none}
 use Rattle.cut_core.specs.LegalHistories.{are_in}
 use Rattle.pending_queue.specs.Entries.{copies, copy_head, copy_of, due, entries_of, entry_stamp, entry_tracks, is_later, is_of_volume, left}
 use Rattle.group_state.specs.declared.phase.Phase.{Phase}
-use Rattle.group_state.specs.declared.phase.Phase.TheVariants.{Telling, Broken, Reported}
+use Rattle.group_state.specs.declared.phase.Phase.TheVariants.{Unbroken, Broken, Reported}
 use Rattle.group_state.specs.declared.volume.Volume.{Volume}
 use Rattle.group_state.specs.Volumes.{begun, has_volume, dropped_volume, is_carried, is_wanted, passes, resumed_volume, volume_of, with_volume}
-use Rattle.group_state.specs.Controls.{ControlState, begun_volume, broke, carried_writes, copied, counts, dropped, fits, fits_track, forgotten, formed, is_telling, joined, new_control, raised, resumed}
+use Rattle.group_state.specs.Controls.{ControlState, begun_volume, broke, carried_writes, copied, counts, dropped, fits, fits_track, forgotten, formed, is_reporting, joined, new_control, raised, resumed}
 use Rattle.group_state.specs.Groups.{Group, control_at, cut_of, formed_at, new_group, with_control}
 use Rattle.group_state.specs.Machine.{Call, group_after}
 use Rattle.group_state.specs.Machine.Call.{Join, NextWanted, Copied, Raise, Break, Form, Carry, Drop, Resume, Forget}
 use Rattle.group_state.specs.Runs.{May}
-use Rattle.group_state.specs.SoundStates.{IsGroupSound, Sound, has_told}
+use Rattle.group_state.specs.SoundStates.{IsGroupSound, Sound, has_reported}
 use Rattle.group_state.proofs.FormLaws.{all_at}
 use Rattle.group_state.proofs.GroupLaws.{length_new}
 use Rattle.group_state.proofs.SoundLaws.{all_filter, all_joined, all_kept, all_up}
 use Rattle.group_state.proofs.Stands.{new_at}
-use Rattle.group_state.proofs.VolumeLaws.{found_behind, found_with, found_without}
+use Rattle.group_state.proofs.VolumeLaws.{found_after, found_with, found_without}
 use Rattle.fed_logs.specs.ToldTracks.{floor_of}
-use Rattle.fed_logs.proofs.Keeping.{at_map, told_to_last}
+use Rattle.fed_logs.proofs.Keeping.{at_map, reported_to_last}
 use Rattle.fed_logs.proofs.Standing.{at_with, formed_count, same_count}
 use Rattle.xrc_session.specs.Maps.{CallsKeepMaps, AreMapsSound, NewGroupsKeepMaps, waits_above}
 use Rattle.xrc_session.proofs.MapsVolumes.{carried_writes_unmapped, has_in, is_live, live_steady, mapped_copied, mapped_formed, other_dropped, steady_copied, steady_formed, steady_writes}
 
--- ---- one control
+-- ---- one controller
 
--- The maps of one control are sound.
+-- The maps of one controller are sound.
 record AreControlMapsSound (last : ℕ) (c : ControlState) : Type 0 where
   above : list_all (waits_above last) c.queue.waiting ≡ true
   empty : (v x : ℕ) → passes is_live (volume_of v c.volumes) ≡ true → has_in v x c.volumes ≡ false
@@ -54,21 +54,21 @@ keeps_with s j change h changed = all_of (with_control j change s) (λ k low.
 
 -- ---- what waits
 
-pub telling_counts : (phase : Phase) → is_telling phase ≡ true → counts phase ≡ true
-telling_counts Telling e = refl
-telling_counts (Broken cause) e = absurd cc
-telling_counts Reported e = absurd cc
+pub reporting_counts : (phase : Phase) → is_reporting phase ≡ true → counts phase ≡ true
+reporting_counts Unbroken e = refl
+reporting_counts (Broken cause) e = absurd cc
+reporting_counts Reported e = absurd cc
 
--- A control that tells has told up to the last cut.
-pub told_last : (s : Group) (k : ℕ) → IsGroupSound s → k < length s.controls → is_telling (control_at s k).phase ≡ true → s.last.0 ≤ floor_of s k
-told_last s k keeps low telling = told_to_last s.last (control_at s k) (all_at (has_told s.last) s.controls k (new_control 0 0 0) keeps.told low) (telling_counts (control_at s k).phase telling)
+-- A controller that reports has reported up to the last cut.
+pub told_last : (s : Group) (k : ℕ) → IsGroupSound s → k < length s.controls → is_reporting (control_at s k).phase ≡ true → s.last.0 ≤ floor_of s k
+told_last s k keeps low reporting = reported_to_last s.last (control_at s k) (all_at (has_reported s.last) s.controls k (new_control 0 0 0) keeps.told low) (reporting_counts (control_at s k).phase reporting)
 
 written_above : (last floor upto control : ℕ) (keep : Write → Bool) (writes : List Write) → last ≤ floor → are_in floor upto writes ≡ true → list_all (waits_above last) (entries_of control (filter keep writes)) ≡ true
 written_above last floor upto control keep [] low within = refl
 written_above last floor upto control keep (w ∷ writes) low within =
     let parts = and_parts (nat_lt floor w.stamp.0 && nat_le w.stamp.0 upto) (are_in floor upto writes) within in
-    let behind = ltb-true floor w.stamp.0 (and_parts (nat_lt floor w.stamp.0) (nat_le w.stamp.0 upto) parts.0).0 in
-    choose (keep w) (lt-ltb last w.stamp.0 (omega (arith, low, behind))) (written_above last floor upto control keep writes low parts.1)
+    let after = ltb-true floor w.stamp.0 (and_parts (nat_lt floor w.stamp.0) (nat_le w.stamp.0 upto) parts.0).0 in
+    choose (keep w) (lt-ltb last w.stamp.0 (omega (arith, low, after))) (written_above last floor upto control keep writes low parts.1)
   where
     choose : (b : Bool) → nat_lt last w.stamp.0 ≡ true → list_all (waits_above last) (entries_of control (filter keep writes)) ≡ true → list_all (waits_above last) (entries_of control (cond b (w ∷ filter keep writes) (filter keep writes))) ≡ true
     choose true above rest = and_from (nat_lt last w.stamp.0) (list_all (waits_above last) (entries_of control (filter keep writes))) above rest
@@ -100,7 +100,7 @@ begins_maps : (last w : ℕ) (plan : _) (c : ControlState) → (has_volume w c.v
 begins_maps last w plan c unknown h = record {
   above = h.above;
   empty = λ v x live.
-      let found = found_behind v c.volumes (begun w plan) unknown in
+      let found = found_after v c.volumes (begun w plan) unknown in
       ap (passes (λ u. has_track u.map x)) found ∙ choose v x (nat_eq w v) (sym (ap (passes is_live) found) ∙ live);
 }
   where
@@ -171,7 +171,7 @@ call_keeps : (s : Group) (call : Call) → IsGroupSound s → May s call → Are
 call_keeps s (Join b) keeps may h = choose (fits (control_at s b.control) b)
   where
     choose : (t : Bool) → AreMapsSound (cond t (with_control b.control (joined b) s) s)
-    choose true = keeps_with s b.control (joined b) h (λ low one. joins_maps s.last.0 b (control_at s b.control) (told_last s b.control keeps low may.legal.tells.telling) may.legal.within one)
+    choose true = keeps_with s b.control (joined b) h (λ low one. joins_maps s.last.0 b (control_at s b.control) (told_last s b.control keeps low may.legal.tells.reporting) may.legal.within one)
     choose false = h
 call_keeps s (NextWanted k) keeps may h = h
 call_keeps s (Copied k v x at slot) keeps may h = choose (is_wanted v x (control_at s k).volumes && fits_track (control_at s k) slot)

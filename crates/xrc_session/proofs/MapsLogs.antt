@@ -119,7 +119,7 @@ record IsWhole (n v : ℕ) (c : ControlState) : Type 0 where
 abbrev HasSize : (n v : ℕ) → ControlState → Type 0
 HasSize n v c = passes (is_of_size n) (volume_of v c.volumes) ≡ true
 
--- What a steady test of a volume finds behind calls.
+-- What a steady test of a volume finds after calls.
 module _ (test : Volume → Bool) (steady : IsSteady test) (k v : ℕ) where
   abbrev Passes : ControlState → Type 0
   Passes c = passes test (volume_of v c.volumes) ≡ true
@@ -136,7 +136,7 @@ module _ (test : Volume → Bool) (steady : IsSteady test) (k v : ℕ) where
       let c = control_at s k in
       subst Passes (sym (at_map cut s.controls k low)) (steady_formed test steady v c.volumes (copies (due cut c.queue.waiting)) ∙ is)
 
-  -- behind a drop of another volume
+  -- after a drop of another volume
   pub test_drop : (s : Group) (j w : ℕ) (all : Bool) → k < length s.controls → (nat_eq j k && nat_eq w v) ≡ false → passes test (volume_of v (control_at s k).volumes) ≡ true → passes test (volume_of v (control_at (with_control j (dropped w all) s) k).volumes) ≡ true
   test_drop s j w all low other is = at_with s j k (dropped w all) Passes low
       (λ same. other_dropped test w v all (entry_tracks w (control_at s k).queue.waiting) (sym (ap (λ (b : Bool). b && nat_eq w v) (eq-eqb j k same)) ∙ other) (control_at s k).volumes ∙ is) (λ apart. is)
@@ -177,7 +177,7 @@ module _ (traces : List Trace) (k v n : ℕ) (t : Trace) (own : slice_get traces
   drop_fills j w all reply run rest s end log sized so =
       rest (with_control j (dropped w all) s) end (drop_log traces s end j w all reply run log) (size_drop k v n s j w all low sized) (elim so [
         | inl owes ↦ by_owed (nat_eq j k && nat_eq w v) refl owes
-        | inr whole ↦ inr (behind whole)
+        | inr whole ↦ inr (after whole)
       ])
     where
       low : k < length s.controls
@@ -196,8 +196,8 @@ module _ (traces : List Trace) (k v n : ℕ) (t : Trace) (own : slice_get traces
       grown false other a is whole =
           grown_whole t n v (control_at s k) (control_at (with_control j (dropped w all) s) k) (drop_grows t k v s low whole.dropped j w all (sound_at s k log.kept low) (λ is. absurd (true≢false (sym is ∙ other)))) whole
 
-      behind : IsWhole n v (control_at s k) → IsWhole n v (control_at (with_control j (dropped w all) s) k)
-      behind = grown (nat_eq j k && nat_eq w v) refl all refl
+      after : IsWhole n v (control_at s k) → IsWhole n v (control_at (with_control j (dropped w all) s) k)
+      after = grown (nat_eq j k && nat_eq w v) refl all refl
 
       by_owed : (b : Bool) → (nat_eq j k && nat_eq w v) ≡ b → OwesAll k v (answer_of (Drop j w all) reply ∷ run) → OwesAll k v run ⊎ IsWhole n v (control_at (with_control j (dropped w all) s) k)
       by_owed false other owes = inl (sym (ap (λ (b : Bool). owed_in_turn (cond b (Some all) None) (owed_by_calls k v run)) other) ∙ owes)

@@ -73,9 +73,9 @@ module _ (z : PairRow) (first p q : Point) (points more : List PassedPoint) (her
       one false true = refl
       one false false = refl
 
-  -- A pair that is suspended behind a command was duplex exactly if it was before, if its device hasn't failed.
-  pub duplex_behind : PassesBy p q more → is_device_suspended z.state ≡ false → Among z q.rows → has_pair_in z Duplex q.rows ≡ false → has_pair_in z z.state q.rows ≡ true → was_duplex z first (points ++ more) ≡ was_duplex z first points
-  duplex_behind by unfailed there never itself =
+  -- A pair that is suspended after a command was duplex exactly if it was before, if its device hasn't failed.
+  pub duplex_after : PassesBy p q more → is_device_suspended z.state ≡ false → Among z q.rows → has_pair_in z Duplex q.rows ≡ false → has_pair_in z z.state q.rows ≡ true → was_duplex z first (points ++ more) ≡ was_duplex z first points
+  duplex_after by unfailed there never itself =
       ap (λ (all : List PassedPoint). was_duplex z first (points ++ all)) by.are
       ∙ fold-append (λ was n. so n.point || (now n.point && was)) (so first) points (by.marks ++ by.last ∷ [])
       ∙ fold-append (λ was n. so n.point || (now n.point && was)) (was_duplex z first points) by.marks (by.last ∷ [])

@@ -62,7 +62,7 @@ module _ (traces : List Trace) (k v place : ℕ) (t : Trace) (own : slice_get tr
     pub volume : row.volume ≡ v
     pub apart : none_clash rows ≡ true
 
-  -- It does so behind a deed.
+  -- It does so after a deed.
   pub record StandsBy (time : ℕ) (rows next : List PairRow) (h : Stands rows) : Type 0 where
     pub stands : Stands next
     pub goes : BecomesAt time h.row stands.row
@@ -133,8 +133,8 @@ module _ (traces : List Trace) (k v place : ℕ) (t : Trace) (own : slice_get tr
   none_shown : (s : Group) (cut : Stamp) → IsGroupSound s → k < length s.controls → is_dropped v (control_at s k).volumes ≡ true → is_plan_shown_done k v (shown_at cut s) ≡ true → ⊥
   none_shown s cut keeps low gone shown =
       let plan = (shown_done s cut k v keeps shown).1 in
-      let behind = (form_grows t k v s low gone cut).dropped in
-      never (volume_of v (formed cut (control_at s k)).volumes) plan.carried (subst (λ (c : ControlState). is_dropped v c.volumes ≡ true) (at_map cut s.controls k low) behind)
+      let after = (form_grows t k v s low gone cut).dropped in
+      never (volume_of v (formed cut (control_at s k)).volumes) plan.carried (subst (λ (c : ControlState). is_dropped v c.volumes ≡ true) (at_map cut s.controls k low) after)
     where
       never : (o : Option Volume) → passes is_live o ≡ true → passes is_gone o ≡ true → ⊥
       never None live gone = true≢false (sym live)

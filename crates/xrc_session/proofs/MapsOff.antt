@@ -89,7 +89,7 @@ module _ (k v : ℕ) where
       let more = calls_left calls (group_after s call) off.1 may.1 (kept_next s call keeps may.0) (omega (arith, low, many)) in
       record { many = more.many ∙ one.many; found = more.found ∙ one.found; quiet = λ none. more.quiet (one.quiet none) }
 
--- ---- a drop, and calls of other volumes behind it
+-- ---- a drop, and calls of other volumes after it
 
 pub one_count : (s : Group) (call : Call) → length (group_after s call).controls ≡ length s.controls
 one_count s (Join b) = choose (fits (control_at s b.control) b)
@@ -116,10 +116,10 @@ after_count [] s = refl
 after_count (call ∷ calls) s = after_count calls (group_after s call) ∙ one_count s call
 
 module _ (t : Group) (k v : ℕ) (within : k < length t.controls) (keeps : IsGroupSound t) (calls : List Call) where
-  -- the map behind a drop and such calls
-  behind_drop : (all : Bool) → Each (IsOff k v) calls → AllMay calls (group_after t (Drop k v all))
+  -- the map after a drop and such calls
+  after_drop : (all : Bool) → Each (IsOff k v) calls → AllMay calls (group_after t (Drop k v all))
       → volume_of v (control_at (after_calls calls (group_after t (Drop k v all))) k).volumes ≡ volume_of v (dropped v all (control_at t k)).volumes
-  behind_drop all off may =
+  after_drop all off may =
       (calls_left k v calls (group_after t (Drop k v all)) off may (kept_next t (Drop k v all) keeps within) (let same = same_count t k (dropped v all) in omega (arith, within, same))).found
       ∙ ap (λ (c : ControlState). volume_of v c.volumes) (own_is t k (dropped v all) within)
 
@@ -127,14 +127,14 @@ module _ (t : Group) (k v : ℕ) (within : k < length t.controls) (keeps : IsGro
       → passes (is_of_size n) (volume_of v (control_at (after_calls calls (group_after t (Drop k v true))) k).volumes) ≡ true → maps_track v x (control_at (after_calls calls (group_after t (Drop k v true))) k) ≡ true
   dropped_whole n x off may low sized =
       let c = control_at t k in
-      let behind = behind_drop true off may in
-      ap (passes (λ u. has_track u.map x)) behind
+      let after = after_drop true off may in
+      ap (passes (λ u. has_track u.map x)) after
       ∙ all_mapped n v x (entry_tracks v c.queue.waiting) c.volumes low
-      (sym (sized_dropped n v v true (entry_tracks v c.queue.waiting) c.volumes) ∙ ap (passes (is_of_size n)) (sym behind) ∙ sized)
+      (sym (sized_dropped n v v true (entry_tracks v c.queue.waiting) c.volumes) ∙ ap (passes (is_of_size n)) (sym after) ∙ sized)
 
   pub dropped_part : (x : ℕ) → Each (IsOff k v) calls → AllMay calls (group_after t (Drop k v false)) → list_all (is_off_volume v) (control_at t k).queue.waiting ≡ true
       → maps_track v x (control_at (after_calls calls (group_after t (Drop k v false))) k) ≡ maps_track v x (control_at t k)
-  dropped_part x off may none = ap (passes (λ u. has_track u.map x)) (behind_drop false off may) ∙ none_tracked v x (control_at t k).volumes (control_at t k).queue.waiting none
+  dropped_part x off may none = ap (passes (λ u. has_track u.map x)) (after_drop false off may) ∙ none_tracked v x (control_at t k).volumes (control_at t k).queue.waiting none
 
 -- ---- what waits at rest
 

@@ -1,4 +1,4 @@
--- Maps have what rows owe behind a log, where they had it before.
+-- Maps have what rows owe after a log, where they had it before.
 use Rattle.std.proofs.Common.{◌≡◌, ℕ, suc, ◌<◌, ◌≤◌, Bool, true, false, cond, not, ◌||◌, List, [], ◌∷◌, ◌++◌, length, take, Option, Some, None, inl, inr, refl, sym, ap, subst, ◌∙◌, arith, true≢false}
 use Rattle.std.specs.Prelude.{slice_get}
 use Rattle.std.specs.List.{Contains}
@@ -20,7 +20,7 @@ use Rattle.group_state.specs.Runs.{Answer, Runs}
 use Rattle.group_state.specs.SoundStates.{IsGroupSound}
 use Rattle.group_state.specs.Volumes.{volume_of}
 use Rattle.group_state.proofs.Kept.{kept_next}
-use Rattle.record_rows.specs.Deeds.{Deed, rows_behind, rows_by_deed, time_by_deed, time_meant_behind}
+use Rattle.record_rows.specs.Deeds.{Deed, rows_after_deeds, rows_by_deed, time_by_deed, time_meant_after}
 use Rattle.pair_table.specs.States.{is_by_device, is_device_suspended, owes_through}
 use Rattle.passages.specs.Points.{last_point}
 use Rattle.consistency.specs.Stages.{ScriptRun, tracks_of_row}
@@ -38,7 +38,7 @@ use Rattle.mover.proofs.OwedExactly.{owes_hit, owes_other, owes_split}
 use Rattle.mover.specs.OwedTracks.{IsCarriedAsLive}
 use Rattle.mover.proofs.Copying.{kept_within}
 use Rattle.xrc_session.specs.Maps.{BecomesAt, AreMapsSound, RestsAtCut, RowsGo, maps_track, has_write_between}
-use Rattle.xrc_session.specs.MapsOwed.{HasCutOrNoRow, HaveRowsOf, DeedsLeadTo, MapsOwed, MapsOwedBehindLogs, MapsRest, SuspendedUpTo}
+use Rattle.xrc_session.specs.MapsOwed.{HasCutOrNoRow, HaveRowsOf, DeedsLeadTo, MapsOwed, MapsOwedAfterLogs, MapsRest, SuspendedUpTo}
 use Rattle.xrc_session.proofs.MapsBegins.{maps_begin}
 use Rattle.xrc_session.proofs.MapsCounted.{counted_before}
 use Rattle.xrc_session.proofs.MapsChanged.{changed_is}
@@ -52,7 +52,7 @@ use Rattle.xrc_session.proofs.MapsWrites.{written_both}
 
 -- ---- runs
 
--- Through a run the number of controls stays, and what is kept of maps is kept.
+-- Through a run the number of controllers stays, and what is kept of maps is kept.
 pub run_count : (run : List Answer) (s end : Group) → Runs s run end → length end.controls ≡ length s.controls
 run_count [] s end runs = ap (λ (g : Group). length g.controls) runs
 run_count (a ∷ run) s end runs = run_count run runs.0 end runs.3 ∙ ap (λ (g : Group). length g.controls) runs.2.1 ∙ one_count s a.call
@@ -105,9 +105,9 @@ failed_suspended (Suspended cause since) e = refl
 
 -- ---- since when
 
--- A row that is suspended behind deeds is so since a time up to theirs.
-since_up_to : (bound time : ℕ) (rows : List PairRow) (deeds : List Deed) (place : ℕ) (r z : PairRow) (cause : SuspendCause) (since : Stamp) → RowsGo time rows deeds → ((n : ℕ) → n ≤ length deeds → time_meant_behind (take n deeds) time ≤ bound)
-    → slice_get rows place ≡ Some r → slice_get (rows_behind deeds rows) place ≡ Some z → z.state ≡ Suspended cause since → (r.state ≡ z.state → since.0 ≤ bound) → since.0 ≤ bound
+-- A row that is suspended after deeds is so since a time up to theirs.
+since_up_to : (bound time : ℕ) (rows : List PairRow) (deeds : List Deed) (place : ℕ) (r z : PairRow) (cause : SuspendCause) (since : Stamp) → RowsGo time rows deeds → ((n : ℕ) → n ≤ length deeds → time_meant_after (take n deeds) time ≤ bound)
+    → slice_get rows place ≡ Some r → slice_get (rows_after_deeds deeds rows) place ≡ Some z → z.state ≡ Suspended cause since → (r.state ≡ z.state → since.0 ≤ bound) → since.0 ≤ bound
 since_up_to bound time rows [] place r z cause since go times at last is before = before (ap (λ (x : PairRow). x.state) (same_Some r z (sym at ∙ last)))
 since_up_to bound time rows (deed ∷ deeds) place r z cause since go times at last is before =
     let n = next_at (BecomesAt (time_by_deed time deed)) rows (rows_by_deed deed) place r go.0 at in
@@ -121,7 +121,7 @@ since_up_to bound time rows (deed ∷ deeds) place r z cause since go times at l
 
 module _ (run : ScriptRun) (size : Sizes) (held : HeldTracks) (s end : Group) (log : List Answer) (first : Point) (points more : List PassedPoint) (p q : Point) (done known : Plans) (deeds : List Deed)
     (h : DeedsLeadTo run size held s end log p q done known deeds) (here : (last_point first points).rows ≡ p.rows) (have : HaveRowsOf more deeds) (rest : MapsRest p s) (cut : HasCutOrNoRow p.time p.rows s) (told : RestsAtCut end q.time) (owed : MapsOwed run first points p s) where
-  rows_are : q.rows ≡ rows_behind deeds p.rows
+  rows_are : q.rows ≡ rows_after_deeds deeds p.rows
   rows_are = (reached_holds size run.traces held s end log p.time q.time p.rows q.rows done known deeds h.fed h.begins h.kept).0
 
   later : p.time ≤ q.time
@@ -140,7 +140,7 @@ module _ (run : ScriptRun) (size : Sizes) (held : HeldTracks) (s end : Group) (l
       | inr none ↦ absurd (none-some r (ap (λ (rows : List PairRow). slice_get rows place) (sym none) ∙ at))
     ]
 
-    last : slice_get (rows_behind deeds p.rows) place ≡ Some z
+    last : slice_get (rows_after_deeds deeds p.rows) place ≡ Some z
     last = ap (λ (rows : List PairRow). slice_get rows place) (sym rows_are) ∙ now
 
     pair : z ≡ in_state z.state r
@@ -305,8 +305,8 @@ module _ (run : ScriptRun) (size : Sizes) (held : HeldTracks) (s end : Group) (l
       since_up_to q.time p.time p.rows deeds has.0 f.row z cause since h.go h.times f.at (ap (λ (rows : List PairRow). slice_get rows has.0) (sym rows_are) ∙ at_place z has) is
       (λ same. let up = rest.since f.row cause since (among_place p.rows has.0 f.row f.at) (same ∙ is) in omega (arith, up, later))
 
-pub maps_owed_behind_logs : MapsOwedBehindLogs
-maps_owed_behind_logs run size held s end log first points more p q done known deeds h here have rest cut told owed = (
+pub maps_owed_after_logs : MapsOwedAfterLogs
+maps_owed_after_logs run size held s end log first points more p q done known deeds h here have rest cut told owed = (
   all_owed run size held s end log first points more p q done known deeds h here have rest cut told owed,
   record {
     keeps = run_keeps log s end h.fed.kept h.fed.runs rest.keeps;

@@ -33,7 +33,7 @@ use Rattle.xrc_session.proofs.Changed.{Kept, no_plans, taken}
 use Rattle.xrc_session.proofs.JoinsLanes.{Each}
 use Rattle.xrc_session.proofs.MapsCommands.{all_off, came_from, split_at}
 use Rattle.xrc_session.proofs.MapsOff.{IsLeft, IsOff, calls_left}
-use Rattle.xrc_session.proofs.Walking.{Walked, same_behind}
+use Rattle.xrc_session.proofs.Walking.{Walked, same_after}
 
 -- No drop leads to a state that isn't suspended.
 no_drop : (was is : PairState) → is_suspended is ≡ false → owes was is ≡ None
@@ -47,7 +47,7 @@ wants_mapped : (x : ℕ) (o : Option Volume) → passes (wants x) (option_map re
 wants_mapped x None = refl
 wants_mapped x (Some u) = refl
 
--- A row that a command resumes was suspended, and its control counts.
+-- A row that a command resumes was suspended, and its controller counts.
 pub resumed_was : (s : Group) (before after : List PairRow) (r : PairRow) → none_clash before ≡ true → Contains before r → MayTake s (Resumed r.device) before after → (is_suspended r.state ≡ true) × (counts (control_at s r.control).phase ≡ true)
 resumed_was s before after r apart there may =
     subst (λ (o : Option PairRow). IfSome o (λ y. (is_suspended y.state ≡ true) × (counts (control_at s y.control).phase ≡ true))) (found_of_device r before apart (among_of before r there)) may.begun
@@ -76,7 +76,7 @@ module _ (run : ScriptRun) (first : Point) (points : List PassedPoint) (p : Poin
   t = group_after s (Resume k v)
 
   clear : none_clash after ≡ true
-  clear = apart_still (rows_by_command change before after) after (same_behind (rows_by_command change before after) after may.follow) may.apart
+  clear = apart_still (rows_by_command change before after) after (same_after (rows_by_command change before after) after may.follow) may.apart
 
   there : Among z after
   there = among_of after z in_after

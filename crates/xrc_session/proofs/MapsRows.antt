@@ -9,7 +9,7 @@ use Rattle.pair_table.specs.declared.row.PairState.{PairState}
 use Rattle.pair_table.specs.declared.row.PairState.TheVariants.{Pending, Copy, Duplex, Suspended}
 use Rattle.pair_table.specs.Rows.{is_suspended}
 use Rattle.pair_table.specs.Tables.{in_state, none_clash}
-use Rattle.record_rows.specs.Deeds.{Deed, rows_behind, rows_by_deed, time_by_deed}
+use Rattle.record_rows.specs.Deeds.{Deed, rows_after_deeds, rows_by_deed, time_by_deed}
 use Rattle.pair_table.specs.States.{is_device_suspended, is_duplex}
 use Rattle.record_rows.specs.ToldRows.{InPlaces}
 use Rattle.fed_logs.specs.Moves.{HasRowIn}
@@ -75,7 +75,7 @@ duplex_of Copy e = absurd cc
 duplex_of Duplex e = refl
 duplex_of (Suspended cause since) e = absurd cc
 
--- A row that is suspended isn't live behind a deed.
+-- A row that is suspended isn't live after a deed.
 pub stays_suspended : (time : ℕ) (r s : PairRow) → BecomesAt time r s → is_suspended r.state ≡ true → is_suspended s.state ≡ true
 stays_suspended time r s goes is = choose (is_suspended s.state) refl
   where
@@ -83,8 +83,8 @@ stays_suspended time r s goes is = choose (is_suspended s.state) refl
     choose true at = refl
     choose false at = absurd (true≢false (sym is ∙ goes.keeps.live at))
 
--- Behind deeds a row that was suspended is as it was, or its device has failed.
-pub ends_suspended : (time : ℕ) (rows : List PairRow) (deeds : List Deed) (place : ℕ) (r z : PairRow) → RowsGo time rows deeds → slice_get rows place ≡ Some r → slice_get (rows_behind deeds rows) place ≡ Some z → is_suspended r.state ≡ true
+-- After deeds a row that was suspended is as it was, or its device has failed.
+pub ends_suspended : (time : ℕ) (rows : List PairRow) (deeds : List Deed) (place : ℕ) (r z : PairRow) → RowsGo time rows deeds → slice_get rows place ≡ Some r → slice_get (rows_after_deeds deeds rows) place ≡ Some z → is_suspended r.state ≡ true
     → (z.state ≡ r.state) ⊎ (is_device_suspended z.state ≡ true)
 ends_suspended time rows [] place r z go at last is = inl (ap (λ (x : PairRow). x.state) (same_Some z r (sym last ∙ at)))
 ends_suspended time rows (deed ∷ deeds) place r z go at last is =
@@ -96,11 +96,11 @@ ends_suspended time rows (deed ∷ deeds) place r z go at last is =
     ]
 
 -- It is as at the end, if its device doesn't fail.
-pub ends_as : (time : ℕ) (rows : List PairRow) (deeds : List Deed) (place : ℕ) (r z : PairRow) → RowsGo time rows deeds → slice_get rows place ≡ Some r → slice_get (rows_behind deeds rows) place ≡ Some z → is_suspended r.state ≡ true → is_device_suspended z.state ≡ false → r.state ≡ z.state
+pub ends_as : (time : ℕ) (rows : List PairRow) (deeds : List Deed) (place : ℕ) (r z : PairRow) → RowsGo time rows deeds → slice_get rows place ≡ Some r → slice_get (rows_after_deeds deeds rows) place ≡ Some z → is_suspended r.state ≡ true → is_device_suspended z.state ≡ false → r.state ≡ z.state
 ends_as time rows deeds place r z go at last is unfailed = elim (ends_suspended time rows deeds place r z go at last is) [ inl same ↦ sym same | inr failed ↦ absurd (true≢false (sym failed ∙ unfailed)) ]
 
--- Behind deeds it is a row of the same pair.
-pub ends_pair : (time : ℕ) (rows : List PairRow) (deeds : List Deed) (place : ℕ) (r z : PairRow) → RowsGo time rows deeds → slice_get rows place ≡ Some r → slice_get (rows_behind deeds rows) place ≡ Some z → z ≡ in_state z.state r
+-- After deeds it is a row of the same pair.
+pub ends_pair : (time : ℕ) (rows : List PairRow) (deeds : List Deed) (place : ℕ) (r z : PairRow) → RowsGo time rows deeds → slice_get rows place ≡ Some r → slice_get (rows_after_deeds deeds rows) place ≡ Some z → z ≡ in_state z.state r
 ends_pair time rows [] place r z go at last =
     let same = same_Some z r (sym last ∙ at) in
     same ∙ ap (λ (state : PairState). in_state state r) (sym (ap (λ (x : PairRow). x.state) same))
@@ -108,7 +108,7 @@ ends_pair time rows (deed ∷ deeds) place r z go at last =
     let n = next_at (BecomesAt (time_by_deed time deed)) rows (rows_by_deed deed) place r go.0 at in
     ends_pair (time_by_deed time deed) (rows_by_deed deed) deeds place n.row z go.1 n.at last ∙ ap (in_state z.state) n.goes.keeps.same
 
--- What stands in a place behind deeds stood there before them.
+-- What stands in a place after deeds stood there before them.
 pub record StoodFirst (rows : List PairRow) (place : ℕ) : Type 0 where
   pub row : PairRow
   pub at : slice_get rows place ≡ Some row
@@ -120,7 +120,7 @@ stood_at is (x ∷ rows) [] place s each at = absurd each
 stood_at is (x ∷ rows) (y ∷ next) zero s each at = record { row = x; at = refl }
 stood_at is (x ∷ rows) (y ∷ next) (suc place) s each at = let f = stood_at is rows next place s each.1 at in record { row = f.row; at = f.at }
 
-pub stood_first : (time : ℕ) (rows : List PairRow) (deeds : List Deed) (place : ℕ) (z : PairRow) → RowsGo time rows deeds → slice_get (rows_behind deeds rows) place ≡ Some z → StoodFirst rows place
+pub stood_first : (time : ℕ) (rows : List PairRow) (deeds : List Deed) (place : ℕ) (z : PairRow) → RowsGo time rows deeds → slice_get (rows_after_deeds deeds rows) place ≡ Some z → StoodFirst rows place
 stood_first time rows [] place z go last = record { row = z; at = last }
 stood_first time rows (deed ∷ deeds) place z go last =
     let n = stood_first (time_by_deed time deed) (rows_by_deed deed) deeds place z go.1 last in
@@ -140,10 +140,10 @@ never_stands time rows (deed ∷ deeds) place r go at is =
     ap (λ (b : Bool). b || stood_duplex place (rows_by_deed deed) deeds) (ap is_duplex_row at ∙ not_duplex r.state is)
     ∙ never_stands (time_by_deed time deed) (rows_by_deed deed) deeds place n.row go.1 n.at (stays_suspended (time_by_deed time deed) r n.row n.goes is)
 
--- A live row that stands duplex, now or later, does so behind a deed too, if it is live there.
-pub stands_behind : (time : ℕ) (rows : List PairRow) (deed : Deed) (deeds : List Deed) (place : ℕ) (r s : PairRow) → slice_get rows place ≡ Some r → slice_get (rows_by_deed deed) place ≡ Some s → BecomesAt time r s → is_suspended s.state ≡ false
+-- A live row that stands duplex, now or later, does so after a deed too, if it is live there.
+pub stands_after : (time : ℕ) (rows : List PairRow) (deed : Deed) (deeds : List Deed) (place : ℕ) (r s : PairRow) → slice_get rows place ≡ Some r → slice_get (rows_by_deed deed) place ≡ Some s → BecomesAt time r s → is_suspended s.state ≡ false
     → stood_duplex place rows (deed ∷ deeds) ≡ true → stood_duplex place (rows_by_deed deed) deeds ≡ true
-stands_behind time rows deed deeds place r s at next goes live stood = elim (or_cases (is_duplex_row (slice_get rows place)) (stood_duplex place (rows_by_deed deed) deeds) stood) [
+stands_after time rows deed deeds place r s at next goes live stood = elim (or_cases (is_duplex_row (slice_get rows place)) (stood_duplex place (rows_by_deed deed) deeds) stood) [
   | inl now ↦ stood_now place (rows_by_deed deed) deeds s next (goes.keeps.duplex (duplex_of r.state (ap is_duplex_row (sym at) ∙ now)) live)
   | inr later ↦ later
 ]

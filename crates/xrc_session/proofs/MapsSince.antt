@@ -22,7 +22,7 @@ use Rattle.fed_logs.specs.ToldTracks.{has_no_later_copy, is_no_later_copy}
 use Rattle.fed_logs.specs.Logs.{IsPlanDone}
 use Rattle.xrc_session.specs.Maps.{maps_track, has_write_between, waits_above}
 use Rattle.xrc_session.proofs.MapsVolumes.{is_live}
-use Rattle.xrc_session.proofs.MapsWaits.{WaitsAsWritten, waits_behind}
+use Rattle.xrc_session.proofs.MapsWaits.{WaitsAsWritten, waits_after}
 use Rattle.xrc_session.proofs.MapsWrites.{written_both}
 
 -- ---- a plan that is done
@@ -70,7 +70,7 @@ since_up t v time last c d low up h = record {
 }
 
 -- No entry of the volume is due at a cut. So those that wait above the last cut wait above this one.
-same_above : (v x last : ℕ) (cut : Stamp) (entries : List WaitingEntry) → last ≤ cut.0 → list_all (λ e. not (is_of_volume v e)) (filter (is_due cut) entries) ≡ true → list_any (waits_behind v x last) entries ≡ list_any (waits_behind v x cut.0) entries
+same_above : (v x last : ℕ) (cut : Stamp) (entries : List WaitingEntry) → last ≤ cut.0 → list_all (λ e. not (is_of_volume v e)) (filter (is_due cut) entries) ≡ true → list_any (waits_after v x last) entries ≡ list_any (waits_after v x cut.0) entries
 same_above v x last cut [] low none = refl
 same_above v x last cut (e ∷ entries) low none = choose (is_due cut e) refl none (same_above v x last cut entries low)
   where
@@ -89,8 +89,8 @@ same_above v x last cut (e ∷ entries) low none = choose (is_due cut e) refl no
         by (inr under) = absurd (true≢false (sym (le-leb (entry_stamp e) cut.0 under) ∙ is))
 
     choose : (b : Bool) → is_due cut e ≡ b → list_all (λ e. not (is_of_volume v e)) (cond b (e ∷ filter (is_due cut) entries) (filter (is_due cut) entries)) ≡ true
-        → (list_all (λ e. not (is_of_volume v e)) (filter (is_due cut) entries) ≡ true → list_any (waits_behind v x last) entries ≡ list_any (waits_behind v x cut.0) entries)
-        → ((is_queued_on v x e && nat_lt last (entry_stamp e)) || list_any (waits_behind v x last) entries) ≡ ((is_queued_on v x e && nat_lt cut.0 (entry_stamp e)) || list_any (waits_behind v x cut.0) entries)
+        → (list_all (λ e. not (is_of_volume v e)) (filter (is_due cut) entries) ≡ true → list_any (waits_after v x last) entries ≡ list_any (waits_after v x cut.0) entries)
+        → ((is_queued_on v x e && nat_lt last (entry_stamp e)) || list_any (waits_after v x last) entries) ≡ ((is_queued_on v x e && nat_lt cut.0 (entry_stamp e)) || list_any (waits_after v x cut.0) entries)
     choose true is none rest =
         let parts = and_parts (not (is_of_volume v e)) (list_all (λ e. not (is_of_volume v e)) (filter (is_due cut) entries)) none in
         λ i. (ap (λ (b : Bool). b && nat_lt last (entry_stamp e)) (off parts.0) ∙ sym (ap (λ (b : Bool). b && nat_lt cut.0 (entry_stamp e)) (off parts.0))) i || rest parts.1 i
@@ -163,7 +163,7 @@ tracks_of v x (e ∷ entries) = choose (is_of_volume v e) (tracks_of v x entries
     choose false rest = rest
 
 -- Entries that wait of a volume of which no copied track does are writes above the last cut.
-queued_above : (v x last : ℕ) (entries : List WaitingEntry) → list_all (λ e. not (is_copy_of v e)) entries ≡ true → list_all (waits_above last) entries ≡ true → list_any (is_queued_on v x) entries ≡ list_any (waits_behind v x last) entries
+queued_above : (v x last : ℕ) (entries : List WaitingEntry) → list_all (λ e. not (is_copy_of v e)) entries ≡ true → list_all (waits_above last) entries ≡ true → list_any (is_queued_on v x) entries ≡ list_any (waits_after v x last) entries
 queued_above v x last [] copies above = refl
 queued_above v x last (e ∷ entries) copies above =
     let first = and_parts (not (is_copy_of v e)) (list_all (λ e. not (is_copy_of v e)) entries) copies in

@@ -1,4 +1,4 @@
--- Whether a pair was duplex in a run, by the deeds behind which its points stand.
+-- Whether a pair was duplex in a run, by the deeds after which its points stand.
 use Rattle.std.proofs.Common.{◌≡◌, ℕ, zero, suc, Bool, true, false, nat_eq, ◌&&◌, ◌||◌, List, [], ◌∷◌, ◌++◌, map, Some, refl, sym, ap, subst, ◌∙◌, true≢false}
 use Rattle.std.specs.Prelude.{bytes_eq, fold, slice_get}
 use Rattle.std.specs.List.{list_any}
@@ -14,7 +14,7 @@ use Rattle.pair_table.specs.Tables.{in_state, is_of, none_clash}
 use Rattle.pair_table.proofs.PutLaws.{number_sym}
 use Rattle.pair_table.proofs.StateLaws.{same_name}
 use Rattle.pair_table.proofs.TableLaws.{either_false}
-use Rattle.record_rows.specs.Deeds.{Deed, rows_behind, rows_by_deed, time_by_deed}
+use Rattle.record_rows.specs.Deeds.{Deed, rows_after_deeds, rows_by_deed, time_by_deed}
 use Rattle.pair_table.specs.States.{is_device_suspended, is_duplex}
 use Rattle.record_rows.proofs.Devices.{apart_first, apart_of, devices_apart, none_at}
 use Rattle.passages.specs.Points.{last_point, was_so}
@@ -118,7 +118,7 @@ module _ (place : ℕ) (z : PairRow) (suspends : is_suspended z.state ≡ true) 
   now_at rows r apart at pair = pair_at rows place r z z.state (apart_of rows apart) at pair
 
   -- A row that is suspended as it is at the end leaves whether its pair was duplex.
-  pub was_still : (time : ℕ) (rows : List PairRow) (deeds : List Deed) (r : PairRow) (was : Bool) → none_clash rows ≡ true → RowsGo time rows deeds → slice_get rows place ≡ Some r → slice_get (rows_behind deeds rows) place ≡ Some z → is_suspended r.state ≡ true
+  pub was_still : (time : ℕ) (rows : List PairRow) (deeds : List Deed) (r : PairRow) (was : Bool) → none_clash rows ≡ true → RowsGo time rows deeds → slice_get rows place ≡ Some r → slice_get (rows_after_deeds deeds rows) place ≡ Some z → is_suspended r.state ≡ true
       → was_in so now was (map rows_by_deed deeds) ≡ was
   was_still time rows [] r was apart go at last is = refl
   was_still time rows (deed ∷ deeds) r was apart go at last is =
@@ -132,8 +132,8 @@ module _ (place : ℕ) (z : PairRow) (suspends : is_suspended z.state ≡ true) 
       ap (λ (b : Bool). was_in so now b (map rows_by_deed deeds)) (λ i. duplex i || (is_now i && was))
       ∙ was_still (time_by_deed time deed) (rows_by_deed deed) deeds n.row was then go.1 n.at last still
 
-  -- A live row's pair was duplex behind deeds that suspend it exactly if it stood so.
-  pub was_stood : (time : ℕ) (rows : List PairRow) (deeds : List Deed) (r : PairRow) → none_clash rows ≡ true → RowsGo time rows deeds → slice_get rows place ≡ Some r → slice_get (rows_behind deeds rows) place ≡ Some z → is_suspended r.state ≡ false
+  -- A live row's pair was duplex after deeds that suspend it exactly if it stood so.
+  pub was_stood : (time : ℕ) (rows : List PairRow) (deeds : List Deed) (r : PairRow) → none_clash rows ≡ true → RowsGo time rows deeds → slice_get rows place ≡ Some r → slice_get (rows_after_deeds deeds rows) place ≡ Some z → is_suspended r.state ≡ false
       → was_in so now (is_duplex r.state) (map rows_by_deed deeds) ≡ stood_duplex place rows deeds
   was_stood time rows [] r apart go at last live = absurd (true≢false (sym suspends ∙ ap (λ (x : PairRow). is_suspended x.state) (same_Some z r (sym last ∙ at)) ∙ live))
   was_stood time rows (deed ∷ deeds) r apart go at last live =
@@ -183,22 +183,22 @@ module _ (place : ℕ) (z : PairRow) (suspends : is_suspended z.state ≡ true) 
 
   -- ---- in a run
 
-  module _ (first : Point) (points more : List PassedPoint) (time : ℕ) (rows : List PairRow) (deeds : List Deed) (r : PairRow) (apart : none_clash rows ≡ true) (go : RowsGo time rows deeds) (at : slice_get rows place ≡ Some r) (last : slice_get (rows_behind deeds rows) place ≡ Some z)
+  module _ (first : Point) (points more : List PassedPoint) (time : ℕ) (rows : List PairRow) (deeds : List Deed) (r : PairRow) (apart : none_clash rows ≡ true) (go : RowsGo time rows deeds) (at : slice_get rows place ≡ Some r) (last : slice_get (rows_after_deeds deeds rows) place ≡ Some z)
       (here : (last_point first points).rows ≡ rows) (have : HaveRowsOf more deeds) where
-    behind : was_duplex z first (points ++ more) ≡ was_in so now (was_duplex z first points) (map rows_by_deed deeds)
-    behind =
+    after : was_duplex z first (points ++ more) ≡ was_in so now (was_duplex z first points) (map rows_by_deed deeds)
+    after =
         fold-append (λ was n. so n.point.rows || (now n.point.rows && was)) (so first.rows) points more
         ∙ was_rows so now (was_duplex z first points) more
         ∙ ap (was_in so now (was_duplex z first points)) have
 
     -- The pair of a row that was suspended before was duplex exactly if it was before.
     pub duplex_still : is_suspended r.state ≡ true → was_duplex z first (points ++ more) ≡ was_duplex z first points
-    duplex_still is = behind ∙ was_still time rows deeds r (was_duplex z first points) apart go at last is
+    duplex_still is = after ∙ was_still time rows deeds r (was_duplex z first points) apart go at last is
 
     -- The pair of a row that was live was duplex exactly if it stood so.
     pub duplex_stood : is_suspended r.state ≡ false → was_duplex z first (points ++ more) ≡ stood_duplex place rows deeds
     duplex_stood live =
-        behind
+        after
         ∙ ap (λ (b : Bool). was_in so now b (map rows_by_deed deeds))
         (last_so (λ p. so p.rows) (λ p. now p.rows) first points (so first.rows) (λ none. refl) (ap now here ∙ now_at rows r apart at pair ∙ live_other z.state r.state suspends live) ∙ ap so here ∙ so_at rows r apart at pair)
         ∙ was_stood time rows deeds r apart go at last live

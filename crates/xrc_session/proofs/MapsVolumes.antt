@@ -1,4 +1,4 @@
--- What is mapped of a control's volumes, through each change of them.
+-- What is mapped of a controller's volumes, through each change of them.
 use Rattle.std.proofs.Common.{◌≡◌, ℕ, ◌<◌, Bool, true, false, not, cond, nat_eq, nat_lt, ◌&&◌, ◌||◌, List, [], ◌∷◌, filter, map, length, Option, Some, None, refl, sym, ap, subst, ◌∙◌, length-set, true≢false}
 use Rattle.std.specs.List.{list_all, list_any}
 use Rattle.std.specs.Option.{option_map}
@@ -153,7 +153,7 @@ all_mapped n v x tracks volumes low sized =
     choose None sized = absurd (true≢false (sym sized))
     choose (Some u) sized = has_every (length u.map) x ∙ lt-ltb x (length u.map) (subst (λ (m : ℕ). x < m) (sym (eqb-true (length u.map) n sized)) low)
 
--- A volume that is kept is dropped behind its drop.
+-- A volume that is kept is dropped after its drop.
 pub dropped_is : (v : ℕ) (all : Bool) (tracks : List ℕ) (volumes : List Volume) → passes (λ u. true) (volume_of v volumes) ≡ true → is_dropped v (with_volume v (dropped_volume all tracks) volumes) ≡ true
 dropped_is v all tracks volumes there =
     ap (passes is_gone) (found_with v v (dropped_volume all tracks) (λ u. refl) volumes ∙ ap (λ (b : Bool). cond b (option_map (dropped_volume all tracks) (volume_of v volumes)) (volume_of v volumes)) (eq-eqb v v refl))

@@ -1,4 +1,4 @@
--- The writes that wait on a track which is carried are those of the trace behind the last cut.
+-- The writes that wait on a track which is carried are those of the trace after the last cut.
 use Rattle.std.proofs.Common.{◌≡◌, ℕ, ◌<◌, ◌≤◌, Bool, true, false, not, cond, nat_eq, nat_lt, nat_le, ◌&&◌, ◌||◌, List, [], ◌∷◌, ◌++◌, filter, length, ◌⊎◌, Option, Some, None, inl, inr, refl, sym, ap, subst, ◌∙◌, arith, get_or-set_other, true≢false}
 use Rattle.std.specs.Prelude.{fold, min, slice_set}
 use Rattle.std.specs.List.{list_all, list_any}
@@ -19,12 +19,12 @@ use Rattle.group_state.specs.Controls.{ControlState, broke, carried_writes, copi
 use Rattle.group_state.specs.Groups.{Group, control_at, formed_at, with_control}
 use Rattle.group_state.specs.Machine.{Call, Reply}
 use Rattle.group_state.specs.Runs.{May}
-use Rattle.group_state.specs.SoundStates.{Sound, are_up_to, has_told}
+use Rattle.group_state.specs.SoundStates.{Sound, are_up_to, has_reported}
 use Rattle.group_state.specs.Calls.{is_by_reader}
 use Rattle.group_state.proofs.SoundLaws.{written_keeps}
 use Rattle.fed_logs.specs.ToldTracks.{floor_of, has_changed, has_no_later_copy, is_no_later_copy}
 use Rattle.fed_logs.specs.Feeds.{IsFedBy, entries_between}
-use Rattle.fed_logs.proofs.Keeping.{at_map, told_to_last}
+use Rattle.fed_logs.proofs.Keeping.{at_map, reported_to_last}
 use Rattle.fed_logs.proofs.Standing.{at_with}
 use Rattle.fed_logs.proofs.Tracks.{tested_with}
 use Rattle.fed_logs.proofs.Went.{WentRead}
@@ -34,17 +34,17 @@ use Rattle.xrc_session.proofs.MapsWrites.{or_none, written_none, written_on}
 use Rattle.xrc_session.proofs.MapsVolumes.{formed_same, other_dropped}
 
 -- an entry on a track, stamped above a time
-abbrev pub waits_behind : (volume track time : ℕ) → WaitingEntry → Bool
-waits_behind v x time e = is_queued_on v x e && nat_lt time (entry_stamp e)
+abbrev pub waits_after : (volume track time : ℕ) → WaitingEntry → Bool
+waits_after v x time e = is_queued_on v x e && nat_lt time (entry_stamp e)
 
 abbrev Carries : (v x : ℕ) → ControlState → Type 0
 Carries v x c = passes (carries x) (volume_of v c.volumes) ≡ true
 
--- Some entry waits above a time on a track that is carried exactly if the trace writes there from that time to the control's floor. The time isn't
+-- Some entry waits above a time on a track that is carried exactly if the trace writes there from that time to the controller's floor. The time isn't
 -- below the last cut, nor below a copied track that waits there.
 pub record WaitsAsWritten (t : Trace) (last : ℕ) (c : ControlState) : Type 0 where
   pub waits : (v x time : ℕ) → passes (carries x) (volume_of v c.volumes) ≡ true → has_no_later_copy v x time c.queue.waiting ≡ true → last ≤ time
-      → list_any (waits_behind v x time) c.queue.waiting ≡ has_write_between t v x time c.floor.0
+      → list_any (waits_after v x time) c.queue.waiting ≡ has_write_between t v x time c.floor.0
 
 -- ---- lists
 
@@ -65,21 +65,21 @@ all_left {X} test keep (x ∷ xs) passed e = choose (keep x) refl (all_left test
     choose false is rest e = and_from (test x) (list_all test xs) (passed x is) (rest e)
 
 -- Nothing waits above a time to which all entries are stamped.
-pub none_behind : (v x time : ℕ) (floor : Stamp) (entries : List WaitingEntry) → floor.0 ≤ time → are_up_to floor entries ≡ true → list_any (waits_behind v x time) entries ≡ false
-none_behind v x time floor [] low up = refl
-none_behind v x time floor (e ∷ entries) low up =
+pub none_after : (v x time : ℕ) (floor : Stamp) (entries : List WaitingEntry) → floor.0 ≤ time → are_up_to floor entries ≡ true → list_any (waits_after v x time) entries ≡ false
+none_after v x time floor [] low up = refl
+none_after v x time floor (e ∷ entries) low up =
     let parts = and_parts (nat_le (entry_stamp e) floor.0) (are_up_to floor entries) up in
     let stamp = leb-true (entry_stamp e) floor.0 parts.0 in
-    ap (λ (b : Bool). b || list_any (waits_behind v x time) entries) (and_right (is_queued_on v x e) (nat_lt time (entry_stamp e)) (le-ltb time (entry_stamp e) (omega (arith, stamp, low))))
-    ∙ none_behind v x time floor entries low parts.1
+    ap (λ (b : Bool). b || list_any (waits_after v x time) entries) (and_right (is_queued_on v x e) (nat_lt time (entry_stamp e)) (le-ltb time (entry_stamp e) (omega (arith, stamp, low))))
+    ∙ none_after v x time floor entries low parts.1
 
 -- ---- at rest
 
--- Where the floor isn't above the last cut, nothing waits that was written behind it.
+-- Where the floor isn't above the last cut, nothing waits that was written after it.
 pub waits_first : (t : Trace) (last : ℕ) (c : ControlState) → Sound c → c.floor.0 ≤ last → WaitsAsWritten t last c
 waits_first t last c sound low = record {
   waits = λ v x time live copies from.
-      none_behind v x time c.floor c.queue.waiting (omega (arith, low, from)) sound.stamps ∙ sym (written_none t v x time c.floor.0 (omega (arith, low, from)));
+      none_after v x time c.floor c.queue.waiting (omega (arith, low, from)) sound.stamps ∙ sym (written_none t v x time c.floor.0 (omega (arith, low, from)));
 }
 
 -- ---- a batch
@@ -99,7 +99,7 @@ carries_writes v x volumes (w ∷ writes) =
 
 -- The writes on a track that is carried are carried.
 any_carried : (k v x time : ℕ) (volumes : List Volume) (writes : List Write) → passes (carries x) (volume_of v volumes) ≡ true
-    → list_any (waits_behind v x time) (entries_of k (filter (is_carried volumes) writes)) ≡ list_any (λ w. is_on v x w && nat_lt time w.stamp.0) writes
+    → list_any (waits_after v x time) (entries_of k (filter (is_carried volumes) writes)) ≡ list_any (λ w. is_on v x w && nat_lt time w.stamp.0) writes
 any_carried k v x time volumes [] live = refl
 any_carried k v x time volumes (w ∷ writes) live = choose (is_on v x w) refl (is_carried volumes w) refl (any_carried k v x time volumes writes live)
   where
@@ -108,8 +108,8 @@ any_carried k v x time volumes (w ∷ writes) live = choose (is_on v x w) refl (
         let parts = and_parts (nat_eq w.volume v) (nat_eq w.track x) is in
         ap (λ (i : ℕ). passes (carries i) (volume_of w.volume volumes)) (eqb-true w.track x parts.1) ∙ ap (λ (i : ℕ). passes (carries x) (volume_of i volumes)) (eqb-true w.volume v parts.0) ∙ live
 
-    choose : (a : Bool) → is_on v x w ≡ a → (b : Bool) → is_carried volumes w ≡ b → list_any (waits_behind v x time) (entries_of k (filter (is_carried volumes) writes)) ≡ list_any (λ w. is_on v x w && nat_lt time w.stamp.0) writes
-        → list_any (waits_behind v x time) (entries_of k (cond b (w ∷ filter (is_carried volumes) writes) (filter (is_carried volumes) writes))) ≡ ((a && nat_lt time w.stamp.0) || list_any (λ w. is_on v x w && nat_lt time w.stamp.0) writes)
+    choose : (a : Bool) → is_on v x w ≡ a → (b : Bool) → is_carried volumes w ≡ b → list_any (waits_after v x time) (entries_of k (filter (is_carried volumes) writes)) ≡ list_any (λ w. is_on v x w && nat_lt time w.stamp.0) writes
+        → list_any (waits_after v x time) (entries_of k (cond b (w ∷ filter (is_carried volumes) writes) (filter (is_carried volumes) writes))) ≡ ((a && nat_lt time w.stamp.0) || list_any (λ w. is_on v x w && nat_lt time w.stamp.0) writes)
     choose a at true is rest = λ i. (at i && nat_lt time w.stamp.0) || rest i
     choose true at false is rest = absurd (true≢false (sym (on at) ∙ is))
     choose false at false is rest = rest
@@ -120,8 +120,8 @@ waits_joined t last b c up writes h = record {
       let more = entries_of c.queue.control (carried_writes c b) in
       let was = sym (carries_writes v x c.volumes b.writes) ∙ live in
       let before = (and_parts (has_no_later_copy v x time c.queue.waiting) (has_no_later_copy v x time more) (sym (list_all-append (is_no_later_copy v x time) c.queue.waiting more) ∙ copies)).0 in
-      list_any-append (waits_behind v x time) c.queue.waiting more
-      ∙ ap (λ (a : Bool). a || list_any (waits_behind v x time) more) (h.waits v x time was before from)
+      list_any-append (waits_after v x time) c.queue.waiting more
+      ∙ ap (λ (a : Bool). a || list_any (waits_after v x time) more) (h.waits v x time was before from)
       ∙ ap (λ (a : Bool). has_write_between t v x time c.floor.0 || a) (any_carried c.queue.control v x time c.volumes b.writes was ∙ ap (list_any (λ w. is_on v x w && nat_lt time w.stamp.0)) writes)
       ∙ written_on t v x time c.floor.0 b.upto.0 up;
 }
@@ -138,14 +138,14 @@ waits_copied t last w y at slot c sound floor h = record { waits = λ v x time l
     up = let is = ap (λ (s : Stamp). s.0) floor in omega (arith, is)
 
     -- the copied track itself
-    here : (v x time : ℕ) → (nat_eq w v && nat_eq y x) ≡ true → has_no_later_copy v x time (c.queue.waiting ++ new ∷ []) ≡ true → list_any (waits_behind v x time) (c.queue.waiting ++ new ∷ []) ≡ has_write_between t v x time c.floor.0
+    here : (v x time : ℕ) → (nat_eq w v && nat_eq y x) ≡ true → has_no_later_copy v x time (c.queue.waiting ++ new ∷ []) ≡ true → list_any (waits_after v x time) (c.queue.waiting ++ new ∷ []) ≡ has_write_between t v x time c.floor.0
     here v x time same copies =
         let last_one = (and_parts (has_no_later_copy v x time c.queue.waiting) (is_no_later_copy v x time new && true) (sym (list_all-append (is_no_later_copy v x time) c.queue.waiting (new ∷ [])) ∙ copies)).1 in
         let within : nat_le at.0 time ≡ true = flag (nat_eq w v && nat_eq y x) (nat_le at.0 time) same last_one in
         let stamp = leb-true at.0 time within in
         let low : c.floor.0 ≤ time = (let is = ap (λ (s : Stamp). s.0) floor in omega (arith, is, stamp)) in
-        list_any-append (waits_behind v x time) c.queue.waiting (new ∷ [])
-        ∙ ap (λ (a : Bool). a || list_any (waits_behind v x time) (new ∷ [])) (none_behind v x time c.floor c.queue.waiting low sound.stamps)
+        list_any-append (waits_after v x time) c.queue.waiting (new ∷ [])
+        ∙ ap (λ (a : Bool). a || list_any (waits_after v x time) (new ∷ [])) (none_after v x time c.floor c.queue.waiting low sound.stamps)
         ∙ ap (λ (a : Bool). a || false) (and_right (nat_eq w v && nat_eq y x) (nat_lt time at.0) (le-ltb time at.0 stamp))
         ∙ sym (written_none t v x time c.floor.0 low)
       where
@@ -159,13 +159,13 @@ waits_copied t last w y at slot c sound floor h = record { waits = λ v x time l
         (λ one u found. ap (λ (b : Bool). u.carried && not b) (get_or-set_other u.plan.wanted y x false false (λ e. eqb-false y x (sym (ap (λ (b : Bool). b && nat_eq y x) one) ∙ other) (sym e)))) (λ apart u. refl)
 
     choose : (v x time : ℕ) (b : Bool) → (nat_eq w v && nat_eq y x) ≡ b → passes (carries x) (volume_of v (with_volume w (copied_track y) c.volumes)) ≡ true → has_no_later_copy v x time (c.queue.waiting ++ new ∷ []) ≡ true → last ≤ time
-        → list_any (waits_behind v x time) (c.queue.waiting ++ new ∷ []) ≡ has_write_between t v x time c.floor.0
+        → list_any (waits_after v x time) (c.queue.waiting ++ new ∷ []) ≡ has_write_between t v x time c.floor.0
     choose v x time true same live copies from = here v x time same copies
     choose v x time false other live copies from =
         let before = (and_parts (has_no_later_copy v x time c.queue.waiting) (is_no_later_copy v x time new && true) (sym (list_all-append (is_no_later_copy v x time) c.queue.waiting (new ∷ [])) ∙ copies)).0 in
-        list_any-append (waits_behind v x time) c.queue.waiting (new ∷ [])
-        ∙ ap (λ (a : Bool). list_any (waits_behind v x time) c.queue.waiting || ((a && nat_lt time at.0) || false)) other
-        ∙ or_none (list_any (waits_behind v x time) c.queue.waiting)
+        list_any-append (waits_after v x time) c.queue.waiting (new ∷ [])
+        ∙ ap (λ (a : Bool). list_any (waits_after v x time) c.queue.waiting || ((a && nat_lt time at.0) || false)) other
+        ∙ or_none (list_any (waits_after v x time) c.queue.waiting)
         ∙ h.waits v x time (sym (carries_same v x other) ∙ live) before from
 
 -- ---- the floor goes up
@@ -173,7 +173,7 @@ waits_copied t last w y at slot c sound floor h = record { waits = λ v x time l
 pub waits_up : (t : Trace) (last : ℕ) (c d : ControlState) → d.queue.waiting ≡ c.queue.waiting → d.volumes ≡ c.volumes → c.floor.0 ≤ d.floor.0 → entries_between t c.floor.0 d.floor.0 ≡ [] → WaitsAsWritten t last c → WaitsAsWritten t last d
 waits_up t last c d waiting volumes up none h = record {
   waits = λ v x time live copies from.
-      ap (list_any (waits_behind v x time)) waiting
+      ap (list_any (waits_after v x time)) waiting
       ∙ h.waits v x time (ap (λ (us : List Volume). passes (carries x) (volume_of v us)) (sym volumes) ∙ live) (ap (has_no_later_copy v x time) (sym waiting) ∙ copies) from
       ∙ sym (or_none (has_write_between t v x time c.floor.0))
       ∙ ap (λ (entries : List Entry). has_write_between t v x time c.floor.0 || list_any (λ w. is_on v x w && nat_lt time w.stamp.0) (writes_of entries)) (sym none)
@@ -185,7 +185,7 @@ waits_up t last c d waiting volumes up none h = record {
 pub waits_formed : (t : Trace) (last : ℕ) (cut : Stamp) (c : ControlState) → last ≤ cut.0 → WaitsAsWritten t last c → WaitsAsWritten t cut.0 (formed cut c)
 waits_formed t last cut c up h = record {
   waits = λ v x time live copies from.
-      any_kept (waits_behind v x time) (is_later cut) c.queue.waiting (λ e early. and_right (is_queued_on v x e) (nat_lt time (entry_stamp e)) (le-ltb time (entry_stamp e) (let low = early_stamp e early in omega (arith, low, from))))
+      any_kept (waits_after v x time) (is_later cut) c.queue.waiting (λ e early. and_right (is_queued_on v x e) (nat_lt time (entry_stamp e)) (le-ltb time (entry_stamp e) (let low = early_stamp e early in omega (arith, low, from))))
       ∙ h.waits v x time (sym (carries_formed v x) ∙ live)
       (all_left (is_no_later_copy v x time) (is_later cut) c.queue.waiting (λ e early. or_right (not (e.is_copy && is_queued_on v x e)) (nat_le (entry_stamp e) time) (le-leb (entry_stamp e) time (let low = early_stamp e early in omega (arith, low, from)))) copies)
       (omega (arith, up, from));
@@ -221,10 +221,10 @@ waits_dropped t last w all c h = record { waits = λ v x time live copies from. 
         other false is none = absurd (true≢false none)
 
     choose : (v x time : ℕ) (b : Bool) → nat_eq w v ≡ b → passes (carries x) (volume_of v (dropped w all c).volumes) ≡ true → has_no_later_copy v x time (without_volume w c.queue.waiting) ≡ true → last ≤ time
-        → list_any (waits_behind v x time) (without_volume w c.queue.waiting) ≡ has_write_between t v x time c.floor.0
+        → list_any (waits_after v x time) (without_volume w c.queue.waiting) ≡ has_write_between t v x time c.floor.0
     choose v x time true same live copies from = absurd (gone v x same live)
     choose v x time false apart live copies from =
-        any_kept (waits_behind v x time) (λ e. not (is_of_volume w e)) c.queue.waiting (λ e out. and_left (is_queued_on v x e) (nat_lt time (entry_stamp e)) (off v x time apart e out))
+        any_kept (waits_after v x time) (λ e. not (is_of_volume w e)) c.queue.waiting (λ e out. and_left (is_queued_on v x e) (nat_lt time (entry_stamp e)) (off v x time apart e out))
         ∙ h.waits v x time (sym (other_dropped (carries x) w v all (entry_tracks w c.queue.waiting) apart c.volumes) ∙ live)
         (all_left (is_no_later_copy v x time) (λ e. not (is_of_volume w e)) c.queue.waiting (λ e out. free e.is_copy (is_queued_on v x e) (nat_le (entry_stamp e) time) (off v x time apart e out)) copies) from
       where
@@ -256,11 +256,11 @@ module _ (t : Trace) (k : ℕ) (s : Group) (low : k < length s.controls) (sound 
   drop_waits j w all = at_with s j k (dropped w all) Waits low (λ is. waits_dropped t s.last.0 w all (control_at s k) h) (λ apart. h)
 
 -- A cut isn't below the last one, where the limit isn't.
-pub cut_above : (last : Stamp) (limit : ℕ) (controls : List ControlState) → last.0 ≤ limit → list_all (has_told last) controls ≡ true → last.0 ≤ fold lesser limit controls
+pub cut_above : (last : Stamp) (limit : ℕ) (controls : List ControlState) → last.0 ≤ limit → list_all (has_reported last) controls ≡ true → last.0 ≤ fold lesser limit controls
 cut_above last limit [] le told = le
 cut_above last limit (c ∷ controls) le told =
-    let parts = and_parts (has_told last c) (list_all (has_told last) controls) told in
-    cut_above last (lesser limit c) controls (first (counts c.phase) (told_to_last last c parts.0)) parts.1
+    let parts = and_parts (has_reported last c) (list_all (has_reported last) controls) told in
+    cut_above last (lesser limit c) controls (first (counts c.phase) (reported_to_last last c parts.0)) parts.1
   where
     first : (t : Bool) → (t ≡ true → last.0 ≤ c.floor.0) → last.0 ≤ cond t (min limit c.floor.0) limit
     first true floor = let f = floor refl in omega (arith, le, f)

@@ -68,13 +68,13 @@ both_in from mid to w true low high = choose (cases_lt mid w.stamp.0)
 pub written_none : (t : Trace) (v x from to : ℕ) → to ≤ from → has_write_between t v x from to ≡ false
 written_none t v x from to low = any_never (λ w. is_on v x w && is_in from to w) (writes_of t.entries) (λ w. and_none (is_on v x w) (is_in from to w) (none_in from to w low))
 
--- What is written from a time to another is written up to a time between, or behind it.
+-- What is written from a time to another is written up to a time between, or after it.
 pub written_both : (t : Trace) (v x from mid to : ℕ) → from ≤ mid → mid ≤ to → (has_write_between t v x from mid || has_write_between t v x mid to) ≡ has_write_between t v x from to
 written_both t v x from mid to low high =
     any_either (λ w. is_on v x w && is_in from mid w) (λ w. is_on v x w && is_in mid to w) (writes_of t.entries)
     ∙ any_same (λ w. (is_on v x w && is_in from mid w) || (is_on v x w && is_in mid to w)) (λ w. is_on v x w && is_in from to w) (writes_of t.entries) (λ w. both_in from mid to w (is_on v x w) low high)
 
--- The writes of the entries behind one time, up to another, are tested by those times too.
+-- The writes of the entries after one time, up to another, are tested by those times too.
 pub any_in : (t : Trace) (from to : ℕ) (test : Write → Bool) → list_any test (writes_of (entries_between t from to)) ≡ list_any (λ w. test w && is_in from to w) (writes_of t.entries)
 any_in t from to test = all t.entries
   where
@@ -101,7 +101,7 @@ any_in t from to test = all t.entries
 pub written_in : (t : Trace) (v x from to : ℕ) → list_any (is_on v x) (writes_of (entries_between t from to)) ≡ has_write_between t v x from to
 written_in t v x from to = any_in t from to (is_on v x)
 
--- Behind a time, what was written up to a floor and what the entries from there to another write is what is written up to that one.
+-- After a time, what was written up to a floor and what the entries from there to another write is what is written up to that one.
 pub written_on : (t : Trace) (v x time floor to : ℕ) → floor ≤ to → (has_write_between t v x time floor || list_any (λ w. is_on v x w && nat_lt time w.stamp.0) (writes_of (entries_between t floor to))) ≡ has_write_between t v x time to
 written_on t v x time floor to up =
     ap (λ (b : Bool). has_write_between t v x time floor || b) (any_in t floor to (λ w. is_on v x w && nat_lt time w.stamp.0))

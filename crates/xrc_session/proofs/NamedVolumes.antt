@@ -93,11 +93,11 @@ apart_at seen (h ∷ heads) (suc v) d are inside =
     earlier_of rest first zero less = first
     earlier_of rest first (suc i) less = rest.earlier i (omega arith)
 
--- No volume of these is like one behind them whose serial none of them has.
+-- No volume of these is like one after them whose serial none of them has.
 unlike_those : (new : NamedVolume) (control first : ℕ) (heads : List VolumeHead) (d : VolumeHead) → ((i : ℕ) → i < length heads → bytes_eq new.serial (get_or heads i d).serial ≡ false) → first + length heads ≤ new.volume
     → list_any (are_alike new) (volumes_named control first heads) ≡ false
-unlike_those new control first [] d apart behind = refl
-unlike_those new control first (h ∷ heads) d apart behind =
+unlike_those new control first [] d apart after = refl
+unlike_those new control first (h ∷ heads) d apart after =
     none_true (bytes_eq new.serial h.serial || (nat_eq new.control control && nat_eq new.volume first)) (list_any (are_alike new) (volumes_named control (first + 1) heads))
     (none_true (bytes_eq new.serial h.serial) (nat_eq new.control control && nat_eq new.volume first) (apart 0 (omega arith)) (not_both (nat_eq new.control control) (nat_eq new.volume first) (unequal new.volume first (omega arith))))
     (unlike_those new control (first + 1) heads d (λ i less. apart (suc i) (omega arith)) (omega arith))
@@ -109,7 +109,7 @@ unlike_those new control first (h ∷ heads) d apart behind =
     unequal : (m n : ℕ) → n < m → nat_eq m n ≡ false
     unequal m n less = ne_eqb m n (λ same. omega arith)
 
--- A volume is like none of those of controls below its own, if its serial wasn't named.
+-- A volume is like none of those of controllers below its own, if its serial wasn't named.
 unlike_others : (new : NamedVolume) (volumes : List NamedVolume) → list_all (λ v. nat_lt v.control new.control) volumes ≡ true → list_any (bytes_eq new.serial) (map (λ v. v.serial) volumes) ≡ false → list_any (are_alike new) volumes ≡ false
 unlike_others new [] below fresh = refl
 unlike_others new (w ∷ volumes) below fresh =
@@ -125,20 +125,20 @@ unlike_others new (w ∷ volumes) below fresh =
     unequal : (m n : ℕ) → n < m → nat_eq m n ≡ false
     unequal m n less = ne_eqb m n (λ same. omega arith)
 
--- ---- the names behind some volumes of a header
+-- ---- the names after some volumes of a header
 
 -- a volume as it is named
 abbrev pub volume_named : (control volume : ℕ) → VolumeHead → NamedVolume
 volume_named control v head = record { serial = head.serial; control = control; volume = v; cylinders = head.cylinders }
 
--- the names behind the volumes of a control below a number
-abbrev pub names_behind : (control : ℕ) → List VolumeHead → (below : ℕ) → Naming → Naming
-names_behind control heads v names = record names { primaries = names.primaries ++ volumes_named control 0 (take v heads) }
+-- the names after the volumes of a controller below a number
+abbrev pub names_after : (control : ℕ) → List VolumeHead → (below : ℕ) → Naming → Naming
+names_after control heads v names = record names { primaries = names.primaries ++ volumes_named control 0 (take v heads) }
 
 -- The next volume may be named.
 pub may_name : (control : ℕ) (heads : List VolumeHead) (named : List (List ℕ)) (before names : Naming) (v : ℕ) (head : VolumeHead) → control < 16 → are_volumes 1 [] heads ≡ true → length heads ≤ 32 → NamesApart control heads named before
-    → v < length heads → head ≡ get_or heads v head → names ≡ names_behind control heads v before → MayName (volume_named control v head) names
-may_name control heads named before names v head small are few apart inside is behind = subst (λ (h : VolumeHead). MayName (volume_named control v h) names) (sym is) (record { ranges = ranges; new = new })
+    → v < length heads → head ≡ get_or heads v head → names ≡ names_after control heads v before → MayName (volume_named control v head) names
+may_name control heads named before names v head small are few apart inside is after = subst (λ (h : VolumeHead). MayName (volume_named control v h) names) (sym is) (record { ranges = ranges; new = new })
   where
     here : VolumeHead
     here = get_or heads v head
@@ -164,7 +164,7 @@ may_name control heads named before names v head small are few apart inside is b
         let long = length-take-le v heads (omega (arith, inside)) in
         let mine = unlike_those (volume_named control v here) control 0 (take v heads) head front (omega arith) in
         let others = unlike_others (volume_named control v here) before.primaries apart.are.below fresh in
-        ap (λ (n : Naming). not (list_any (are_alike (volume_named control v here)) n.primaries)) behind
+        ap (λ (n : Naming). not (list_any (are_alike (volume_named control v here)) n.primaries)) after
         ∙ ap not (list_any-append (are_alike (volume_named control v here)) before.primaries (volumes_named control 0 (take v heads)) ∙ none_true _ _ others mine)
 
 volumes_more : (control first : ℕ) (heads : List VolumeHead) (h : VolumeHead) → volumes_named control first (heads ++ h ∷ []) ≡ volumes_named control first heads ++ volume_named control (first + length heads) h ∷ []
@@ -177,23 +177,23 @@ serials_more [] h = refl
 serials_more (x ∷ heads) h = ap (λ (l : List (List ℕ)). x.serial ∷ l) (serials_more heads h)
 
 -- It was named.
-pub named_next : (control : ℕ) (heads : List VolumeHead) (before names next : Naming) (v : ℕ) (head : VolumeHead) → v < length heads → head ≡ get_or heads v head → names ≡ names_behind control heads v before → next ≡ with_primary (volume_named control v head) names
-    → next ≡ names_behind control heads (v + 1) before
-named_next control heads before names next v head inside is behind named =
+pub named_next : (control : ℕ) (heads : List VolumeHead) (before names next : Naming) (v : ℕ) (head : VolumeHead) → v < length heads → head ≡ get_or heads v head → names ≡ names_after control heads v before → next ≡ with_primary (volume_named control v head) names
+    → next ≡ names_after control heads (v + 1) before
+named_next control heads before names next v head inside is after named =
     let long = length-take-le v heads (omega (arith, inside)) in
     let volumes =
     ap (volumes_named control 0) (take_more heads v head inside ∙ ap (λ (h : VolumeHead). take v heads ++ h ∷ []) (sym is)) ∙ volumes_more control 0 (take v heads) head
     ∙ ap (λ (n : ℕ). volumes_named control 0 (take v heads) ++ volume_named control n head ∷ []) (omega arith) in
-    named ∙ ap (with_primary (volume_named control v head)) behind
+    named ∙ ap (with_primary (volume_named control v head)) after
     ∙ ap (λ (l : List NamedVolume). record before { primaries = l }) (append_assoc before.primaries (volumes_named control 0 (take v heads)) (volume_named control v head ∷ []) ∙ ap (λ (l : List NamedVolume). before.primaries ++ l) (sym volumes))
 
 pub serials_next : (heads : List VolumeHead) (before named next : List (List ℕ)) (v : ℕ) (head : VolumeHead) → v < length heads → head ≡ get_or heads v head → named ≡ before ++ serials_in_header (take v heads) → next ≡ named ++ head.serial ∷ []
     → next ≡ before ++ serials_in_header (take (v + 1) heads)
-serials_next heads before named next v head inside is behind pushed =
+serials_next heads before named next v head inside is after pushed =
     let serials = ap serials_in_header (take_more heads v head inside ∙ ap (λ (h : VolumeHead). take v heads ++ h ∷ []) (sym is)) ∙ serials_more (take v heads) head in
-    pushed ∙ ap (λ (l : List (List ℕ)). l ++ head.serial ∷ []) behind ∙ append_assoc before (serials_in_header (take v heads)) (head.serial ∷ []) ∙ ap (λ (l : List (List ℕ)). before ++ l) (sym serials)
+    pushed ∙ ap (λ (l : List (List ℕ)). l ++ head.serial ∷ []) after ∙ append_assoc before (serials_in_header (take v heads)) (head.serial ∷ []) ∙ ap (λ (l : List (List ℕ)). before ++ l) (sym serials)
 
--- ---- the names behind a header
+-- ---- the names after a header
 
 below_more : (control : ℕ) (volumes : List NamedVolume) → list_all (λ v. nat_lt v.control control) volumes ≡ true → list_all (λ v. nat_lt v.control (control + 1)) volumes ≡ true
 below_more control [] below = refl
@@ -220,19 +220,19 @@ same_at (x ∷ xs) (suc i) d e inside = same_at xs i d e (omega arith)
 
 -- The volumes of a header are named apart from one another and from those before.
 named_apart : (control : ℕ) (heads : List VolumeHead) (named : List (List ℕ)) (before : Naming) (d : VolumeHead) → control < 16 → are_volumes 1 [] heads ≡ true → length heads ≤ 32 → NamesApart control heads named before → (n : ℕ) → n ≤ length heads
-    → none_alike (names_behind control heads n before).primaries ≡ true
+    → none_alike (names_after control heads n before).primaries ≡ true
 named_apart control heads named before d small are few apart zero within = ap none_alike (append-nil before.primaries) ∙ apart.are.apart
 named_apart control heads named before d small are few apart (suc n) within =
     let inside : n < length heads = omega (arith, within) in
     let head = get_or heads n d in
     let is : head ≡ get_or heads n head = same_at heads n d head inside in
-    let names = names_behind control heads n before in
+    let names = names_after control heads n before in
     let v = volume_named control n head in
     let may = may_name control heads named before names n head small are few apart inside is refl in
     let more = apart_more v names.primaries (named_apart control heads named before d small are few apart n (omega (arith, within))) (false_of_not (list_any (are_alike v) names.primaries) may.new) in
     let next = named_next control heads before names (with_primary v names) n head inside is refl refl in
     let number : n + 1 ≡ suc n = omega arith in
-    ap (λ (m : ℕ). none_alike (names_behind control heads m before).primaries) (sym number) ∙ ap (λ (x : Naming). none_alike x.primaries) (sym next) ∙ more
+    ap (λ (m : ℕ). none_alike (names_after control heads m before).primaries) (sym number) ∙ ap (λ (x : Naming). none_alike x.primaries) (sym next) ∙ more
 
 -- A header that keeps its rules has 1 to 32 volumes, which keep theirs.
 pub record HasGoodVolumes (heads : List VolumeHead) : Type 0 where
@@ -248,18 +248,18 @@ volumes_of_header h kept =
     let ends = and_parts (nat_le 1 (length h.volumes)) (nat_le (length h.volumes) MOST_CONTROL_VOLUMES) count.1 in
     record { some = leb-true 1 (length h.volumes) ends.0; few = leb-true (length h.volumes) MOST_CONTROL_VOLUMES ends.1; are = two.1 }
 
--- The serials that were named are those of the names again, now of one control more.
+-- The serials that were named are those of the names again, now of one controller more.
 pub serials_are_named : (control : ℕ) (heads : List VolumeHead) (old named : List (List ℕ)) (before names : Naming) → control < 16 → HasGoodVolumes heads → NamesApart control heads old before
     → (names ≡ record before { primaries = before.primaries ++ volumes_named control 0 heads }) × (named ≡ old ++ serials_in_header heads) → AreSerialsNamed (control + 1) named names
-serials_are_named control heads old named before names small good apart behind = record {
+serials_are_named control heads old named before names small good apart after = record {
   serials =
-      behind.1 ∙ ap (λ (l : List (List ℕ)). l ++ serials_in_header heads) apart.are.serials ∙ ap (λ (l : List (List ℕ)). map (λ v. v.serial) before.primaries ++ l) (serials_named control 0 heads)
-      ∙ sym (map_both (λ v. v.serial) before.primaries (volumes_named control 0 heads)) ∙ ap (λ (n : Naming). map (λ v. v.serial) n.primaries) (sym behind.0);
+      after.1 ∙ ap (λ (l : List (List ℕ)). l ++ serials_in_header heads) apart.are.serials ∙ ap (λ (l : List (List ℕ)). map (λ v. v.serial) before.primaries ++ l) (serials_named control 0 heads)
+      ∙ sym (map_both (λ v. v.serial) before.primaries (volumes_named control 0 heads)) ∙ ap (λ (n : Naming). map (λ v. v.serial) n.primaries) (sym after.0);
   below =
-      ap (λ (n : Naming). list_all (λ v. nat_lt v.control (control + 1)) n.primaries) behind.0 ∙ list_all-append (λ v. nat_lt v.control (control + 1)) before.primaries (volumes_named control 0 heads)
+      ap (λ (n : Naming). list_all (λ v. nat_lt v.control (control + 1)) n.primaries) after.0 ∙ list_all-append (λ v. nat_lt v.control (control + 1)) before.primaries (volumes_named control 0 heads)
       ∙ and_from (list_all (λ v. nat_lt v.control (control + 1)) before.primaries) (list_all (λ v. nat_lt v.control (control + 1)) (volumes_named control 0 heads)) (below_more control before.primaries apart.are.below) (below_named control 0 heads);
   apart =
-      ap (λ (n : Naming). none_alike n.primaries) behind.0 ∙ ap (λ (l : List VolumeHead). none_alike (before.primaries ++ volumes_named control 0 l)) (sym (take_all (length heads) heads (omega arith)))
+      ap (λ (n : Naming). none_alike n.primaries) after.0 ∙ ap (λ (l : List VolumeHead). none_alike (before.primaries ++ volumes_named control 0 l)) (sym (take_all (length heads) heads (omega arith)))
       ∙ named_apart control heads old before (record { serial = []; cylinders = 0 }) small good.are good.few apart (length heads) (omega arith);
 }
 

@@ -1,4 +1,4 @@
--- The names at a time: those of a run, with the controls that have broken by then.
+-- The names at a time: those of a run, with the controllers that have broken by then.
 use Rattle.std.proofs.Common.{◌≡◌, ◌⊎◌, ℕ, suc, ◌+◌, ◌<◌, ◌≤◌, nat_eq, nat_lt, Bool, true, false, cond, ◌||◌, not, List, [], ◌∷◌, ◌++◌, length, map, Option, Some, None, refl, sym, ap, ◌∙◌, arith, true≢false, inl, inr}
 use Rattle.std.specs.Prelude.{bytes_eq, is_some, option_map, slice_get, slice_index_or}
 use Rattle.std.specs.List.{list_any}
@@ -45,7 +45,7 @@ as_many lanes traces heads = sym (length-map traces (λ t. t.header.volumes)) �
 
 -- ---- flags
 
--- whether controls have broken at a time, in order
+-- whether controllers have broken at a time, in order
 abbrev flags_at : (time : ℕ) → List (Option ℕ) → List Bool
 flags_at time breaks = map (λ b. is_below b time) breaks
 
@@ -83,7 +83,7 @@ lane_flags time (lane ∷ lanes) (t ∷ traces) many each =
 
 -- ---- the names
 
--- At the start no control has broken.
+-- At the start no controller has broken.
 pub names_at_start : {S : Type 0} (run : ScriptRun) (lanes : List (Lane S)) (names : Naming) → HaveHeadsOf lanes run.traces → names.primaries ≡ primaries_in 0 lanes → names.labels ≡ run.labels → names.broken ≡ [] → names ≡ names_at 0 (breaks_of run) (names_of run)
 names_at_start run lanes names heads named labels broken =
     let same : names.primaries ≡ primaries_named 0 run.traces = named ∙ sym (named_as_lanes 0 lanes run.traces heads) in
@@ -98,7 +98,7 @@ names_at_start run lanes names heads named labels broken =
     none_at_zero k [] = refl
     none_at_zero k (b ∷ breaks) = rw (none_below b) (none_at_zero (k + 1) breaks)
 
--- Once the controls are named whose lanes have broken, the names are those at the time up to which the lanes broke as their traces do.
+-- Once the controllers are named whose lanes have broken, the names are those at the time up to which the lanes broke as their traces do.
 pub names_at_time : {S : Type 0} (run : ScriptRun) (lanes : List (Lane S)) (from time : ℕ) (before names : Naming) → from ≤ time → LanesBrokeAs time run.traces lanes → HaveHeadsOf lanes run.traces → HaveVolumes lanes
     → before ≡ names_at from (breaks_of run) (names_of run) → names ≡ with_lanes_broken 0 lanes before → names ≡ names_at time (breaks_of run) (names_of run)
 names_at_time run lanes from time before names up broke heads have was is =
@@ -120,7 +120,7 @@ names_at_time run lanes from time before names up broke heads have was is =
 
 -- ---- answers that look at no name
 
--- Before the start, and behind the end, an answer is the same with any names.
+-- Before the start, and after the end, an answer is the same with any names.
 pub answers_alike : (names other : Naming) (table : Table) (session : List ℕ) (command : Command) → (table.is_started ≡ false) ⊎ (table.is_ended ≡ true) → answer names table session command ≡ answer other table session command
 answers_alike names other table session (Start level) idle = refl
 answers_alike names other table session (DelPair choice) idle = refl

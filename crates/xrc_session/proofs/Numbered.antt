@@ -47,7 +47,7 @@ module _ (controls : ℕ) (plant : PlantState) where
       let due : stop_of_length controls (first_too_short controls plant) ≡ Some e = ap (stop_of_length controls) is ∙ ap (λ (s : Stop). Some s) (sym same) in
       (λ stopped. cc (due, stopped, was), λ wanted. cc (due, wanted, was))
 
-  -- So it is of a journal that is too short, behind devices that are not.
+  -- So it is of a journal that is too short, after devices that are not.
   pub stops_by_journal : {T : Type 0} (result : Result T Stop) (n needed : ℕ) (e : Stop) → n < plant.journals → first_too_short controls plant ≡ short_from n → needed ≡ journal_length controls
       → (e ≡ TooSmall (Journal n) needed) × ¬ (needed ≤ plant.lengths (Journal n)) → result ≡ Err e → (stop : Stop) → IsErrOf result stop ↔ (stop_of_length controls (first_too_short controls plant) ≡ Some stop)
   stops_by_journal result n needed e within from need is was =
@@ -69,7 +69,7 @@ none_among p first (suc count) (suc k) none lt = ap (λ (j : ℕ). p (Journal j)
 pub stop_by_lengths : (controls traces : ℕ) (plant : PlantState) → true ≡ has_site_numbers controls traces plant → stop_of_site controls traces plant ≡ stop_of_length controls (first_too_short controls plant)
 stop_by_lengths controls traces plant good = ap (λ (b : Bool). cond b (stop_of_length controls (first_too_short controls plant)) (Some BadSite)) (sym good)
 
--- Then the devices have the lengths that a session needs, and as many lanes as controls.
+-- Then the devices have the lengths that a session needs, and as many lanes as controllers.
 has_lengths : (controls traces : ℕ) (plant : PlantState) → true ≡ has_site_numbers controls traces plant → first_too_short controls plant ≡ None → HasLengths controls plant × (traces ≡ controls) × (1 ≤ plant.volumes)
 has_lengths controls traces plant good none =
     let all = and_parts (nat_eq traces controls && (nat_le 2 plant.journals && nat_le plant.journals 16)) (nat_le 1 plant.volumes && nat_le plant.volumes 64) (sym good) in

@@ -9,7 +9,7 @@ use Rattle.row_changes.specs.Spans.{AreCounted}
 use Rattle.xrc_command.specs.declared.line.Line.{Line}
 use Rattle.consistency.specs.Answering.{answered_by, is_command_of, points_before}
 use Rattle.consistency.specs.Stages.{ScriptRun, Stage, accepts}
-use Rattle.consistency.specs.Pauses.{AreToldOf, HasPassed, asked_in}
+use Rattle.consistency.specs.Pauses.{AreSaidOf, HasPassed, asked_in}
 use Rattle.consistency.specs.Courses.{Answered, IsAnswered}
 use Rattle.consistency.specs.Leads.{Point}
 use Rattle.consistency.specs.Replies.{IsReply}
@@ -25,7 +25,7 @@ use Rattle.consistency.proofs.Replying.{command_exactly, exact_is_reply}
 use Rattle.passages.specs.Points.{AreLinked, last_point}
 use Rattle.mover.specs.Working.{LinesAsked}
 use Rattle.xrc_session.specs.Answering.{AreOfCommand}
-use Rattle.xrc_session.specs.Answering.AreOfCommand.{BehindMark, OfCommand, OfEnd}
+use Rattle.xrc_session.specs.Answering.AreOfCommand.{AfterMark, OfCommand, OfEnd}
 use Rattle.xrc_session.specs.Trails.{BringsChanges}
 use Rattle.xrc_session.proofs.Asked.{fold_append, last_of_leg, none_of_number}
 
@@ -43,7 +43,7 @@ module _ (run : ScriptRun) (s : Stage) (goes : s.table.is_ended ≡ false) (l : 
 
 -- ---- a line by the points of its command
 
--- A line with these changes before its command and these hits behind it is answered with its exact reply.
+-- A line with these changes before its command and these hits after it is answered with its exact reply.
 abbrev pub AnswersExactly : ScriptRun → Stage → Line → (changes hits : List Timed) → Type 0
 AnswersExactly run s line changes hits = (text reply : List ℕ) (first : Point) (points : List PassedPoint) (number : ℕ) → (let a = answered_by run s text reply line changes hits in IsExact run s first points number a → IsAnswered run s a)
 
@@ -88,14 +88,14 @@ module _ (run : ScriptRun) (s : Stage) (goes : s.table.is_ended ≡ false) (name
   -- A line is answered exactly by the points of its command, from a leg on whose changes come before it.
   pub line_answers : (hits : List Timed) (l : Leg) → IsLegOf run s l → (more : List PassedPoint) → AreOfCommand number hits more → AreLinked (ComesNext run asked) leg_after l more → AnswersExactly run s line l.changes hits
   line_answers hits l leg more (OfCommand n is) linked = command_answers l leg n hits is linked.0
-  line_answers hits l leg more (OfEnd n m own behind is ends all) linked =
-      subst (λ (h : List Timed). AnswersExactly run s line l.changes h) (sym all) (end_answers l leg n m own behind is ends linked.0 linked.1.0)
-  line_answers hits l leg more (BehindMark n points before rest) linked =
+  line_answers hits l leg more (OfEnd n m own after is ends all) linked =
+      subst (λ (h : List Timed). AnswersExactly run s line l.changes h) (sym all) (end_answers l leg n m own after is ends linked.0 linked.1.0)
+  line_answers hits l leg more (AfterMark n points before rest) linked =
       subst (λ (c : List Timed). AnswersExactly run s line c hits) (marks_change_none number l n before) (line_answers hits (leg_after l n) (leg_marked l leg n before linked.0) points rest linked.1)
 
--- ---- the leg behind a command
+-- ---- the leg after a command
 
--- Behind the points of a line's command a leg has just begun, with one line more answered.
+-- After the points of a line's command a leg has just begun, with one line more answered.
 pub record HasJustBegun (before : Leg) (l : Leg) : Type 0 where
   pub changes : l.changes ≡ []
   pub marked : l.marked ≡ []
@@ -111,10 +111,10 @@ marks_answer_none number l n (inr marked) = ap (λ (w : Way). (leg_by l n.point 
 
 pub just_begun : (number : ℕ) (hits : List Timed) (l : Leg) (more : List PassedPoint) → AreOfCommand number hits more → HasJustBegun l (fold leg_after l more)
 just_begun number hits l more (OfCommand n is) = subst (λ (w : Way). HasJustBegun l (leg_by l n.point w)) (sym is) (just_begun_by l n.point number hits)
-just_begun number hits l more (OfEnd n m own behind is ends all) =
+just_begun number hits l more (OfEnd n m own after is ends all) =
     subst (λ (w : Way). HasJustBegun l (leg_by (leg_by l n.point w) m.point m.way)) (sym is)
     (subst (λ (w : Way). HasJustBegun l (leg_by (leg_by l n.point (Commanded number own)) m.point w)) (sym ends) (record { changes = refl; marked = refl; answered = refl; replied = refl }))
-just_begun number hits l more (BehindMark n points before rest) =
+just_begun number hits l more (AfterMark n points before rest) =
     let there = just_begun number hits (leg_after l n) points rest in
     record { changes = there.changes; marked = there.marked; answered = there.answered ∙ ap suc (marks_answer_none number l n before); replied = there.replied }
 
@@ -145,7 +145,7 @@ pub record LeavesRows (l : Leg) (more : List PassedPoint) : Type 0 where
 none_leave : (l : Leg) (more : List PassedPoint) → more ≡ [] → LeavesRows l more
 none_leave l more is = subst (LeavesRows l) (sym is) (record { changes = refl; rows = refl })
 
--- A mark with no hit is before the command, and those behind it.
+-- A mark with no hit is before the command, and those after it.
 module _ (run : ScriptRun) (asked : LinesAsked) (number : ℕ) (l : Leg) (n : PassedPoint) (points : List PassedPoint) (way : n.way ≡ OnTheWay []) (next : ComesNext run asked l n) (later : LeavesRows (leg_after l n) (points_before number points)) where
   same_point : (leg_after l n).point ≡ n.point
   same_point = ap (λ (w : Way). (leg_by l n.point w).point) way
@@ -153,37 +153,37 @@ module _ (run : ScriptRun) (asked : LinesAsked) (number : ℕ) (l : Leg) (n : Pa
   come : ComesBy run asked l n.point (OnTheWay [])
   come = subst (λ (w : Way). ComesBy run asked l n.point w) way next.0
 
-  behind_mark : LeavesRows l (n ∷ points_before number points)
-  behind_mark = record {
+  after_mark : LeavesRows l (n ∷ points_before number points)
+  after_mark = record {
     changes = later.changes ∙ marks_change_none number l n (inl way);
     rows = ap (λ (p : Point). (last_point p (points_before number points)).rows) (sym same_point) ∙ later.rows ∙ ap (λ (p : Point). p.rows) same_point ∙ come.1.leads.rows;
   }
 
   is_before : LeavesRows l (points_before number (n ∷ points))
-  is_before = subst (LeavesRows l) (sym (ap (λ (w : Way). if is_command_of number w then [] else n ∷ points_before number points) way)) behind_mark
+  is_before = subst (LeavesRows l) (sym (ap (λ (w : Way). if is_command_of number w then [] else n ∷ points_before number points) way)) after_mark
 
 pub before_command : (run : ScriptRun) (asked : LinesAsked) (number : ℕ) (hits : List Timed) (l : Leg) (more : List PassedPoint) → AreOfCommand number hits more → AreLinked (ComesNext run asked) leg_after l more → LeavesRows l (points_before number more)
 before_command run asked number hits l more (OfCommand n is) linked = none_leave l (points_before number (n ∷ [])) (cut_here number n [] (of_command number n.way hits (inl is)))
-before_command run asked number hits l more (OfEnd n m own behind is ends all) linked = none_leave l (points_before number (n ∷ m ∷ [])) (cut_here number n (m ∷ []) (of_command number n.way own (inl is)))
-before_command run asked number hits l more (BehindMark n points (inr marked) rest) linked = none_leave l (points_before number (n ∷ points)) (cut_here number n points (of_command number n.way marked.0 (inr marked.1)))
-before_command run asked number hits l more (BehindMark n points (inl way) rest) linked = is_before run asked number l n points way linked.0 (before_command run asked number hits (leg_after l n) points rest linked.1)
+before_command run asked number hits l more (OfEnd n m own after is ends all) linked = none_leave l (points_before number (n ∷ m ∷ [])) (cut_here number n (m ∷ []) (of_command number n.way own (inl is)))
+before_command run asked number hits l more (AfterMark n points (inr marked) rest) linked = none_leave l (points_before number (n ∷ points)) (cut_here number n points (of_command number n.way marked.0 (inr marked.1)))
+before_command run asked number hits l more (AfterMark n points (inl way) rest) linked = is_before run asked number l n points way linked.0 (before_command run asked number hits (leg_after l n) points rest linked.1)
 
 last_append : (p : Point) (points more : List PassedPoint) → last_point p (points ++ more) ≡ last_point (last_point p points) more
 last_append p [] more = refl
 last_append p (n ∷ points) more = last_append n.point points more
 
--- ---- what a reply tells of
+-- ---- what a reply speaks of
 
--- Points that were passed behind others answer a line with this number, from a leg of its stage on.
+-- Points that were passed after others answer a line with this number, from a leg of its stage on.
 pub record AreOfLine (run : ScriptRun) (s : Stage) (asked : LinesAsked) (first : Leg) (points more : List PassedPoint) (number : ℕ) (hits : List Timed) : Type 0 where
   pub before : AreLinked (ComesNext run asked) leg_after first points
   pub leg : IsLegOf run s (fold leg_after first points)
   pub none_marked : (fold leg_after first points).marked ≡ []
   pub answered : (fold leg_after first points).answered ≡ number
-  pub behind : AreLinked (ComesNext run asked) leg_after (fold leg_after first points) more
+  pub after : AreLinked (ComesNext run asked) leg_after (fold leg_after first points) more
   pub by : AreOfCommand number hits more
 
--- The reply tells of them, and they bring its changes.
+-- The reply speaks of them, and they bring its changes.
 module _ (run : ScriptRun) (s : Stage) (asked : LinesAsked) (first : Leg) (points more : List PassedPoint) (number : ℕ) (hits : List Timed) (are : AreOfLine run s asked first points more number hits) where
   abbrev l : Leg
   l = fold leg_after first points
@@ -195,7 +195,7 @@ module _ (run : ScriptRun) (s : Stage) (asked : LinesAsked) (first : Leg) (point
   cut = before_append number points more none_before
 
   there : LeavesRows l (points_before number more)
-  there = before_command run asked number hits l more are.by are.behind
+  there = before_command run asked number hits l more are.by are.after
 
   here : l.point ≡ last_point first.point points
   here = last_of_leg run asked first points are.none_marked are.before
@@ -212,7 +212,7 @@ module _ (run : ScriptRun) (s : Stage) (asked : LinesAsked) (first : Leg) (point
   }
 
   pub told_of_line : (lines : List Answered) (a : Answered) (plant : PlantState) (to : ℕ) → number ≡ length lines → a.changes ≡ l.changes → HasPassed run (asked_in (lines ++ a ∷ [])) first (points ++ more) plant to
-      → AreToldOf run s lines first (points ++ more) a plant to
+      → AreSaidOf run s lines first (points ++ more) a plant to
   told_of_line lines a plant to is changes passed =
       let brings = brings_of_line lines a is changes in
       record {

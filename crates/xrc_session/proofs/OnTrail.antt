@@ -37,7 +37,7 @@ rests_on_trail run lines stage trail s began now site rests =
     shown_on_trail run lines stage.next trail now rests.under_way.rowless rests.under_way.next rests.rest.marked
     (subst (λ (p : Point). AtNow (ShowsPoint run (shape_of now) p) now) (sym rests.under_way.at.here) rests.under_way.at.shows)
 
--- It does behind more points.
+-- It does after more points.
 pub passed_on_trail : (run : ScriptRun) (lines : List Answered) (asked : Option Line) (trail : Trail) (s : Stage) (more : List PassedPoint) (next : Option Point) (old new : PlantState) → (first_leg run lines trail).point.rows ≡ [] → AreNext run lines asked trail → (last_leg run lines trail).marked ≡ []
     → PassesPointsOn run s (asked_with lines asked) (last_leg run lines trail) more next old new → StandsOnTrail run lines asked (with_points more trail) next new
 passed_on_trail run lines asked trail s more next old new rowless linked none passes = record {

@@ -56,9 +56,9 @@ module _ {S : Type 0} (left : S → Option (List ℕ)) (faults : S → ℕ) (bef
   pub trace_read : (head : Header) (reader : ReaderState) → ReadsHeader (left before) (left now) head reader → faults now ≡ faults before → (t : Trace) × (trace_given s ≡ Ok t) × (t.header ≡ head)
   trace_read head reader reads same =
       let (rest, there, is, long) = reads.reads s.held told.held in
-      let behind = seen reader.left.place rest in (
-        after_header false s.held head (entries_from (length behind.bytes) head.version head.volumes 0 behind),
-        given_whole s (is_quiet left faults before now s told same) ∙ read_header s.held head behind is,
+      let after = seen reader.left.place rest in (
+        after_header false s.held head (entries_from (length after.bytes) head.version head.volumes 0 after),
+        given_whole s (is_quiet left faults before now s told same) ∙ read_header s.held head after is,
         refl,
       )
 

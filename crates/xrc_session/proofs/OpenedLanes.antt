@@ -31,7 +31,7 @@ use Rattle.xrc_session.proofs.OpenedLane.{stop_again, stop_passed, stop_refused,
 abbrev pub heads_in : {S : Type 0} → Lane S → List VolumeHead
 heads_in lane = heads_of_reader (reader_in lane)
 
--- A lane was opened behind these serials.
+-- A lane was opened after these serials.
 pub record IsOpened {S : Type 0} (left : S → Option (List ℕ)) (faults : S → ℕ) (control : ℕ) (named : List (List ℕ)) (before opened : Lane S) : Type 0 where
   pub head : Header
   pub side : SidefileState
@@ -71,7 +71,7 @@ serials_of [] = []
 serials_of (lane ∷ lanes) = serials_in_header (heads_in lane) ++ serials_of lanes
 
 module _ {S : Type 0} (left : S → Option (List ℕ)) (faults : S → ℕ) where
-  -- Each was opened behind the serials of those before it.
+  -- Each was opened after the serials of those before it.
   abbrev pub AllOpened : (control : ℕ) → (named : List (List ℕ)) → (before opened : List (Lane S)) → Type 0
   AllOpened k named [] [] = Unit {0}
   AllOpened k named [] (o ∷ opened) = ⊥
@@ -97,13 +97,13 @@ module _ {S : Type 0} (left : S → Option (List ℕ)) (faults : S → ℕ) wher
       (told.each 0 b s refl, told_all before now sources (omega arith) (record { many = (let many = told.many in omega arith); each = λ k d t at. told.each (suc k) d t at }))
 
   -- One more lane was opened.
-  pub opened_more : (k : ℕ) (named : List (List ℕ)) (before opened : List (Lane S)) (b o : Lane S) (j : ℕ) (behind : List (List ℕ)) → AllOpened k named before opened → j ≡ k + length before → behind ≡ named ++ serials_of opened → IsOpened left faults j behind b o
+  pub opened_more : (k : ℕ) (named : List (List ℕ)) (before opened : List (Lane S)) (b o : Lane S) (j : ℕ) (after : List (List ℕ)) → AllOpened k named before opened → j ≡ k + length before → after ≡ named ++ serials_of opened → IsOpened left faults j after b o
       → AllOpened k named (before ++ b ∷ []) (opened ++ o ∷ [])
-  opened_more k named [] [] b o j behind all at serials is = (subst (λ (n : ℕ). IsOpened left faults n named b o) (let e : j ≡ k = omega arith in e) (subst (λ (l : List (List ℕ)). IsOpened left faults j l b o) (serials ∙ append-nil named) is), tt)
-  opened_more k named [] (x ∷ opened) b o j behind all at serials is = absurd all
-  opened_more k named (y ∷ before) [] b o j behind all at serials is = absurd all
-  opened_more k named (y ∷ before) (x ∷ opened) b o j behind all at serials is =
-      (all.0, opened_more (k + 1) (named ++ serials_in_header (heads_in x)) before opened b o j behind all.1 (omega arith) (serials ∙ sym (append_assoc named (serials_in_header (heads_in x)) (serials_of opened))) is)
+  opened_more k named [] [] b o j after all at serials is = (subst (λ (n : ℕ). IsOpened left faults n named b o) (let e : j ≡ k = omega arith in e) (subst (λ (l : List (List ℕ)). IsOpened left faults j l b o) (serials ∙ append-nil named) is), tt)
+  opened_more k named [] (x ∷ opened) b o j after all at serials is = absurd all
+  opened_more k named (y ∷ before) [] b o j after all at serials is = absurd all
+  opened_more k named (y ∷ before) (x ∷ opened) b o j after all at serials is =
+      (all.0, opened_more (k + 1) (named ++ serials_in_header (heads_in x)) before opened b o j after all.1 (omega arith) (serials ∙ sym (append_assoc named (serials_in_header (heads_in x)) (serials_of opened))) is)
 
   -- ---- the headers that sources gave
 
@@ -136,25 +136,25 @@ module _ {S : Type 0} (left : S → Option (List ℕ)) (faults : S → ℕ) wher
       )
 
   -- Headers that stop no call are passed.
-  pub stop_behind : (k : ℕ) (named : List (List ℕ)) (opened : List (Lane S)) (sources rest : List SourceBytes) (j : ℕ) → j ≡ k + length opened → GiveHeads named opened sources
+  pub stop_after : (k : ℕ) (named : List (List ℕ)) (opened : List (Lane S)) (sources rest : List SourceBytes) (j : ℕ) → j ≡ k + length opened → GiveHeads named opened sources
       → stop_of_headers k named (sources ++ rest) ≡ stop_of_headers j (named ++ serials_of opened) rest
-  stop_behind k named [] [] rest j at give = ap (λ (n : ℕ). stop_of_headers n named rest) (let e : k ≡ j = omega arith in e) ∙ ap (λ (l : List (List ℕ)). stop_of_headers j l rest) (sym (append-nil named))
-  stop_behind k named [] (s ∷ sources) rest j at give = absurd give
-  stop_behind k named (o ∷ opened) [] rest j at give = absurd give
-  stop_behind k named (o ∷ opened) (s ∷ sources) rest j at give =
+  stop_after k named [] [] rest j at give = ap (λ (n : ℕ). stop_of_headers n named rest) (let e : k ≡ j = omega arith in e) ∙ ap (λ (l : List (List ℕ)). stop_of_headers j l rest) (sym (append-nil named))
+  stop_after k named [] (s ∷ sources) rest j at give = absurd give
+  stop_after k named (o ∷ opened) [] rest j at give = absurd give
+  stop_after k named (o ∷ opened) (s ∷ sources) rest j at give =
       let its = give.0 in
       stop_passed k named s (sources ++ rest) its.trace its.given its.apart
       ∙ ap (λ (l : List VolumeHead). stop_of_headers (k + 1) (named ++ serials_in_header l) (sources ++ rest)) its.volumes
-      ∙ stop_behind (k + 1) (named ++ serials_in_header (heads_in o)) opened sources rest j (omega arith) give.1
+      ∙ stop_after (k + 1) (named ++ serials_in_header (heads_in o)) opened sources rest j (omega arith) give.1
       ∙ ap (λ (l : List (List ℕ)). stop_of_headers j l rest) (append_assoc named (serials_in_header (heads_in o)) (serials_of opened))
 
   -- None of all stops.
   pub none_stops : (opened : List (Lane S)) (sources : List SourceBytes) → GiveHeads [] opened sources → stop_of_headers 0 [] sources ≡ None
-  none_stops opened sources give = ap (stop_of_headers 0 []) (sym (append-nil sources)) ∙ stop_behind 0 [] opened sources [] (length opened) (omega arith) give
+  none_stops opened sources give = ap (stop_of_headers 0 []) (sym (append-nil sources)) ∙ stop_after 0 [] opened sources [] (length opened) (omega arith) give
 
   -- ---- a stop at one of the lanes
 
-  -- The sources up to one of the lanes, and those behind it.
+  -- The sources up to one of the lanes, and those after it.
   record Splits (before opened : List (Lane S)) (b o : Lane S) (sources : List SourceBytes) : Type 0 where
     first : List SourceBytes
     source : SourceBytes
@@ -163,14 +163,14 @@ module _ {S : Type 0} (left : S → Option (List ℕ)) (faults : S → ℕ) wher
     told : ToldAll before opened first
     here : SourceTold left faults b.source o.source source
 
-  split : (before opened : List (Lane S)) (b o : Lane S) (later behind : List (Lane S)) (sources : List SourceBytes) → length opened ≡ length before → ToldAll (before ++ b ∷ later) (opened ++ o ∷ behind) sources → Splits before opened b o sources
-  split [] [] b o later behind [] same told = absurd told
-  split [] [] b o later behind (s ∷ sources) same told = record { first = []; source = s; others = sources; are = refl; told = tt; here = told.0 }
-  split [] (x ∷ opened) b o later behind sources same told = absurd (omega arith)
-  split (y ∷ before) [] b o later behind sources same told = absurd (omega arith)
-  split (y ∷ before) (x ∷ opened) b o later behind [] same told = absurd told
-  split (y ∷ before) (x ∷ opened) b o later behind (s ∷ sources) same told =
-      let rest = split before opened b o later behind sources (omega arith) told.1 in
+  split : (before opened : List (Lane S)) (b o : Lane S) (later after : List (Lane S)) (sources : List SourceBytes) → length opened ≡ length before → ToldAll (before ++ b ∷ later) (opened ++ o ∷ after) sources → Splits before opened b o sources
+  split [] [] b o later after [] same told = absurd told
+  split [] [] b o later after (s ∷ sources) same told = record { first = []; source = s; others = sources; are = refl; told = tt; here = told.0 }
+  split [] (x ∷ opened) b o later after sources same told = absurd (omega arith)
+  split (y ∷ before) [] b o later after sources same told = absurd (omega arith)
+  split (y ∷ before) (x ∷ opened) b o later after [] same told = absurd told
+  split (y ∷ before) (x ∷ opened) b o later after (s ∷ sources) same told =
+      let rest = split before opened b o later after sources (omega arith) told.1 in
       record { first = s ∷ rest.first; source = rest.source; others = rest.others; are = ap (λ (l : List SourceBytes). s ∷ l) rest.are; told = (told.0, rest.told); here = rest.here }
 
 -- The stop by one header is that by it and more.
@@ -190,14 +190,14 @@ module _ {S T : Type 0} (left : S → Option (List ℕ)) (faults : S → ℕ) (b
   pub all_pass : (x : T) → (let result : Result T Stop = Ok x in StopsByHeaders left faults 0 [] before opened result)
   all_pass x = stops_never left faults 0 [] before opened x (λ sources told. none_stops left faults opened sources (give_now left faults 0 [] before opened sources all (told_all left faults before opened sources same told)))
 
-  -- One behind them stops the call.
-  module _ (b o : Lane S) (later behind : List (Lane S)) (as_many : length behind ≡ length later) (its result : Result T Stop) (e : Stop) (was : its ≡ Err e) (is : result ≡ Err e)
+  -- One after them stops the call.
+  module _ (b o : Lane S) (later after : List (Lane S)) (as_many : length after ≡ length later) (its result : Result T Stop) (e : Stop) (was : its ≡ Err e) (is : result ≡ Err e)
       (by_lane : StopsByHeaders left faults (length opened) (serials_of opened) (b ∷ []) (o ∷ []) its) where
-    due_there : (sources : List SourceBytes) → AllTold left faults (before ++ b ∷ later) (opened ++ o ∷ behind) sources → (e ≡ NoMemory) ⊎ (stop_of_headers 0 [] sources ≡ Some e)
+    due_there : (sources : List SourceBytes) → AllTold left faults (before ++ b ∷ later) (opened ++ o ∷ after) sources → (e ≡ NoMemory) ⊎ (stop_of_headers 0 [] sources ≡ Some e)
     due_there sources told =
-        let many : length (opened ++ o ∷ behind) ≡ length (before ++ b ∷ later) = length-append opened (o ∷ behind) ∙ omega arith ∙ sym (length-append before (b ∷ later)) in
-        let parts = split left faults before opened b o later behind sources same (told_all left faults (before ++ b ∷ later) (opened ++ o ∷ behind) sources many told) in
-        let front = ap (stop_of_headers 0 []) parts.are ∙ stop_behind left faults 0 [] opened parts.first (parts.source ∷ parts.others) (length opened) (omega arith) (give_now left faults 0 [] before opened parts.first all parts.told) in
+        let many : length (opened ++ o ∷ after) ≡ length (before ++ b ∷ later) = length-append opened (o ∷ after) ∙ omega arith ∙ sym (length-append before (b ∷ later)) in
+        let parts = split left faults before opened b o later after sources same (told_all left faults (before ++ b ∷ later) (opened ++ o ∷ after) sources many told) in
+        let front = ap (stop_of_headers 0 []) parts.are ∙ stop_after left faults 0 [] opened parts.first (parts.source ∷ parts.others) (length opened) (omega arith) (give_now left faults 0 [] before opened parts.first all parts.told) in
         elim (by_lane.stops (parts.source ∷ []) e (record { many = refl; each = one parts.source parts.here }) was) [
           | inl memory ↦ inl memory
           | inr due ↦ inr (front ∙ stop_stays (length opened) (serials_of opened) parts.source parts.others e due)
@@ -207,7 +207,7 @@ module _ {S T : Type 0} (left : S → Option (List ℕ)) (faults : S → ℕ) (b
         one s here zero d t at = subst (SourceTold left faults b.source o.source) (let e : s ≡ t = cc at in e) here
         one s here (suc k) d t at = absurd (cc at)
 
-    pub one_stops : StopsByHeaders left faults 0 [] (before ++ b ∷ later) (opened ++ o ∷ behind) result
+    pub one_stops : StopsByHeaders left faults 0 [] (before ++ b ∷ later) (opened ++ o ∷ after) result
     one_stops = record {
       due = λ sources stop told due. elim (due_there sources told) [ inl memory ↦ inr (is ∙ ap (λ (x : Stop). Err x) memory) | inr exact ↦ inl (cc (is, exact, due)) ];
       stops = λ sources stop told stopped. let same : e ≡ stop = cc (is, stopped) in elim (due_there sources told) [ inl memory ↦ inl (sym same ∙ memory) | inr exact ↦ inr (exact ∙ ap (λ (x : Stop). Some x) same) ];
@@ -294,8 +294,8 @@ module _ {S : Type 0} (left : S → Option (List ℕ)) (faults : S → ℕ) (ini
     pub stops_here : {T : Type 0} (its result : Result T Stop) (e : Stop) → its ≡ Err e → result ≡ Err e → StopsByHeaders left faults k named (b ∷ []) (o ∷ []) its → StopsByHeaders left faults 0 [] initial (set now k o) result
     stops_here its result e was_err is by_lane =
         let at_length = subst (λ (n : ℕ). StopsByHeaders left faults n named (b ∷ []) (o ∷ []) its) (sym long_now) by_lane in
-        let behind = subst (λ (l : List (List ℕ)). StopsByHeaders left faults (length (take k now)) l (b ∷ []) (o ∷ []) its) so_far.named_are at_length in
-        let all = one_stops left faults (take k initial) (take k now) so_far.opened (long_now ∙ sym long) b o (drop (k + 1) initial) (drop (k + 1) initial) refl its result e was_err is behind in
+        let after = subst (λ (l : List (List ℕ)). StopsByHeaders left faults (length (take k now)) l (b ∷ []) (o ∷ []) its) so_far.named_are at_length in
+        let all = one_stops left faults (take k initial) (take k now) so_far.opened (long_now ∙ sym long) b o (drop (k + 1) initial) (drop (k + 1) initial) refl its result e was_err is after in
         let initial_is = seam d ∙ ap (λ (l : Lane S). take k initial ++ l ∷ drop (k + 1) initial) (sym was) in
         subst (λ (l : List (Lane S)). StopsByHeaders left faults 0 [] initial l result) (sym (set_seam o)) (subst (λ (l : List (Lane S)). StopsByHeaders left faults 0 [] l (take k now ++ o ∷ drop (k + 1) initial) result) (sym initial_is) all)
 
@@ -307,14 +307,14 @@ unread_at lanes unread k d inside = All-get_or (λ lane. reader_in lane ≡ None
 
 -- Each of the lanes.
 pub opened_at : {S : Type 0} (left : S → Option (List ℕ)) (faults : S → ℕ) (k : ℕ) (named : List (List ℕ)) (before opened : List (Lane S)) → AllOpened left faults k named before opened → (j : ℕ) (d : Lane S) → j < length opened
-    → (behind : List (List ℕ)) × IsOpened left faults (k + j) behind (get_or before j d) (get_or opened j d)
+    → (after : List (List ℕ)) × IsOpened left faults (k + j) after (get_or before j d) (get_or opened j d)
 opened_at left faults k named [] [] all j d inside = absurd (omega arith)
 opened_at left faults k named [] (o ∷ opened) all j d inside = absurd all
 opened_at left faults k named (b ∷ before) [] all j d inside = absurd all
 opened_at left faults k named (b ∷ before) (o ∷ opened) all zero d inside = (named, subst (λ (n : ℕ). IsOpened left faults n named b o) (let e : k ≡ k + 0 = omega arith in e) all.0)
 opened_at left faults k named (b ∷ before) (o ∷ opened) all (suc j) d inside =
-    let (behind, is) = opened_at left faults (k + 1) (named ++ serials_in_header (heads_in o)) before opened all.1 j d (omega arith) in
-    (behind, subst (λ (n : ℕ). IsOpened left faults n behind (get_or before j d) (get_or opened j d)) (let e : k + 1 + j ≡ k + suc j = omega arith in e) is)
+    let (after, is) = opened_at left faults (k + 1) (named ++ serials_in_header (heads_in o)) before opened all.1 j d (omega arith) in
+    (after, subst (λ (n : ℕ). IsOpened left faults n after (get_or before j d) (get_or opened j d)) (let e : k + 1 + j ≡ k + suc j = omega arith in e) is)
 
 module _ {S : Type 0} (left : S → Option (List ℕ)) (faults : S → ℕ) (initial now : List (Lane S)) (k : ℕ) (named : List (List ℕ)) (before names : Naming) (so_far : HasOpened left faults initial now k named before names) (all : length now ≤ k) where
   pub all_opened : AllOpened left faults 0 [] initial now
@@ -327,18 +327,18 @@ module _ {S : Type 0} (left : S → Option (List ℕ)) (faults : S → ℕ) (ini
 
   pub have_volumes : HaveVolumes now
   have_volumes = λ j d inside.
-      let (behind, o) = opened_at left faults 0 [] initial now all_opened j d inside in
-      subst (λ (l : List VolumeHead). 1 ≤ length l) (sym (heads_read left faults (0 + j) behind (get_or initial j d) (get_or now j d) o)) (volumes_of_header o.head o.reads.kept).some
+      let (after, o) = opened_at left faults 0 [] initial now all_opened j d inside in
+      subst (λ (l : List VolumeHead). 1 ≤ length l) (sym (heads_read left faults (0 + j) after (get_or initial j d) (get_or now j d) o)) (volumes_of_header o.head o.reads.kept).some
 
   pub are_opened : AreLanesOpened left faults initial now
   are_opened = record { many = so_far.many; each = each; quiet = quiet }
     where
-      its : (j : ℕ) (d : Lane S) → j < length now → (behind : List (List ℕ)) × IsOpened left faults (0 + j) behind (get_or initial j d) (get_or now j d)
+      its : (j : ℕ) (d : Lane S) → j < length now → (after : List (List ℕ)) × IsOpened left faults (0 + j) after (get_or initial j d) (get_or now j d)
       its j d inside = opened_at left faults 0 [] initial now all_opened j d inside
 
       each : (j : ℕ) (d : Lane S) → j < length now → IsSomeAnd (reader_in (get_or now j d)) (λ r. (r.feed.side.control ≡ j) × (r.feed.halted ≡ None) × (r.feed.side.upto ≡ 0) × (r.feed.primary.time ≡ 0))
       each j d inside =
-          let (behind, o) = its j d inside in
+          let (after, o) = its j d inside in
           subst (λ (r : Option LaneReaderState). IsSomeAnd r (λ r. (r.feed.side.control ≡ j) × (r.feed.halted ≡ None) × (r.feed.side.upto ≡ 0) × (r.feed.primary.time ≡ 0))) (sym o.reader)
           (o.of_control ∙ (let e : 0 + j ≡ j = omega arith in e), o.halted, o.fresh.upto, o.fresh.time)
 

@@ -26,8 +26,8 @@ use Rattle.pair_table.specs.Commands.{has_named_primary, is_volume_of}
 use Rattle.pair_table.specs.Naming.{Naming, has_volumes, is_broken, none_alike, with_broken}
 use Rattle.pair_table.specs.Tables.{Table, are_below, in_state, most_rows}
 use Rattle.group_state.specs.declared.phase.Phase.{Phase}
-use Rattle.group_state.specs.declared.phase.Phase.TheVariants.{Telling, Broken, Reported}
-use Rattle.group_state.specs.Controls.{ControlState, counts, is_telling, new_control}
+use Rattle.group_state.specs.declared.phase.Phase.TheVariants.{Unbroken, Broken, Reported}
+use Rattle.group_state.specs.Controls.{ControlState, counts, is_reporting, new_control}
 use Rattle.group_state.specs.Groups.{Group, control_at, new_group}
 use Rattle.group_state.proofs.GroupLaws.{length_new}
 use Rattle.group_state.proofs.Stands.{new_at}
@@ -147,7 +147,7 @@ volumes_stay old new same have k d low =
     let here = know_same old new same k d before in
     subst (λ (heads : List VolumeHead). 1 ≤ length heads) (sym here) (have k d before)
 
--- ---- controls that are named as broken
+-- ---- controllers that are named as broken
 
 -- whether a lane's reader has broken
 abbrev pub has_lane_broken : {S : Type 0} → Lane S → Bool
@@ -233,12 +233,12 @@ broken_is_named lanes before k d have named low broken =
     ap (is_broken k) (lanes_as_flags 0 lanes before)
     ∙ subst (λ (n : ℕ). is_broken n (with_flags 0 (map has_lane_broken lanes) before) ≡ true) zero_is (flagged_is_broken 0 k (map has_lane_broken lanes) false before many (flag_at k lanes d low ∙ broken) has)
 
-telling_counts : (p : Phase) → is_telling p ≡ true → counts p ≡ true
-telling_counts Telling is = refl
-telling_counts (Broken cause) is = absurd (true≢false (sym is))
-telling_counts Reported is = absurd (true≢false (sym is))
+reporting_counts : (p : Phase) → is_reporting p ≡ true → counts p ≡ true
+reporting_counts Unbroken is = refl
+reporting_counts (Broken cause) is = absurd (true≢false (sym is))
+reporting_counts Reported is = absurd (true≢false (sym is))
 
--- The controls that aren't named as broken count.
+-- The controllers that aren't named as broken count.
 pub controls_count : {S : Type 0} (group : Group) (time : ℕ) (lanes : List (Lane S)) (before names : Naming) → AreLanesOf group time lanes → HaveVolumes lanes → before.primaries ≡ primaries_in 0 lanes → none_alike before.primaries ≡ true
     → names ≡ with_lanes_broken 0 lanes before → ControlsCount names group
 controls_count {S} group time lanes before names of have named apart is = record {
@@ -263,7 +263,7 @@ controls_count {S} group time lanes before names of have named apart is = record
     counted k there unbroken d (Some r) at h = by_halt r.feed.halted refl
       where
         by_halt : (halt : Option Halt) → r.feed.halted ≡ halt → counts (control_at group k).phase ≡ true
-        by_halt None on = telling_counts (control_at group k).phase (h.telling on)
+        by_halt None on = reporting_counts (control_at group k).phase (h.reporting on)
         by_halt (Some halts.NoMemory) on = absurd (h.goes on)
         by_halt (Some (halts.Broken cause upto)) on =
             let broken : has_lane_broken (slice_index_or lanes k d) ≡ true = ap (λ (o : Option LaneReaderState). is_some (broken_by o)) at ∙ ap (λ (halt : Option Halt). is_some (broken_in halt)) on in
@@ -291,8 +291,8 @@ unbroken_at_start s lanes traces unstarted many = record {
     unbroken k low None h = absurd h
     unbroken k low (Some r) h = by_halt r.feed.halted refl
       where
-        tells : is_telling (control_at new k).phase ≡ true
-        tells = ap (λ (c : ControlState). is_telling c.phase) (new_at s.controls 0 WRITES_OF_RUN BLOCKS_OF_QUEUE k (new_control 0 0 0) (let count = length_new s.controls 0 WRITES_OF_RUN BLOCKS_OF_QUEUE in omega (arith, low, count)))
+        tells : is_reporting (control_at new k).phase ≡ true
+        tells = ap (λ (c : ControlState). is_reporting c.phase) (new_at s.controls 0 WRITES_OF_RUN BLOCKS_OF_QUEUE k (new_control 0 0 0) (let count = length_new s.controls 0 WRITES_OF_RUN BLOCKS_OF_QUEUE in omega (arith, low, count)))
 
         by_halt : (halt : Option Halt) → r.feed.halted ≡ halt → broken_in halt ≡ None
         by_halt None on = refl
@@ -319,7 +319,7 @@ labels_fit old new (l ∷ labels) site fit =
     let same : label_has_volume new l ≡ label_has_volume old l = λ i. nat_lt l.device (site.volumes i) && nat_le (512 + l.cylinders * 860160) (site.lengths (Volume l.device) i) in
     and_from (label_has_volume new l) (list_all (label_has_volume new) labels) (same ∙ parts.0) (labels_fit old new labels site parts.1)
 
--- Any command may come to a site that was brought to a time, with the controls named that have broken by then.
+-- Any command may come to a site that was brought to a time, with the controllers named that have broken by then.
 pub commands_again : {S : Type 0} (tells : Type 0) (time : ℕ) (lanes : List (Lane S)) (names : Naming) (site next : SiteState) (group : Group) (old new : PlantState) → MayCommandSite tells names old site → IsSiteBrought time site next
     → IsReadyForEpoch tells lanes next new group → SameSite old new → MayCommandSite tells (with_lanes_broken 0 lanes names) new next
 commands_again tells time lanes names site next group old new may brought ready plant = record {

@@ -15,10 +15,10 @@ use Rattle.pair_table.specs.States.{is_device_suspended}
 use Rattle.record_rows.specs.Deeds.{Deed, entries_by_deed, rows_by_deed}
 use Rattle.record_rows.specs.Deeds.Deed.{Logged, Changed, Marked}
 use Rattle.site_means.specs.Sight.{content_of}
-use Rattle.site_store.specs.Deeds.{content_behind, content_by_deed, kinds_of}
+use Rattle.site_store.specs.Deeds.{content_after, content_by_deed, kinds_of}
 use Rattle.site_store.specs.DoneDeeds.{DoesDeeds}
-use Rattle.site_store.specs.Exceptions.{Exceptions, excepted_behind, excepted_by_deed, is_kept, is_whole_on}
-use Rattle.site_store.specs.Seeing.{SeesBehind}
+use Rattle.site_store.specs.Exceptions.{Exceptions, excepted_after, excepted_by_deed, is_kept, is_whole_on}
+use Rattle.site_store.specs.Seeing.{SeesAfter}
 use Rattle.site_store.proofs.Seeing.{same_content}
 use Rattle.fed_logs.specs.ToldTracks.{AllHold, after_entries, has_no_later_copy, is_queued_up_to, is_settled_in}
 use Rattle.fed_logs.specs.Feeds.{truth_of}
@@ -31,14 +31,14 @@ use Rattle.mover.proofs.Excepting.{excepted_before, none_excepted, unfailed_is_k
 use Rattle.mover.proofs.Held.{held_is}
 use Rattle.mover.proofs.Pairs.{among_of}
 use Rattle.xrc_session.specs.EpochPauses.{Between, StandsBetween}
-use Rattle.xrc_session.specs.CarriedLaws.{IsWithoutEntries, RecordedRowsStand, RowsStandBehindDeeds}
+use Rattle.xrc_session.specs.CarriedLaws.{IsWithoutEntries, RecordedRowsStand, RowsStandAfterDeeds}
 
 content_still : (d x : ℕ) (rows : List PairRow) (deed : Deed) → entries_by_deed deed ≡ [] → (t : Option (List Rec)) → content_by_deed d x rows deed t ≡ t
 content_still d x rows (Logged cut entries next) none t = ap (λ (es : List WaitingEntry). changed_through rows d x es (kinds_of es) t) none
 content_still d x rows (Changed time next) none t = refl
 content_still d x rows (Marked spot ended next) none t = refl
 
-contents_still : (d x : ℕ) (rows : List PairRow) (deeds : List Deed) → All IsWithoutEntries deeds → (t : Option (List Rec)) → content_behind d x rows deeds t ≡ t
+contents_still : (d x : ℕ) (rows : List PairRow) (deeds : List Deed) → All IsWithoutEntries deeds → (t : Option (List Rec)) → content_after d x rows deeds t ≡ t
 contents_still d x rows [] none t = refl
 contents_still d x rows (deed ∷ deeds) none t =
     contents_still d x (rows_by_deed deed) deeds (All-tail IsWithoutEntries deed deeds none) (content_by_deed d x rows deed t) ∙ content_still d x rows deed (All-head IsWithoutEntries deed deeds none) t
@@ -51,12 +51,12 @@ owed_by_one old b before deed st brings j v has kept x low e =
     st.rows.owed j v has kept x low (excepted_before (is_kept d (rows_by_deed deed)) (b.excepted d x) (list_any (is_whole_on before d x) (entries_by_deed deed)) stays e).0
 
 module _ (old new : PlantState) (b : Between) (before : List PairRow) (deeds : List Deed) (st : StandsBetween old b) (does : DoesDeeds b.excepted before deeds old new) (none : All IsWithoutEntries deeds)
-    (owed : ExceptedAreOwed b.size (excepted_behind before deeds b.excepted) b.group b.point.rows) where
+    (owed : ExceptedAreOwed b.size (excepted_after before deeds b.excepted) b.group b.point.rows) where
   abbrev rows : List PairRow
   rows = b.point.rows
 
   abbrev excepted : Exceptions
-  excepted = excepted_behind before deeds b.excepted
+  excepted = excepted_after before deeds b.excepted
 
   -- Each track that is excepted is owed, of whatever row.
   each_owed : (j v : ℕ) (has : HasRowIn IsAny j v rows) → is_volume_kept v (control_at b.group j) ≡ true → (x : ℕ) → x < b.size j v → excepted has.row.device x ≡ true → is_owed v x (control_at b.group j) ≡ true
@@ -66,7 +66,7 @@ module _ (old new : PlantState) (b : Between) (before : List PairRow) (deeds : L
       choose false is = owed j v (record { row = has.row; among = has.among; control = has.control; volume = has.volume; state = is }) kept x low e
       choose true is = st.rows.failed j v (record { row = has.row; among = has.among; control = has.control; volume = has.volume; state = is }) kept x low
 
-  module _ (c : Choice) (sees : SeesBehind old b.excepted before deeds c) where
+  module _ (c : Choice) (sees : SeesAfter old b.excepted before deeds c) where
     -- What the choice holds of a track that isn't excepted is what some choice held before.
     held_so : (j v : ℕ) (has : HasRowIn IsAny j v rows) (x : ℕ) → excepted has.row.device x ≡ false → (a : Choice) × IsChoice old old.clock a × (held_by_choice new c rows j v x ≡ held_by_choice old a rows j v x)
     held_so j v has x free =
@@ -143,5 +143,5 @@ pub recorded_rows_stand : (old new : PlantState) → RecordedRowsStand old new
 recorded_rows_stand old new b before deed st does none brings some =
     stands_recorded old new b before (deed ∷ []) st does (All-cons IsWithoutEntries deed [] none (λ i d low. absurd (omega (arith, low)))) (owed_by_one old b before deed st brings) some
 
-pub rows_stand_behind_deeds : (old new : PlantState) → RowsStandBehindDeeds old new
-rows_stand_behind_deeds old new b before deeds st does none owed some = stands_recorded old new b before deeds st does none owed some
+pub rows_stand_after_deeds : (old new : PlantState) → RowsStandAfterDeeds old new
+rows_stand_after_deeds old new b before deeds st does none owed some = stands_recorded old new b before deeds st does none owed some

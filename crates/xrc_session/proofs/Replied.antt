@@ -18,7 +18,7 @@ use Rattle.pair_table.specs.Commands.{accepted}
 use Rattle.pair_table.specs.Refusals.{refusal}
 use Rattle.pair_table.specs.Tables.{Table}
 use Rattle.row_changes.specs.Changes.{Timed}
-use Rattle.xquery_report.specs.Replies.{answer_part, command_part, reply_line, told_part}
+use Rattle.xquery_report.specs.Replies.{answer_part, command_part, reply_line, said_part}
 use Rattle.xquery_report.specs.Reports.{report_text}
 use Rattle.tod_stamp.specs.Stamps.{stamp_text}
 use Rattle.site_store.specs.Sites.{SiteState}
@@ -26,7 +26,7 @@ use Rattle.consistency.specs.Answering.{ReplyContent}
 use Rattle.consistency.specs.Stages.{ScriptRun, Stage, accepts, breaks_of, names_of}
 use Rattle.consistency.specs.Courses.{Answered, replied_after}
 use Rattle.consistency.specs.Leads.{Point}
-use Rattle.consistency.specs.Replying.{is_query, is_reported, own_line, report_before, told_tracks}
+use Rattle.consistency.specs.Replying.{is_query, is_reported, own_line, report_before, said_tracks}
 use Rattle.consistency.specs.Steps.{commanded, names_at, table_after_line, table_on_the_way}
 use Rattle.consistency.proofs.Answering.{content_as_accepted}
 use Rattle.consistency.proofs.Keeping.{stage_answered}
@@ -36,10 +36,10 @@ use Rattle.mover.specs.Epochs.{LanesBrokeAs, break_below}
 use Rattle.mover.specs.Lanes.{broken_by, reader_in}
 use Rattle.xrc_command.specs.declared.line.Line.{Line}
 use Rattle.xrc_session.specs.declared.answering.LineAnswer.{LineAnswer}
-use Rattle.xrc_session.specs.LinePauses.{HasNotBegun, RestsAtSite, StandsBehindLines, stage_behind}
-use Rattle.xrc_session.specs.Replying.{cause_in, causes_in, reply_composed, report_in, reported_site, time_told}
+use Rattle.xrc_session.specs.LinePauses.{HasNotBegun, RestsAtSite, StandsAfterLines, stage_after_text}
+use Rattle.xrc_session.specs.Replying.{cause_in, causes_in, reply_composed, report_in, reported_site, time_said}
 use Rattle.xrc_session.specs.States.{SessionState, site_time}
-use Rattle.xrc_session.specs.Steps.{IsExactBehind, IsToReply, content_behind_lines, line_answered}
+use Rattle.xrc_session.specs.Steps.{IsExactAfter, IsToReply, content_after_lines, line_answered}
 use Rattle.xrc_session.specs.Trails.{Trail, first_leg}
 use Rattle.xrc_session.proofs.Exactly.{part_told}
 
@@ -119,7 +119,7 @@ pub record IsAsTold (s : SessionState) : Type 0 where
 module _ {S : Type 0} (run : ScriptRun) (lines : List Answered) (trail : Trail) (text : List ℕ) (line : Line) (answer : LineAnswer) (s : SessionState) (lanes : List (Lane S)) (began now : PlantState) (to : IsToReply run lines trail text line answer s lanes began now) (as_told : IsAsTold s)
     (many : length run.traces ≡ length lanes) (reply : List ℕ) where
   abbrev stage : Stage
-  stage = stage_behind run lines text began
+  stage = stage_after_text run lines text began
 
   abbrev a : Answered
   a = line_answered run lines text line to.changes to.hits began reply
@@ -128,9 +128,9 @@ module _ {S : Type 0} (run : ScriptRun) (lines : List Answered) (trail : Trail) 
   table = table_on_the_way run.level to.changes stage.table
 
   abbrev content : ReplyContent
-  content = content_behind_lines run lines trail text began a
+  content = content_after_lines run lines trail text began a
 
-  stands : StandsBehindLines run (lines ++ a ∷ []) (stage_behind run (lines ++ a ∷ []) [] began) trail s began now
+  stands : StandsAfterLines run (lines ++ a ∷ []) (stage_after_text run (lines ++ a ∷ []) [] began) trail s began now
   stands = to.stands reply
 
   -- The line's table is the session's.
@@ -143,8 +143,8 @@ module _ {S : Type 0} (run : ScriptRun) (lines : List Answered) (trail : Trail) 
   -- ---- a session that has started
 
   module _ (site : SiteState) (is : s.site ≡ Some site) where
-    rests : RestsAtSite run (lines ++ a ∷ []) (stage_behind run (lines ++ a ∷ []) [] began) trail s began now site
-    rests = subst (λ (o : Option SiteState). MatchOption o (HasNotBegun trail began now) (RestsAtSite run (lines ++ a ∷ []) (stage_behind run (lines ++ a ∷ []) [] began) trail s began now)) is stands.place
+    rests : RestsAtSite run (lines ++ a ∷ []) (stage_after_text run (lines ++ a ∷ []) [] began) trail s began now site
+    rests = subst (λ (o : Option SiteState). MatchOption o (HasNotBegun trail began now) (RestsAtSite run (lines ++ a ∷ []) (stage_after_text run (lines ++ a ∷ []) [] began) trail s began now)) is stands.place
 
     facts : (site.table ≡ s.table) × (s.table.is_started ≡ true)
     facts = subst (λ (o : Option SiteState). IfSome o (λ x. (x.table ≡ s.table) × (s.table.is_started ≡ true))) is as_told.started
@@ -157,12 +157,12 @@ module _ {S : Type 0} (run : ScriptRun) (lines : List Answered) (trail : Trail) 
     level_is : run.level ≡ site.level
     level_is = subst (λ (o : Option SiteState). IfSome o (λ x. run.level ≡ x.level)) is stands.its.level
 
-    told_is : option_map stamp content.time ≡ time_told s.site
+    told_is : option_map stamp content.time ≡ time_said s.site
     told_is =
         ap (λ (b : Bool). option_map stamp (if b then Some (replied_after stage line) else None)) (ap (λ (x : Table). x.is_started) table_is ∙ facts.1)
-        ∙ ap (λ (n : ℕ). Some (stamp n)) (sym time_is) ∙ ap time_told (sym is)
+        ∙ ap (λ (n : ℕ). Some (stamp n)) (sym time_is) ∙ ap time_said (sym is)
 
-    -- Behind a line that is answered with a report the table is the one that the line finds.
+    -- After a line that is answered with a report the table is the one that the line finds.
     reported_table : is_reported run table line ≡ true → (site.table ≡ table) × (site.time ≡ line.time.0)
     reported_table reported =
         let parts = and_parts (is_query line.command) (accepts run table line) reported in
@@ -204,8 +204,8 @@ module _ {S : Type 0} (run : ScriptRun) (lines : List Answered) (trail : Trail) 
     unstarted : a.table.is_started ≡ false
     unstarted = ap (λ (x : Table). x.is_started) table_is ∙ as_told.unstarted is
 
-    told_none : option_map stamp content.time ≡ time_told s.site
-    told_none = ap (λ (b : Bool). option_map stamp (if b then Some (replied_after stage line) else None)) unstarted ∙ ap time_told (sym is)
+    told_none : option_map stamp content.time ≡ time_said s.site
+    told_none = ap (λ (b : Bool). option_map stamp (if b then Some (replied_after stage line) else None)) unstarted ∙ ap time_said (sym is)
 
     not_reported : (b : Bool) → is_reported run table line ≡ b → b ≡ false
     not_reported false reported = refl
@@ -225,10 +225,10 @@ module _ {S : Type 0} (run : ScriptRun) (lines : List Answered) (trail : Trail) 
 
   -- ---- both
 
-  pub told_alike : option_map stamp content.time ≡ time_told s.site
+  pub told_alike : option_map stamp content.time ≡ time_said s.site
   told_alike = by_site s.site refl
     where
-      by_site : (o : Option SiteState) → s.site ≡ o → option_map stamp content.time ≡ time_told s.site
+      by_site : (o : Option SiteState) → s.site ≡ o → option_map stamp content.time ≡ time_said s.site
       by_site None is = told_none is
       by_site (Some site) is = told_is site is
 
@@ -239,14 +239,14 @@ module _ {S : Type 0} (run : ScriptRun) (lines : List Answered) (trail : Trail) 
       by_site None is = report_none is
       by_site (Some site) is = report_is site is
 
-  own_is : own_line line content ≡ reply_line line.time.0 line.command answer.answer answer.tracks (time_told s.site)
+  own_is : own_line line content ≡ reply_line line.time.0 line.command answer.answer answer.tracks (time_said s.site)
   own_is =
       let tells = to.tells reply in
-      ap (λ (p : List ℕ). stamp_text line.time.0 ++ command_part line.command ++ p ++ told_part (option_map stamp content.time) ++ 10 ∷ [])
-      (part_told line.command content.answer content.tracks answer.tracks (tells.tracks ∙ ap (λ (r : Result Change Refusal). told_tracks line.command r answer.tracks) (sym tells.is)) ∙ ap (λ (r : Result Change Refusal). answer_part line.command r answer.tracks) tells.is)
-      ∙ ap (λ (o : Option Stamp). stamp_text line.time.0 ++ command_part line.command ++ answer_part line.command answer.answer answer.tracks ++ told_part o ++ 10 ∷ []) told_alike
+      ap (λ (p : List ℕ). stamp_text line.time.0 ++ command_part line.command ++ p ++ said_part (option_map stamp content.time) ++ 10 ∷ [])
+      (part_told line.command content.answer content.tracks answer.tracks (tells.tracks ∙ ap (λ (r : Result Change Refusal). said_tracks line.command r answer.tracks) (sym tells.is)) ∙ ap (λ (r : Result Change Refusal). answer_part line.command r answer.tracks) tells.is)
+      ∙ ap (λ (o : Option Stamp). stamp_text line.time.0 ++ command_part line.command ++ answer_part line.command answer.answer answer.tracks ++ said_part o ++ 10 ∷ []) told_alike
 
   -- The reply that the session composes is exact.
-  pub reply_is_exact : reply ≡ reply_composed s.site lanes line answer → IsExactBehind run lines trail text began a
+  pub reply_is_exact : reply ≡ reply_composed s.site lanes line answer → IsExactAfter run lines trail text began a
   reply_is_exact is =
-      is ∙ ap (λ (l : List ℕ). l ++ reply_line line.time.0 line.command answer.answer answer.tracks (time_told s.site)) (sym report_alike) ∙ ap (λ (l : List ℕ). report_before run table line ++ l) (sym own_is)
+      is ∙ ap (λ (l : List ℕ). l ++ reply_line line.time.0 line.command answer.answer answer.tracks (time_said s.site)) (sym report_alike) ∙ ap (λ (l : List ℕ). report_before run table line ++ l) (sym own_is)

@@ -1,4 +1,4 @@
--- Behind a mark no record stands.
+-- After a mark no record stands.
 use Rattle.std.proofs.Common.{◌≡◌, ℕ, zero, suc, ◌+◌, ◌≤◌, ◌++◌, Bool, true, false, cond, List, [], ◌∷◌, Option, Some, None, Ok, Err, refl, sym, ap, ◌∙◌, arith}
 use Rattle.std.specs.List.{flat_map}
 use Rattle.crash_plant.specs.declared.device.Device.TheVariants.{Journal}

@@ -22,7 +22,7 @@ use Rattle.record_rows.specs.Hits.{hit_now, is_down, is_hit_now, rows_hit, rows_
 use Rattle.pair_table.specs.States.{is_device_suspended, owes}
 use Rattle.record_rows.specs.ToldRows.{InPlaces}
 use Rattle.record_rows.proofs.Telling.{only_failed}
-use Rattle.site_store.specs.Exceptions.{Exceptions, excepted_behind, excepted_by_deed, is_kept, is_whole_on}
+use Rattle.site_store.specs.Exceptions.{Exceptions, excepted_after, excepted_by_deed, is_kept, is_whole_on}
 use Rattle.site_store.proofs.Widening.{more_excepted}
 use Rattle.fed_logs.specs.Moves.{HasRowIn}
 use Rattle.mover.specs.OwedTracks.{ExceptedAreOwed, IsUnfailed}
@@ -34,7 +34,7 @@ use Rattle.xrc_session.specs.CarriedLaws.{IsWithoutEntries, between_taken}
 use Rattle.xrc_session.specs.Taking.{IsSuspendedSince, as_pending, rows_by_command, stands_again}
 use Rattle.xrc_session.proofs.Changed.{taken_rows_stand}
 use Rattle.xrc_session.proofs.KeptRows.{standing_rows_are_kept}
-use Rattle.xrc_session.proofs.Recording.{rows_stand_behind_deeds}
+use Rattle.xrc_session.proofs.Recording.{rows_stand_after_deeds}
 use Rattle.xrc_session.proofs.CarriedRows.{among_either, among_kept}
 use Rattle.xrc_journal.specs.Items.{Item}
 use Rattle.xrc_journal.specs.Contents.{is_of_track}
@@ -46,7 +46,7 @@ use Rattle.site_store.specs.Marking.{excepted_with_waiting, rows_at_mark}
 use Rattle.site_store.specs.Sites.{SiteState, has_failed}
 use Rattle.site_store.specs.Placements.{record_has_room, placement_of}
 use Rattle.site_store.proofs.LogStage.{stands_more}
-use Rattle.xrc_session.specs.Resting.{ChangesKeepTracks, ExceptedBehindChangesAreOwed, IdleMarksExceptNoMore, IsOfChange, KeepTracks, LogsFrom, MarksKeepTracks, RowsStandBehindChanges, RowsStandBehindCommands, SitesStandBehindDeeds}
+use Rattle.xrc_session.specs.Resting.{ChangesKeepTracks, ExceptedAfterChangesAreOwed, IdleMarksExceptNoMore, IsOfChange, KeepTracks, LogsFrom, MarksKeepTracks, RowsStandAfterChanges, RowsStandAfterCommands, SitesStandAfterDeeds}
 use Rattle.xrc_session.proofs.RestingSites.{hits_told}
 
 -- ---- who is hit
@@ -110,8 +110,8 @@ module _ (tells : Type 0) (cut : ℕ) (change : Change) (site next : SiteState) 
 
 -- ---- what is owed
 
-pub rows_stand_behind_commands : (start : PlantState) → RowsStandBehindCommands start
-rows_stand_behind_commands start b change site st same told = record {
+pub rows_stand_after_commands : (start : PlantState) → RowsStandAfterCommands start
+rows_stand_after_commands start b change site st same told = record {
   rows = record {
     apart = st.rows.apart;
     below = st.rows.below;
@@ -167,25 +167,25 @@ module _ (tells : Type 0) (b : Between) (cut : ℕ) (change : Change) (site next
   taken : StandsBetween old (between_taken change after with_more)
   taken = taken_rows_stand old with_more change after stands_with_more (standing_rows_are_kept old with_more stands_with_more) h.may h.adds
 
-  -- What the deeds except of an unfailed row behind them is among these.
+  -- What the deeds except of an unfailed row after them is among these.
   module _ (k v : ℕ) (has : HasRowIn IsUnfailed k v after) (x : ℕ) where
     abbrev d : ℕ
     d = has.row.device
 
     abbrev Covers : List Deed → Type 0
-    Covers deeds = excepted_behind site.told deeds b.excepted d x ≡ true → more d x ≡ true
+    Covers deeds = excepted_after site.told deeds b.excepted d x ≡ true → more d x ≡ true
 
     before : b.excepted d x ≡ true → more d x ≡ true
     before is = or_left (b.excepted d x) (not (is_kept d b.point.rows)) is
 
     module _ (some : changed_items change site.table.rows ≢ []) where
-      kept_behind : is_kept d (table_with_hits cut next.failed site) ≡ true
-      kept_behind = ap (is_kept d) (sym (h.logged some)) ∙ unfailed_is_kept k v after has
+      kept_after : is_kept d (table_with_hits cut next.failed site) ≡ true
+      kept_after = ap (is_kept d) (sym (h.logged some)) ∙ unfailed_is_kept k v after has
 
       alone : Covers (Changed cut (table_with_hits cut next.failed site) ∷ [])
-      alone is = before (excepted_before (is_kept d (table_with_hits cut next.failed site)) (b.excepted d x) false kept_behind is).0
+      alone is = before (excepted_before (is_kept d (table_with_hits cut next.failed site)) (b.excepted d x) false kept_after is).0
 
-      -- A device with an unfailed row behind the record hasn't failed.
+      -- A device with an unfailed row after the record hasn't failed.
       not_hit : is_among d (hit_now next.failed site.told) ≡ true → ⊥
       not_hit hit =
           let there : Among has.row (table_with_hits cut next.failed site) = subst (Among has.row) (h.logged some) (among_of after has.row has.among) in
@@ -202,7 +202,7 @@ module _ (tells : Type 0) (b : Between) (cut : ℕ) (change : Change) (site next
       marked : Covers (Marked site.at site.mark.ended (told_by_mark next.failed site) ∷ Changed cut (table_with_hits cut next.failed site) ∷ [])
       marked is =
           let first : (not (is_kept d (told_by_mark next.failed site)) || (b.excepted d x && true)) ≡ true =
-          (excepted_before (is_kept d (table_with_hits cut next.failed site)) (not (is_kept d (told_by_mark next.failed site)) || (b.excepted d x && true)) false kept_behind is).0 in
+          (excepted_before (is_kept d (table_with_hits cut next.failed site)) (not (is_kept d (told_by_mark next.failed site)) || (b.excepted d x && true)) false kept_after is).0 in
           elim (cases_Bool (is_kept d (told_by_mark next.failed site))) [
             | inl kept ↦ before (excepted_before (is_kept d (told_by_mark next.failed site)) (b.excepted d x) false kept first).0
             | inr gone ↦ by_mark (is_kept d site.told) refl gone
@@ -211,18 +211,18 @@ module _ (tells : Type 0) (b : Between) (cut : ℕ) (change : Change) (site next
     covers : Covers logs.deeds
     covers = subst Covers (sym logs.deeds_are) (deeds_cases tells cut change site next old new logs.result logs.does Covers (λ none. before) alone marked)
 
-  owed : ExceptedAreOwed b.size (excepted_behind site.told logs.deeds b.excepted) (between_taken change after b).group after
+  owed : ExceptedAreOwed b.size (excepted_after site.told logs.deeds b.excepted) (between_taken change after b).group after
   owed k v has kept x low is = taken.rows.owed k v has kept x low (covers k v has x is)
 
-pub excepted_are_owed : (tells : Type 0) (old new : PlantState) → ExceptedBehindChangesAreOwed tells old new
+pub excepted_are_owed : (tells : Type 0) (old new : PlantState) → ExceptedAfterChangesAreOwed tells old new
 excepted_are_owed tells old new b cut change site next after logs = owed tells b cut change site next after old new logs
 
 -- ---- the state and the site stand
 
-pub rows_stand_behind_changes : (tells : Type 0) (old new : PlantState) → RowsStandBehindChanges tells old new
-rows_stand_behind_changes tells old new b cut change site next after logs does some =
+pub rows_stand_after_changes : (tells : Type 0) (old new : PlantState) → RowsStandAfterChanges tells old new
+rows_stand_after_changes tells old new b cut change site next after logs does some =
     let h = logs.is_of in
-    rows_stand_behind_deeds old new (between_taken change after b) site.told logs.deeds (taken_rows_stand old b change after h.stands (standing_rows_are_kept old b h.stands) h.may h.adds) does
+    rows_stand_after_deeds old new (between_taken change after b) site.told logs.deeds (taken_rows_stand old b change after h.stands (standing_rows_are_kept old b h.stands) h.may h.adds) does
     (subst (All IsWithoutEntries) (sym logs.deeds_are) (deeds_cases tells cut change site next old new logs.result logs.does (All IsWithoutEntries) (λ none. All-nil IsWithoutEntries) (λ some. alone) (λ some. marked)))
     (excepted_are_owed tells old new b cut change site next after logs) some
   where
@@ -232,8 +232,8 @@ rows_stand_behind_changes tells old new b cut change site next after logs does s
     marked : All IsWithoutEntries (Marked site.at site.mark.ended (told_by_mark next.failed site) ∷ Changed cut (table_with_hits cut next.failed site) ∷ [])
     marked = All-cons IsWithoutEntries (Marked site.at site.mark.ended (told_by_mark next.failed site)) (Changed cut (table_with_hits cut next.failed site) ∷ []) refl alone
 
--- What was excepted before deeds without an entry is so behind them.
-fewer : (rows : List PairRow) (deeds : List Deed) (excepted : Exceptions) (d x : ℕ) → All IsWithoutEntries deeds → excepted_behind rows deeds excepted d x ≡ false → excepted d x ≡ false
+-- What was excepted before deeds without an entry is so after them.
+fewer : (rows : List PairRow) (deeds : List Deed) (excepted : Exceptions) (d x : ℕ) → All IsWithoutEntries deeds → excepted_after rows deeds excepted d x ≡ false → excepted d x ≡ false
 fewer rows [] excepted d x none free = free
 fewer rows (deed ∷ deeds) excepted d x none free =
     by_flags (not (is_kept d (rows_by_deed deed))) (excepted d x) (list_any (is_whole_on rows d x) (entries_by_deed deed)) (ap (λ (es : List WaitingEntry). list_any (is_whole_on rows d x) es) (All-head IsWithoutEntries deed deeds none))
@@ -245,8 +245,8 @@ fewer rows (deed ∷ deeds) excepted d x none free =
     by_flags false true true none free = absurd (true≢false none)
     by_flags false true false none free = absurd (true≢false free)
 
-pub sites_stand_behind_deeds : (plant : PlantState) → SitesStandBehindDeeds plant
-sites_stand_behind_deeds plant excepted rows deeds site none stands = stands_more (excepted_behind rows deeds excepted) excepted site plant (λ d x free. fewer rows deeds excepted d x none free) stands
+pub sites_stand_after_deeds : (plant : PlantState) → SitesStandAfterDeeds plant
+sites_stand_after_deeds plant excepted rows deeds site none stands = stands_more (excepted_after rows deeds excepted) excepted site plant (λ d x free. fewer rows deeds excepted d x none free) stands
 
 -- ---- duplex rows
 
@@ -301,7 +301,7 @@ command_back (Gone devices) before after x duplex there = (among_kept (λ r. not
 command_back (SuspendedRows devices) before after x duplex there = there
 command_back Ended before after x duplex there = there
 
--- Nor do suspensions behind it.
+-- Nor do suspensions after it.
 duplex_before : (change : Change) (before after : List PairRow) → InPlaces IsSuspendedSince (rows_by_command change before after) after → (r : PairRow) → Among r after → r.state ≡ Duplex → Among r before
 duplex_before change before after follow r there duplex =
     let found = places_back IsSuspendedSince r (rows_by_command change before after) after follow there in
@@ -353,28 +353,28 @@ module _ (tells : Type 0) (b : Between) (cut : ℕ) (change : Change) (site next
   abbrev of : IsOfChange old b cut change next.failed site after
   of = logs.is_of
 
-  abbrev behind : List PairRow
-  behind = table_with_hits cut next.failed site
+  abbrev told_rows : List PairRow
+  told_rows = table_with_hits cut next.failed site
 
   module _ (some : changed_items change site.table.rows ≢ []) where
-    back : (r : PairRow) → Among r behind → r.state ≡ Duplex → Among r site.told
+    back : (r : PairRow) → Among r told_rows → r.state ≡ Duplex → Among r site.told
     back r there duplex = subst (Among r) (sym of.told) (duplex_before change b.point.rows after of.may.follow r (subst (Among r) (sym (of.logged some)) there) duplex)
 
-    unhit : (r : PairRow) → Among r behind → r.state ≡ Duplex → is_among r.device (hit_now next.failed site.told) ≡ false
+    unhit : (r : PairRow) → Among r told_rows → r.state ≡ Duplex → is_among r.device (hit_now next.failed site.told) ≡ false
     unhit r there duplex = elim (cases_Bool (is_among r.device (hit_now next.failed site.told))) [
-      | inl hit ↦ absurd (up (is_down next.failed r.device) (is_device_suspended r.state) (none_hit next.failed r behind (hits_told site.level cut next.failed site.table.rows) there) (duplex_unfailed r.state duplex) (only_failed r.device next.failed site.told hit))
+      | inl hit ↦ absurd (up (is_down next.failed r.device) (is_device_suspended r.state) (none_hit next.failed r told_rows (hits_told site.level cut next.failed site.table.rows) there) (duplex_unfailed r.state duplex) (only_failed r.device next.failed site.told hit))
       | inr other ↦ other
     ]
 
-    keep_alone : KeepTracks b.point.time site.told (Changed cut behind ∷ [])
-    keep_alone = (record { entries = refl; at = of.at; duplex = λ r has duplex. contains_of r site.told (back r (among_of behind r has) duplex) }, tt)
+    keep_alone : KeepTracks b.point.time site.told (Changed cut told_rows ∷ [])
+    keep_alone = (record { entries = refl; at = of.at; duplex = λ r has duplex. contains_of r site.told (back r (among_of told_rows r has) duplex) }, tt)
 
-    keep_marked : KeepTracks b.point.time site.told (Marked site.at site.mark.ended (told_by_mark next.failed site) ∷ Changed cut behind ∷ [])
+    keep_marked : KeepTracks b.point.time site.told (Marked site.at site.mark.ended (told_by_mark next.failed site) ∷ Changed cut told_rows ∷ [])
     keep_marked =
         let marked = told_by_mark next.failed site in
         let hits = hit_now next.failed site.told in (
           record { entries = refl; at = refl; duplex = λ r has duplex. contains_of r site.told (marked_back site.time hits site.told r (among_of marked r has) duplex) },
-          (record { entries = refl; at = of.at; duplex = λ r has duplex. let there = among_of behind r has in contains_of r marked (marked_on site.time hits site.told r (unhit r there duplex) (back r there duplex)) }, tt),
+          (record { entries = refl; at = of.at; duplex = λ r has duplex. let there = among_of told_rows r has in contains_of r marked (marked_on site.time hits site.told r (unhit r there duplex) (back r there duplex)) }, tt),
         )
 
   keep_all : KeepTracks b.point.time site.told logs.deeds

@@ -40,7 +40,7 @@ changes_rows_then rows more all a b c site past on_to are too x y = record {
   moments = λ d there.
       follows_then (on a (Volume d)) (on b (Volume d)) (on c (Volume d)) (DiffersInRows d rows) (DiffersInRows d more) (DiffersInRows d all) past (x.moments d there) (on_to.kept (Volume d))
       (y.moments d (omega (arith, there, site.volumes))) (λ p q was differs. differs_more d rows all p q are differs)
-      (λ p q r was is before behind. differs_trans d all p q r (differs_more d rows all p q are before) (differs_more d more all q r too behind));
+      (λ p q r was is before after. differs_trans d all p q r (differs_more d rows all p q are before) (differs_more d more all q r too after));
 }
 
 -- Calls that leave volumes alone write none.
@@ -81,7 +81,7 @@ last_rows_are p points more none r has =
 first_rows_are : (points more : List PassedPoint) → AreRowsOf (rows_passed points) (rows_passed (points ++ more))
 first_rows_are points more r has = subst (λ (rows : List PairRow). Contains rows r) (sym (rows_append points more)) (Contains-append_left (rows_passed points) (rows_passed more) r has)
 
--- Behind points that were passed, more are passed from the last one on.
+-- After points that were passed, more are passed from the last one on.
 pub changes_rows_on : (p : Point) (points more : List PassedPoint) (a b c : PlantState) → SameSite a b → a.clock ≤ b.clock → Elapses b c → p.rows ≡ [] → ChangesRows (rows_passed points) a b → ChangesRows ((last_point p points).rows ++ rows_passed more) b c
     → ChangesRows (rows_passed (points ++ more)) a c
 changes_rows_on p points more a b c site past on_to none x y =

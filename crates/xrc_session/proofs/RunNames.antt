@@ -45,26 +45,26 @@ version_keeps left x e =
     first_is : (a b : ℕ × Left) → (let p : Result (ℕ × Left) Bad = Ok a in let q : Result (ℕ × Left) Bad = Ok b in p ≡ q) → b.0 ≡ a.0
     first_is a b same = cc
 
-abbrev behind_volumes : (version : ℕ) → List VolumeHead → Left → Result (Header × Left) Bad
-behind_volumes version volumes left = number_at w32 (λ n. nat_le n (sum_by tracks_of volumes)) left >>= (λ k. bases_at version volumes k.0 (0, 0) k.1 >>= (λ b. Ok (record { version = version; volumes = volumes; base = b.0 }, b.1)))
+abbrev after_volumes : (version : ℕ) → List VolumeHead → Left → Result (Header × Left) Bad
+after_volumes version volumes left = number_at w32 (λ n. nat_le n (sum_by tracks_of volumes)) left >>= (λ k. bases_at version volumes k.0 (0, 0) k.1 >>= (λ b. Ok (record { version = version; volumes = volumes; base = b.0 }, b.1)))
 
-abbrev behind_version : (version : ℕ) → Left → Result (Header × Left) Bad
-behind_version version left = number_at w16 (within 1 32) left >>= (λ c. volumes_at version c.0 [] c.1 >>= (λ v. behind_volumes version v.0 v.1))
+abbrev after_version : (version : ℕ) → Left → Result (Header × Left) Bad
+after_version version left = number_at w16 (within 1 32) left >>= (λ c. volumes_at version c.0 [] c.1 >>= (λ v. after_volumes version v.0 v.1))
 
 -- The volumes of a header that is read are a header's.
 header_keeps : (left : Left) (x : Header × Left) → header_at 1 left ≡ Ok x → are_volumes 1 [] x.0.volumes ≡ true
 unfolding header_at
 header_keeps left x e =
-    let one = bind_ok (version_at 1 left) (λ m. behind_version m.0 m.1) x e in
+    let one = bind_ok (version_at 1 left) (λ m. after_version m.0 m.1) x e in
     by_version one.0.0 one.0.1 (version_keeps left one.0 one.1) one.2
   where
     header_is : (a b : Header × Left) → (let p : Result (Header × Left) Bad = Ok a in let q : Result (Header × Left) Bad = Ok b in p ≡ q) → a ≡ b
     header_is a b same = cc
 
-    by_version : (version : ℕ) (after : Left) → version ≡ 1 → behind_version version after ≡ Ok x → are_volumes 1 [] x.0.volumes ≡ true
+    by_version : (version : ℕ) (after : Left) → version ≡ 1 → after_version version after ≡ Ok x → are_volumes 1 [] x.0.volumes ≡ true
     by_version version after first same =
-        let two = bind_ok (number_at w16 (within 1 32) after) (λ c. volumes_at version c.0 [] c.1 >>= (λ v. behind_volumes version v.0 v.1)) x same in
-        let three = bind_ok (volumes_at version two.0.0 [] two.0.1) (λ v. behind_volumes version v.0 v.1) x two.2 in
+        let two = bind_ok (number_at w16 (within 1 32) after) (λ c. volumes_at version c.0 [] c.1 >>= (λ v. after_volumes version v.0 v.1)) x same in
+        let three = bind_ok (volumes_at version two.0.0 [] two.0.1) (λ v. after_volumes version v.0 v.1) x two.2 in
         let volumes = three.0.0 in
         let four = bind_ok (number_at w32 (λ n. nat_le n (sum_by tracks_of volumes)) three.0.1) (λ k. bases_at version volumes k.0 (0, 0) k.1 >>= (λ b. Ok (record { version = version; volumes = volumes; base = b.0 }, b.1))) x three.2 in
         let five = bind_ok (bases_at version volumes four.0.0 (0, 0) four.0.1) (λ b. Ok (record { version = version; volumes = volumes; base = b.0 }, b.1)) x four.2 in

@@ -27,7 +27,7 @@ use Rattle.consistency.specs.Courses.{Answered, texts_of}
 use Rattle.consistency.proofs.Standing.{console_choice}
 use Rattle.xrc_session.specs.Frames.{SaidGrows}
 use Rattle.xrc_session.specs.LinePauses.{LeavesAll}
-use Rattle.xrc_session.specs.Starting.{BeginsByLine, BeginsRun, BeginsSafely, FormatsFirst, HasBegunRun, HasRepliedToStart, HasStartedRun, HearsStart, IsSafeNow, IsSafeUpTo, IsStartOfScript, IsUnsaid, LeavesVolumes, MeansStart, ShutsOrStarts, ShutsSite, StandsBehindStart, StartsBehind, StartsSafely, level_started, reply_to_start}
+use Rattle.xrc_session.specs.Starting.{BeginsByLine, BeginsRun, BeginsSafely, FormatsFirst, HasBegunRun, HasRepliedToStart, HasStartedRun, HearsStart, IsSafeNow, IsSafeUpTo, IsStartOfScript, IsUnsaid, LeavesVolumes, MeansStart, ShutsOrStarts, ShutsSite, StandsAfterStart, StartsAfter, StartsSafely, level_started, reply_to_start}
 use Rattle.xrc_session.specs.Starting.BeginsRun.{Starting, Unstarted}
 use Rattle.xrc_session.proofs.Consoles.{stays_then}
 use Rattle.xrc_session.proofs.Started.{formats_on}
@@ -64,7 +64,7 @@ image_left old new later leaves d c is =
 
 -- A site that is left alone is shut as far as it was.
 shut_here : (lengths : List ℕ) (c : Choice) → ShutsSite lengths c c
-shut_here lengths c = record { first = first_here lengths c; journals = λ j behind. refl }
+shut_here lengths c = record { first = first_here lengths c; journals = λ j after. refl }
 
 module _ (session : List ℕ) (level : Level) (at : ℕ) where
   -- What was said of one plant is said of another with the same numbers and lengths.
@@ -96,7 +96,7 @@ module _ (session : List ℕ) (level : Level) (at : ℕ) where
   pub safe_here : (old new : PlantState) → SameSite old new → LeavesAll old new → IsSafeUpTo session level at new.clock old new
   safe_here old new site leaves t from to c is = (c, leaves_choice old new site leaves t from to c is, inl (shut_here (lengths_of old) c))
 
-  -- It stays safe while the devices are left alone behind.
+  -- It stays safe while the devices are left alone after that.
   pub safe_then : (old mid new : PlantState) → old.clock ≤ mid.clock → 0 < mid.clock → SameSite mid new → Elapses mid new → LeavesAll mid new → IsSafeUpTo session level at mid.clock old mid → IsSafeUpTo session level at new.clock old new
   safe_then old mid new later up site past leaves safe t from to c is = by_side (cases_lt t mid.clock)
     where
@@ -115,8 +115,8 @@ module _ (session : List ℕ) (level : Level) (at : ℕ) where
       by_side (inl early) = kept t from (omega (arith, early)) c (past_choice mid new t c site past up (omega (arith, early)) is) d there
       by_side (inr late) = kept mid.clock later (omega arith) c (leaves_choice mid new site leaves t late to c is) d there
 
-  pub volumes_behind : (old mid new : PlantState) (to : ℕ) → old.clock ≤ mid.clock → 0 < mid.clock → SameSite old mid → LeavesAll old mid → SameSite mid new → Elapses mid new → LeavesVolumes to mid new → LeavesVolumes to old new
-  volumes_behind old mid new to later up before leaves site past kept t from within c is d there = by_side (cases_lt t mid.clock)
+  pub volumes_after : (old mid new : PlantState) (to : ℕ) → old.clock ≤ mid.clock → 0 < mid.clock → SameSite old mid → LeavesAll old mid → SameSite mid new → Elapses mid new → LeavesVolumes to mid new → LeavesVolumes to old new
+  volumes_after old mid new to later up before leaves site past kept t from within c is d there = by_side (cases_lt t mid.clock)
     where
       by_side : (t < mid.clock) ⊎ (mid.clock ≤ t) → old.images old.clock (Volume d) (c (Volume d))
       by_side (inl early) = leaves_choice old mid before leaves t from (omega (arith, early)) c (past_choice mid new t c site past up (omega (arith, early)) is) (Volume d) there
@@ -126,8 +126,8 @@ module _ (session : List ℕ) (level : Level) (at : ℕ) where
           subst (λ (l : List ℕ). old.images old.clock (Volume d) l) (sym start.2) start.1
 
   -- It was safe to leave them alone before.
-  pub safe_behind : (old mid new : PlantState) (to : ℕ) → old.clock ≤ mid.clock → 0 < mid.clock → SameSite old mid → LeavesAll old mid → SameSite mid new → Elapses mid new → IsSafeUpTo session level at to mid new → IsSafeUpTo session level at to old new
-  safe_behind old mid new to later up before leaves site past safe t from within c is = by_side (cases_lt t mid.clock)
+  pub safe_after : (old mid new : PlantState) (to : ℕ) → old.clock ≤ mid.clock → 0 < mid.clock → SameSite old mid → LeavesAll old mid → SameSite mid new → Elapses mid new → IsSafeUpTo session level at to mid new → IsSafeUpTo session level at to old new
+  safe_after old mid new to later up before leaves site past safe t from within c is = by_side (cases_lt t mid.clock)
     where
       by_side : (t < mid.clock) ⊎ (mid.clock ≤ t) → (b : Choice) × IsChoice old old.clock b × ShutsOrStarts session level at old b c
       by_side (inl early) =
@@ -138,8 +138,8 @@ module _ (session : List ℕ) (level : Level) (at : ℕ) where
           (start.0, leaves_choice old mid before leaves mid.clock later (omega arith) start.0 start.1, starts_same old mid before start.0 c start.2)
 
   -- A session that was formatted since, where devices were left alone before, was formatted first.
-  pub formats_behind : (old mid new : PlantState) (to : ℕ) → old.clock ≤ mid.clock → 0 < mid.clock → SameSite old mid → LeavesAll old mid → SameSite mid new → Elapses mid new → FormatsFirst session level at mid new to → FormatsFirst session level at old new to
-  formats_behind old mid new to later up before leaves site past f = record {
+  pub formats_after : (old mid new : PlantState) (to : ℕ) → old.clock ≤ mid.clock → 0 < mid.clock → SameSite old mid → LeavesAll old mid → SameSite mid new → Elapses mid new → FormatsFirst session level at mid new to → FormatsFirst session level at old new to
+  formats_after old mid new to later up before leaves site past f = record {
     formatted_at = f.formatted_at;
     since = omega (arith, later, f.since);
     within = f.within;
@@ -160,7 +160,7 @@ module _ (session : List ℕ) (level : Level) (at : ℕ) where
           let start = f.before t late upto c is in
           (start.0, leaves_choice old mid before leaves mid.clock later (omega arith) start.0 start.1, by_step start.0 c start.2)
 
-  -- Calls that leave the devices alone end safely. With them others do, too, before or behind them.
+  -- Calls that leave the devices alone end safely. With them others do, too, before or after them.
   pub now_here : (old new : PlantState) → old.clock ≤ new.clock → SameSite old new → LeavesAll old new → IsSafeNow session level at old new
   now_here old new later site leaves = record {
     bytes = λ d there. (leaves (Volume d)).bytes;
@@ -175,8 +175,8 @@ module _ (session : List ℕ) (level : Level) (at : ℕ) where
     safe = λ durable c is. safe.safe durable c (leaves_choice mid new site leaves new.clock later (omega arith) c is);
   }
 
-  pub now_behind : (old mid new : PlantState) → old.clock ≤ mid.clock → SameSite old mid → LeavesAll old mid → IsSafeNow session level at mid new → IsSafeNow session level at old new
-  now_behind old mid new later before leaves safe = record {
+  pub now_after : (old mid new : PlantState) → old.clock ≤ mid.clock → SameSite old mid → LeavesAll old mid → IsSafeNow session level at mid new → IsSafeNow session level at old new
+  now_after old mid new later before leaves safe = record {
     bytes = λ d there. safe.bytes d (omega (arith, there, before.volumes)) ∙ (leaves (Volume d)).bytes;
     images = λ d there c is. image_left old mid later leaves d c (safe.images d (omega (arith, there, before.volumes)) c is);
     safe = λ durable c is.
@@ -234,14 +234,14 @@ begins_start session line level old new is site past silent tells told volumes s
 
 -- What a line has begun stays begun while its reply is said. Once it means the start, whatever is said, it does.
 pub begins_said : (session : List ℕ) (line : Line) (tells : Type 0) (old mid new : PlantState) → tells → SameSite old mid → Elapses old mid → WorksOnConsole tells mid new → BeginsByLine session line old mid
-    → IfSome (level_started session line) (λ level. StandsBehindStart session level line.time.0 old mid) → BeginsByLine session line old new
+    → IfSome (level_started session line) (λ level. StandsAfterStart session level line.time.0 old mid) → BeginsByLine session line old new
 begins_said session line tells old mid new told site past works begins means = by_level (level_started session line) begins means
   where
     later : old.clock ≤ mid.clock
     later = (past.kept Control).later
 
     by_level : (o : Option Level) → MatchOption o (LeavesAll old mid) (λ level. BeginsSafely session level line.time.0 old mid)
-        → IfSome o (λ level. StandsBehindStart session level line.time.0 old mid) → MatchOption o (LeavesAll old new) (λ level. BeginsSafely session level line.time.0 old new)
+        → IfSome o (λ level. StandsAfterStart session level line.time.0 old mid) → MatchOption o (LeavesAll old new) (λ level. BeginsSafely session level line.time.0 old new)
     by_level None leaves none = leaves_then old mid new later leaves (works.elapses told) (leaves_console tells mid new told works)
     by_level (Some level) starts mean = record {
       now = now_then session level line.time.0 old mid new ((works.elapses told).kept Control).later works.site (leaves_console tells mid new told works) starts.now;
@@ -272,7 +272,7 @@ begins_said session line tells old mid new told site past works begins means = b
 
 -- ---- a run
 
--- A reply that was said stays so behind what is said then.
+-- A reply that was said stays so after what is said then.
 pub replied_later : (level : Level) (at : ℕ) (old mid new : PlantState) → SaidGrows mid new → HasRepliedToStart level at old mid → HasRepliedToStart level at old new
 replied_later level at old mid new grows replied = record {
   before = replied.before;
@@ -282,7 +282,7 @@ replied_later level at old mid new grows replied = record {
       ∙ ap (λ (l : List ℕ). old.said old.clock ++ l) (append_assoc (replied.before ++ reply_to_start level at) replied.later grows.more);
 }
 
--- What was heard and said of a run that has started stays so behind calls that keep the past.
+-- What was heard and said of a run that has started stays so after calls that keep the past.
 pub started_later : (session : List ℕ) (old mid new : PlantState) (more : List ℕ) → SameSite mid new → Elapses mid new → SaidGrows mid new → new.heard new.clock ≡ mid.heard mid.clock ++ more → HasStartedRun session old mid → HasStartedRun session old new
 started_later session old mid new more site past grows heard started = record {
   level = started.level;
@@ -297,8 +297,8 @@ started_later session old mid new more site past grows heard started = record {
         ∙ ap (λ (l : List ℕ). old.heard old.clock ++ l) (append_assoc (texts_of started.hears.lines ++ started.hears.text) started.hears.later more);
   };
   replied = replied_later started.level started.at old mid new grows started.replied;
-  behind = λ up durable.
-      let was = started.behind up durable in
+  after = λ up durable.
+      let was = started.after up durable in
       let b = was.0 in
       let now : 0 < mid.clock = omega (arith, up, b.since, b.later, b.within) in (
         record {
@@ -322,17 +322,17 @@ started_later session old mid new more site past grows heard started = record {
       );
 }
   where
-    said_alike : 0 < mid.clock → (b : StartsBehind session started.level started.at old mid) → mid.said b.replied_at ≡ mid.said b.heard_at ++ reply_to_start started.level started.at → new.said b.replied_at ≡ new.said b.heard_at ++ reply_to_start started.level started.at
+    said_alike : 0 < mid.clock → (b : StartsAfter session started.level started.at old mid) → mid.said b.replied_at ≡ mid.said b.heard_at ++ reply_to_start started.level started.at → new.said b.replied_at ≡ new.said b.heard_at ++ reply_to_start started.level started.at
     said_alike now b replied =
         past.said b.replied_at now b.within ∙ replied ∙ ap (λ (l : List ℕ). l ++ reply_to_start started.level started.at) (sym (past.said b.heard_at now (omega (arith, b.later, b.within))))
 
-    by_means : 0 < mid.clock → (b : StartsBehind session started.level started.at old mid) → IsUnsaid (mid.said b.heard_at) (mid.said b.replied_at) ⊎ AtMoment (MeansStart session started.level started.at old) mid b.replied_at
+    by_means : 0 < mid.clock → (b : StartsAfter session started.level started.at old mid) → IsUnsaid (mid.said b.heard_at) (mid.said b.replied_at) ⊎ AtMoment (MeansStart session started.level started.at old) mid b.replied_at
         → IsUnsaid (new.said b.heard_at) (new.said b.replied_at) ⊎ AtMoment (MeansStart session started.level started.at old) new b.replied_at
     by_means now b (inl unsaid) =
         inl (subst (λ (l : List ℕ). IsUnsaid l (new.said b.replied_at)) (sym (past.said b.heard_at now (omega (arith, b.later, b.within)))) (subst (λ (l : List ℕ). IsUnsaid (mid.said b.heard_at) l) (sym (past.said b.replied_at now b.within)) unsaid))
     by_means now b (inr mean) = inr (λ c is. mean c (past_choice mid new b.replied_at c site past now b.within is))
 
-    by_formats : 0 < mid.clock → (b : StartsBehind session started.level started.at old mid) → IsUnsaid (mid.said b.heard_at) (mid.said b.replied_at) ⊎ FormatsFirst session started.level started.at old mid b.replied_at
+    by_formats : 0 < mid.clock → (b : StartsAfter session started.level started.at old mid) → IsUnsaid (mid.said b.heard_at) (mid.said b.replied_at) ⊎ FormatsFirst session started.level started.at old mid b.replied_at
         → IsUnsaid (new.said b.heard_at) (new.said b.replied_at) ⊎ FormatsFirst session started.level started.at old new b.replied_at
     by_formats now b (inl unsaid) =
         inl (subst (λ (l : List ℕ). IsUnsaid l (new.said b.replied_at)) (sym (past.said b.heard_at now (omega (arith, b.later, b.within)))) (subst (λ (l : List ℕ). IsUnsaid (mid.said b.heard_at) l) (sym (past.said b.replied_at now b.within)) unsaid))
@@ -340,7 +340,7 @@ started_later session old mid new more site past grows heard started = record {
 
 -- A run whose session has started has begun.
 pub begun_by_start : (session : List ℕ) (old new : PlantState) → HasStartedRun session old new → BeginsRun session old new
-begun_by_start session old new started = Starting started.level started.at started.hears (inl started.replied) (λ up durable. (started.behind up durable).0)
+begun_by_start session old new started = Starting started.level started.at started.hears (inl started.replied) (λ up durable. (started.after up durable).0)
 
 pub begun_run : (session : List ℕ) (site : Option SiteState) (old new : PlantState) → HasBegunRun session site old new → BeginsRun session old new
 begun_run session None old new begun = Unstarted begun
@@ -348,7 +348,7 @@ begun_run session (Some site) old new begun = begun_by_start session old new beg
 
 -- ---- the line that starts it
 
--- A line was heard behind a plant's state at which no device had been worked on.
+-- A line was heard after a plant's state at which no device had been worked on.
 module _ (session : List ℕ) (line : Line) (level : Level) (old heard new : PlantState) (lines : List Answered) (text : List ℕ) (leaves : LeavesAll old heard) (first : SameSite old heard) (past_first : Elapses old heard)
     (start : IsStartOfScript session level line.time.0 old.script lines text) (all_heard : heard.heard heard.clock ≡ old.heard old.clock ++ (texts_of lines ++ text)) (site : SameSite heard new) (past : Elapses heard new) (unheard : new.heard new.clock ≡ heard.heard heard.clock)
     (starts : level_started session line ≡ Some level) (begins : BeginsByLine session line heard new) where
@@ -393,11 +393,11 @@ module _ (session : List ℕ) (line : Line) (level : Level) (old heard new : Pla
         by_said : (b : Bool) → bytes_eq (new.said new.clock) (heard.said heard.clock) ≡ b → IsUnsaid (new.said heard.clock) (new.said new.clock) ⊎ FormatsFirst session level line.time.0 old new new.clock
         by_said true same = inl (inl ((bytes_eq-Decides (new.said new.clock) (heard.said heard.clock)).0 same ∙ sym said_first))
         by_said false differ =
-            inr (formats_behind session level line.time.0 old heard new new.clock later now first leaves site past
+            inr (formats_after session level line.time.0 old heard new new.clock later now first leaves site past
             (safely.formats new.clock (past.kept Control).later (omega arith) (λ same. absurd (true≢false (sym ((bytes_eq-Decides (new.said new.clock) (heard.said heard.clock)).1 same) ∙ differ)))))
 
-    abbrev starts_behind : (new.said new.clock ≡ new.said heard.clock ++ reply_to_start level line.time.0) ⊎ (new.clock ≡ new.clock) → StartsBehind session level line.time.0 old new
-    starts_behind reached = record {
+    abbrev starts_after : (new.said new.clock ≡ new.said heard.clock ++ reply_to_start level line.time.0) ⊎ (new.clock ≡ new.clock) → StartsAfter session level line.time.0 old new
+    starts_after reached = record {
       lines = lines;
       text = text;
       start = start;
@@ -409,15 +409,15 @@ module _ (session : List ℕ) (line : Line) (level : Level) (old heard new : Pla
       later = (past.kept Control).later;
       within = omega arith;
       reached = reached;
-      safe = safe_behind session level line.time.0 old heard new new.clock later now first leaves site past safely.safe;
-      volumes = volumes_behind session level line.time.0 old heard new new.clock later now first leaves site past safely.volumes;
+      safe = safe_after session level line.time.0 old heard new new.clock later now first leaves site past safely.safe;
+      volumes = volumes_after session level line.time.0 old heard new new.clock later now first leaves site past safely.volumes;
       means = means_now;
       formats = formats_now;
     }
 
   -- It begins the run, and once its reply was said whole the run has started.
   pub begins_by_start : BeginsRun session old new
-  begins_by_start = Starting level line.time.0 hears_start (inr (now_behind session level line.time.0 old heard new later first leaves begun.now)) (λ up durable. starts_behind up durable (inr refl))
+  begins_by_start = Starting level line.time.0 hears_start (inr (now_after session level line.time.0 old heard new later first leaves begun.now)) (λ up durable. starts_after up durable (inr refl))
 
   pub has_started : SaidGrows old heard → new.said new.clock ≡ heard.said heard.clock ++ reply_to_start level line.time.0 → HasStartedRun session old new
   has_started grows replied = record {
@@ -431,7 +431,7 @@ module _ (session : List ℕ) (line : Line) (level : Level) (old heard new : Pla
           replied ∙ ap (λ (l : List ℕ). l ++ reply_to_start level line.time.0) grows.said ∙ append_assoc (old.said old.clock) grows.more (reply_to_start level line.time.0)
           ∙ ap (λ (l : List ℕ). old.said old.clock ++ l) (sym (append-nil (grows.more ++ reply_to_start level line.time.0)));
     };
-    behind = λ up durable.
+    after = λ up durable.
         let whole : new.said new.clock ≡ new.said heard.clock ++ reply_to_start level line.time.0 = replied ∙ ap (λ (l : List ℕ). l ++ reply_to_start level line.time.0) (sym (past.said heard.clock (omega (arith, up, later)) (omega arith))) in
-        (starts_behind up durable (inl whole), whole);
+        (starts_after up durable (inl whole), whole);
   }

@@ -13,7 +13,7 @@ use Rattle.xrc_session.proofs.StartWorks.{err_as}
 
 -- ---- the opening
 
--- A stop that comes early has no cause behind the opening.
+-- A stop that comes early has no cause after the opening.
 run_cause_late : (old new : PlantState) (stop : Stop) → HasRunCause old new stop → ComesEarly stop → ⊥
 run_cause_late old new stop cause (inl (inl is)) = by_cause (subst (λ (x : Stop). HasRunCause old new x) is cause)
   where
@@ -73,7 +73,7 @@ pub early_cause : (old new : PlantState) (stop : Stop) → ComesEarly stop ⊎ (
 early_cause old new stop (inl early) = inl early
 early_cause old new stop (inr memory) = inr (inl (subst (λ (x : Stop). HasStopCause old new x) (sym memory) tt))
 
--- Behind the lines a run stops for the causes of a line.
+-- After the lines a run stops for the causes of a line.
 pub finish_late : (old new : PlantState) (result : Result (Unit {0}) Stop) → IfErr result (HasStopCause old new) → (stop : Stop) → IsErrOf result stop → ComesEarly stop → ⊥
 finish_late old new (Ok value) cause stop is early = absurd cc
 finish_late old new (Err other) cause stop is early = comes_late old new (Err other) (inl cause) stop is early
@@ -102,7 +102,7 @@ opening_some controls plant sources stop none due = by_site (stop_of_site contro
     by_site None is rest = rest
     by_site (Some other) is rest = absurd cc
 
--- Behind an opening that was done no stop is due by it.
+-- After an opening that was done no stop is due by it.
 pub never_due : {S T : Type 0} (left : S → Option (List ℕ)) (faults : S → ℕ) (controls : ℕ) (before opened last : List (Lane S)) (plant : PlantState) (value : T) → (let r : Result T Stop = Ok value in OpensInOrder left faults controls before opened plant r) → StayGood left faults before opened
     → AllWent left faults opened last → (sources : List SourceBytes) (stop : Stop) → AllTold left faults before last sources → opening_stop controls plant sources ≡ Some stop → ⊥
 never_due {S} {T} left faults controls before opened last plant value opens good went sources stop told due =
@@ -117,7 +117,7 @@ never_due {S} {T} left faults controls before opened last plant value opens good
     none_of_site None is = is
     none_of_site (Some x) is = absurd (never x (opens.site x is).0)
 
--- Behind an opening that was done, whatever comes later opens in order.
+-- After an opening that was done, whatever comes later opens in order.
 pub opens_done : {S T U : Type 0} (left : S → Option (List ℕ)) (faults : S → ℕ) (controls : ℕ) (before opened last : List (Lane S)) (plant : PlantState) (value : T) → (let r : Result T Stop = Ok value in OpensInOrder left faults controls before opened plant r) → StayGood left faults before opened
     → AllWent left faults opened last → (result : Result U Stop) → ((stop : Stop) → IsErrOf result stop → ComesEarly stop → ⊥) → OpensInOrder left faults controls before last plant result
 opens_done {S} {T} {U} left faults controls before opened last plant value opens good went result late = record {

@@ -168,7 +168,7 @@ module _ {S : Type 0} (tells : Type 0) (left : S → Option (List ℕ)) (faults 
               bad = λ bad. absurd (none_bad tells 1 0 old.script bad);
               of_bad = λ n is. let clash : stops.NoMemory ≡ stops.BadLine n = sym memory ∙ is in absurd cc;
               applied = λ number below. absurd (omega (arith, below));
-              behind_end = λ ended. inl memory;
+              after_end = λ ended. inl memory;
             };
           }
 
@@ -228,7 +228,7 @@ module _ {S : Type 0} (tells : Type 0) (left : S → Option (List ℕ)) (faults 
         bad = λ bad. absurd (none_bad tells (length lines + 1) (last_line_time lines (length lines)) new.script bad);
         of_bad = λ n is. absurd (no_bad n (subst (λ (x : Stop). HasStopCause mid new x) is why));
         applied = applied;
-        behind_end = λ ended. absurd (false≢true (done ended));
+        after_end = λ ended. absurd (false≢true (done ended));
       }
         where
           no_bad : (n : ℕ) → HasStopCause mid new (stops.BadLine n) → ⊥

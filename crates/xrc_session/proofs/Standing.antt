@@ -22,7 +22,7 @@ use Rattle.xrc_session.specs.EpochPauses.{Between, StandsBetween}
 use Rattle.xrc_session.proofs.Calls.{KeepsOther, kept_other, other_at, owed_other, own_is, plan_other}
 use Rattle.xrc_session.proofs.CarriedRows.{IsOther, OthersSame}
 
--- the control of a volume, changed
+-- the controller of a volume, changed
 abbrev pub changed_control : Between → (control : ℕ) → (ControlState → ControlState) → ControlState
 changed_control b k change = change (control_at b.group k)
 

@@ -50,11 +50,11 @@ module _ (s : Group) (rows : List PairRow) (r : PairRow) (kept : IsSoundForRows 
   own : IsSoundForRow s r
   own = kept.each r among
 
-  behind : control_at (group_after s (Resume r.control r.volume)) r.control ≡ resumed r.volume c
-  behind = own_is s r.control (resumed r.volume) own.low
+  after : control_at (group_after s (Resume r.control r.volume)) r.control ≡ resumed r.volume c
+  after = own_is s r.control (resumed r.volume) own.low
 
   found : volume_of r.volume (control_at (group_after s (Resume r.control r.volume)) r.control).volumes ≡ option_map resumed_volume (volume_of r.volume c.volumes)
-  found = ap (λ (d : ControlState). volume_of r.volume d.volumes) behind ∙ resume_itself r.volume c
+  found = ap (λ (d : ControlState). volume_of r.volume d.volumes) after ∙ resume_itself r.volume c
 
   wants_none : (o : Option Volume) → owed_in o ≡ 0 → (x : ℕ) → passes (wants x) (option_map resumed_volume o) ≡ false
   wants_none None zero_owed x = refl
@@ -65,7 +65,7 @@ module _ (s : Group) (rows : List PairRow) (r : PairRow) (kept : IsSoundForRows 
   resumed_done = record {
     carried = ap (passes (λ u. u.carried)) found ∙ passes_map (λ u. u.carried) resumed_volume (volume_of r.volume c.volumes) ∙ sized_there _ (volume_of r.volume c.volumes) own.own.sized;
     unwanted = λ x. ap (passes (wants x)) found ∙ wants_none (volume_of r.volume c.volumes) none x;
-    copies = ap (λ (d : ControlState). list_all (λ e. not (is_copy_of r.volume e)) d.queue.waiting) behind
+    copies = ap (λ (d : ControlState). list_all (λ e. not (is_copy_of r.volume e)) d.queue.waiting) after
         ∙ all_up (λ e. not (is_of_volume r.volume e)) (λ e. not (is_copy_of r.volume e)) c.queue.waiting (none_copied r.volume)
         (none_waits r.volume c.volumes c.queue.waiting (dropped_none r.volume c.volumes (own.own.dropped suspended)) (All-get_or Sound s.controls r.control (new_control 0 0 0) own.low kept.keeps.sound).entries);
   }

@@ -1,4 +1,4 @@
--- A session behind its start: the site stands behind its first epoch, without a row.
+-- A session after its start: the site stands after its first epoch, without a row.
 use Rattle.std.proofs.Common.{◌≡◌, inl, inr, ℕ, ◌<◌, ◌≤◌, true, false, List, [], ◌∷◌, length, Option, Some, None, Ok, refl, sym, ap, subst, ◌∙◌, arith, true≢false}
 use Rattle.std.specs.Prelude.{IsSomeAnd}
 use Rattle.std.specs.List.{Contains}
@@ -145,7 +145,7 @@ and_then : {P : Group → Type 0} {Q : Type 0} (o : Option Group) → ((s : Grou
 and_then None up is = absurd is
 and_then (Some s) up is = up s is
 
--- A site behind its first epoch.
+-- A site after its first epoch.
 pub site_started : {S : Type 0} (tells : Type 0) (controls volumes : ℕ) (session : List ℕ) (level : Level) (at : Stamp) (lanes : List (Lane S)) (names now : Naming) (group : Option Group) (site after : SiteState) (mid new : PlantState) → site ≡ new_site controls volumes session level at
     → MayCommandSite tells names mid site → names.broken ≡ [] → SameSite mid new → IsSiteBrought at.0 site after → IsSomeAnd group (IsReadyForEpoch tells lanes after new) → IsSomeAnd group (HasCut at.0) → now ≡ with_lanes_broken 0 lanes names
     → IsSiteStarted tells session level controls at.0 lanes now group new after
@@ -289,7 +289,7 @@ start_before session level at old mid c same m = record {
   ended = m.ended;
 }
 
--- Behind calls that are safe, work that leaves just the session that starts is safe.
+-- After calls that are safe, work that leaves just the session that starts is safe.
 pub safe_then : (session : List ℕ) (level : Level) (at : ℕ) (old mid new : PlantState) → old.clock ≤ mid.clock → SameSite old mid → SameSite mid new → Elapses mid new → (some : (c : Choice) × IsChoice mid mid.clock c) → IsSafeThroughout session level at old mid
     → AtEveryMoment (MeansStart session level at mid) mid new → IsSafeThroughout session level at old new
 safe_then session level at old mid new later first same elapses some safe means durable =

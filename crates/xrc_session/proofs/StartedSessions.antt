@@ -17,7 +17,7 @@ use Rattle.site_means.specs.Sight.{meant_by}
 use Rattle.xrc_command.specs.declared.line.Line.{Line}
 use Rattle.consistency.specs.Stages.{ScriptRun}
 use Rattle.fed_logs.specs.Logs.{Sizes}
-use Rattle.fed_logs.specs.ShownBreaks.{BreaksAreToCome, BrokeAsTraces, StillTells}
+use Rattle.fed_logs.specs.ShownBreaks.{BreaksAreToCome, BrokeAsTraces, StillReports}
 use Rattle.fed_logs.proofs.BreaksToCome.{all_breaks_are_to_come}
 use Rattle.fed_logs.proofs.ShownBreaks.{new_groups_are_unbroken}
 use Rattle.consistency.specs.Bearing.{ShowsPoint}
@@ -85,7 +85,7 @@ module _ (tells : Type 0) (plant : PlantState) (run : ScriptRun) (time : Stamp) 
   broke = subst (BrokeAsTraces run.traces) (sym h.shared) (new_groups_are_unbroken run.traces h.controls h.records h.blocks)
 
   awaits : BreaksAreToCome run.traces site.time group
-  awaits k b t at breaks late = subst (λ (s : Group). StillTells s k b) (sym h.shared) (all_breaks_are_to_come run.traces h.controls h.records h.blocks h.many k b t at breaks (omega arith))
+  awaits k b t at breaks late = subst (λ (s : Group). StillReports s k b) (sym h.shared) (all_breaks_are_to_come run.traces h.controls h.records h.blocks h.many k b t at breaks (omega arith))
 
   pub started_stands : StandsSoFar so group site plant
   started_stands = record {

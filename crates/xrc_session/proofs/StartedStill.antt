@@ -12,15 +12,15 @@ use Rattle.group_state.specs.Groups.{Group}
 use Rattle.group_state.specs.Runs.{Answer}
 use Rattle.row_changes.specs.Changes.{Due}
 use Rattle.row_changes.specs.Changes.Due.{NoneDue}
-use Rattle.record_rows.specs.Deeds.{Deed, rows_behind, rows_by_deed, time_by_deed, time_meant_behind}
+use Rattle.record_rows.specs.Deeds.{Deed, rows_after_deeds, rows_by_deed, time_by_deed, time_meant_after}
 use Rattle.record_rows.specs.ToldRows.{due_after_changes}
 use Rattle.site_means.specs.declared.means.Means.{Means}
 use Rattle.site_means.specs.Sight.{means_of, meant_by}
 use Rattle.site_store.specs.DeedChanges.{DeedOfChanges, deeds_of}
-use Rattle.site_store.specs.Deeds.{means_behind, means_by_deed}
+use Rattle.site_store.specs.Deeds.{means_after, means_by_deed}
 use Rattle.site_store.specs.DoneDeeds.{BeginsDeeds, with_next}
 use Rattle.site_store.specs.Exceptions.{Exceptions}
-use Rattle.site_store.specs.Seeing.{SeesBehind}
+use Rattle.site_store.specs.Seeing.{SeesAfter}
 use Rattle.site_store.specs.Sites.{SiteState, meant_for}
 use Rattle.site_store.specs.Standing.{SiteStands}
 use Rattle.site_store.proofs.Moments.{first_seen}
@@ -30,7 +30,7 @@ use Rattle.mover.specs.declared.lane.Lane.{Lane}
 use Rattle.mover.specs.Epochs.{EpochGoes, TimesRiseTo}
 use Rattle.mover.specs.Moves.{InPlacesByDeeds, KeepsPair}
 use Rattle.mover.specs.Steps.{AreMade, IsDeedMade}
-use Rattle.mover.specs.Steps.IsDeedMade.{Suspends, Marks, MarksFirst, Records, RecordsBehind}
+use Rattle.mover.specs.Steps.IsDeedMade.{Suspends, Marks, MarksFirst, Records, RecordsAfter}
 use Rattle.record_rows.specs.ToldRows.{InPlaces}
 use Rattle.xrc_session.specs.Starting.{MeansStart, StaysStarted}
 
@@ -41,11 +41,11 @@ no_place is [] places = refl
 no_place is (s ∷ next) places = absurd places
 
 -- Deeds that keep pairs leave no row where there was none.
-none_behind : (deeds : List Deed) (n : ℕ) (rows : List PairRow) → rows ≡ [] → InPlacesByDeeds KeepsPair rows deeds → rows_behind (take n deeds) rows ≡ []
-none_behind [] zero rows none pairs = none
-none_behind [] (suc n) rows none pairs = none
-none_behind (deed ∷ deeds) zero rows none pairs = none
-none_behind (deed ∷ deeds) (suc n) rows none pairs = none_behind deeds n (rows_by_deed deed) (no_place KeepsPair (rows_by_deed deed) (subst (λ (l : List PairRow). InPlaces KeepsPair l (rows_by_deed deed)) none pairs.0)) pairs.1
+none_after : (deeds : List Deed) (n : ℕ) (rows : List PairRow) → rows ≡ [] → InPlacesByDeeds KeepsPair rows deeds → rows_after_deeds (take n deeds) rows ≡ []
+none_after [] zero rows none pairs = none
+none_after [] (suc n) rows none pairs = none
+none_after (deed ∷ deeds) zero rows none pairs = none
+none_after (deed ∷ deeds) (suc n) rows none pairs = none_after deeds n (rows_by_deed deed) (no_place KeepsPair (rows_by_deed deed) (subst (λ (l : List PairRow). InPlaces KeepsPair l (rows_by_deed deed)) none pairs.0)) pairs.1
 
 -- A deed of the mover leaves the session's flag.
 flag_by : (level : Level) (flag : Bool) (answers : List Answer) (time : ℕ) (rows : List PairRow) (due : Due) (step : DeedOfChanges) → IsDeedMade level flag answers time rows due step → (means : Means) → means.ended ≡ flag → (means_by_deed means step.deed).ended ≡ flag
@@ -53,18 +53,18 @@ flag_by level flag answers time rows _ _ (Suspends _ _ failed some) means is = i
 flag_by level flag answers time rows _ _ (Marks _ _ failed spot) means is = refl
 flag_by level flag answers time rows _ _ (MarksFirst _ _ failed spot) means is = refl
 flag_by level flag answers time rows _ _ (Records _ _ group failed shown up to_log) means is = is
-flag_by level flag answers time _ _ _ (RecordsBehind _ was group failed marked shown up to_log) means is = is
+flag_by level flag answers time _ _ _ (RecordsAfter _ was group failed marked shown up to_log) means is = is
 
-flag_behind : (level : Level) (flag : Bool) (answers : List Answer) (time : ℕ) (rows : List PairRow) (due : Due) (steps : List DeedOfChanges) (last : Due) → AreMade level flag answers time rows due steps last → (n : ℕ) (means : Means) → means.ended ≡ flag
-    → (means_behind (take n (deeds_of steps)) means).ended ≡ flag
-flag_behind level flag answers time rows due [] last made zero means is = is
-flag_behind level flag answers time rows due [] last made (suc n) means is = is
-flag_behind level flag answers time rows due (step ∷ steps) last made zero means is = is
-flag_behind level flag answers time rows due (step ∷ steps) last made (suc n) means is =
-    flag_behind level flag answers (time_by_deed time step.deed) (rows_by_deed step.deed) (due_after_changes level due step.changes) steps last made.1 n (means_by_deed means step.deed) (flag_by level flag answers time rows due step made.0 means is)
+flag_after : (level : Level) (flag : Bool) (answers : List Answer) (time : ℕ) (rows : List PairRow) (due : Due) (steps : List DeedOfChanges) (last : Due) → AreMade level flag answers time rows due steps last → (n : ℕ) (means : Means) → means.ended ≡ flag
+    → (means_after (take n (deeds_of steps)) means).ended ≡ flag
+flag_after level flag answers time rows due [] last made zero means is = is
+flag_after level flag answers time rows due [] last made (suc n) means is = is
+flag_after level flag answers time rows due (step ∷ steps) last made zero means is = is
+flag_after level flag answers time rows due (step ∷ steps) last made (suc n) means is =
+    flag_after level flag answers (time_by_deed time step.deed) (rows_by_deed step.deed) (due_after_changes level due step.changes) steps last made.1 n (means_by_deed means step.deed) (flag_by level flag answers time rows due step made.0 means is)
 
 -- The time that is meant stays, if it rises no further.
-time_stays : (time : ℕ) (deeds : List Deed) (n : ℕ) → TimesRiseTo time time deeds → n ≤ length deeds → time_meant_behind (take n deeds) time ≡ time
+time_stays : (time : ℕ) (deeds : List Deed) (n : ℕ) → TimesRiseTo time time deeds → n ≤ length deeds → time_meant_after (take n deeds) time ≡ time
 time_stays time deeds n rise within = let both = rise 0 n (omega arith) within in let low = both.0 in let high = both.1 in omega (arith, low, high)
 
 -- ---- at every moment
@@ -78,7 +78,7 @@ module _ {S : Type 0} (tells : Type 0) (told : tells) (left : S → Option (List
   begins = (goes.shows told).begins excepted stands
 
   abbrev Sees : (n : ℕ) → Choice → Type 0
-  Sees n c = SeesBehind old excepted site.told (take n deeds) c
+  Sees n c = SeesAfter old excepted site.told (take n deeds) c
 
   rises : TimesRiseTo site.time site.time deeds
   rises = subst (λ (n : ℕ). TimesRiseTo n site.time deeds) (sym same) goes.bears.times
@@ -90,13 +90,13 @@ module _ {S : Type 0} (tells : Type 0) (told : tells) (left : S → Option (List
       let meant : means_of old sees.from ≡ Some (meant_for site) = ap meant_by (stands.meant sees.from sees.was) in
       let b = means_are d (meant_for site) in
       record {
-        means = means_behind d (meant_for site);
-        defined = sees.means ∙ ap (option_map (means_behind d)) meant;
+        means = means_after d (meant_for site);
+        defined = sees.means ∙ ap (option_map (means_after d)) meant;
         session_is = b.session;
         level_is = b.level;
         time = b.time ∙ time_stays site.time deeds n rises within ∙ same;
-        rows = b.rows ∙ none_behind deeds n site.told none goes.ran.pairs;
-        ended = flag_behind site.level false _ site.time site.told NoneDue goes.ran.steps NoneDue (goes.ran.made goes_on) n (meant_for site) goes_on;
+        rows = b.rows ∙ none_after deeds n site.told none goes.ran.pairs;
+        ended = flag_after site.level false _ site.time site.told NoneDue goes.ran.steps NoneDue (goes.ran.made goes_on) n (meant_for site) goes_on;
       }
 
   now_means : (c : Choice) → IsChoice new new.clock c → MeansStart site.table.session site.level at old c
@@ -107,9 +107,9 @@ module _ {S : Type 0} (tells : Type 0) (told : tells) (left : S → Option (List
 
       by_size : Sees (suc n) c → (n < length deeds) ⊎ (length deeds ≤ n) → MeansStart site.table.session site.level at old c
       by_size sees (inl more) = means_start (suc n) c (omega (arith, more)) sees
-      by_size sees (inr all) = means_start n c begins.few (subst (λ (l : List Deed). SeesBehind old excepted site.told l c) (take_all (suc n) deeds (omega (arith, all)) ∙ sym (take_all n deeds all)) sees)
+      by_size sees (inr all) = means_start n c begins.few (subst (λ (l : List Deed). SeesAfter old excepted site.told l c) (take_all (suc n) deeds (omega (arith, all)) ∙ sym (take_all n deeds all)) sees)
 
-      by_side : Sees n c ⊎ SeesBehind old excepted site.told (with_next n deeds) c → MeansStart site.table.session site.level at old c
+      by_side : Sees n c ⊎ SeesAfter old excepted site.told (with_next n deeds) c → MeansStart site.table.session site.level at old c
       by_side (inl sees) = means_start n c begins.few sees
       by_side (inr sees) = by_size sees (cases_lt n (length deeds))
 

@@ -8,7 +8,7 @@ use Rattle.crash_plant.specs.declared.device.Device.{Device}
 use Rattle.crash_plant.specs.declared.device.Device.TheVariants.{Control, State, Journal, Volume}
 use Rattle.xrc_edge.specs.Causes.{Rose}
 use Rattle.crash_plant.specs.Moments.{PlantState, Same, on}
-use Rattle.crash_plant.proofs.Behind.{same_after}
+use Rattle.crash_plant.proofs.BehindGates.{same_after}
 use Rattle.crash_plant.proofs.Steps.{elapses_trans, silent_trans, site_trans}
 use Rattle.applier.proofs.Works.{none_lent_lent}
 use Rattle.pair_table.specs.declared.level.Level.{Level}
@@ -39,7 +39,7 @@ none_worked controls volumes session level at site is v = λ of. elim of [
   | inr w ↦ true≢false (sym w.2 ∙ ap (λ (s : SiteState). is_worked_on s w.0) is ∙ ap (λ (b : Bool). b || false) (none_true volumes w.0))
 ]
 
--- The work for a start, behind its format.
+-- The work for a start, after its format.
 pub works_then : {A T : Type 0} (tells : Type 0) (site after : SiteState) (old mid new : PlantState) (value : A) (r : Result (Unit {0}) Stop) (result : Result T Stop) → ((v : ℕ) → ¬ IsOfMover site (Volume v)) → ((s : Stop) → IsErrOf result s → IsErrOf r s) → ((s : Stop) → IsErrOf r s → IsErrOf result s)
     → IsWorkOfStart {T = A} tells old mid (Ok value) → IsWorkOfStore tells site after mid new r → IfErr result (HasStopCause mid new) → IsWorkOfStart tells old new result
 works_then {A} {T} tells site after old mid new value r result unworked to from first then cause = record {

@@ -65,8 +65,8 @@ module _ (start : PlantState) (b : Between) (r : PairRow) (state : PairState) (a
   never_live : (is : PairState → Type 0) (has : HasRowIn is k v suspended) → is_suspended has.row.state ≡ false → ⊥
   never_live is has live = true≢false (sym may.suspends ∙ ap (λ (s : PairRow). is_suspended s.state) (sym (is_state is has)) ∙ live)
 
-  owed_behind : (has : HasRowIn IsUnfailed k v suspended) → is_volume_kept v (dropped v all c) ≡ true → (x : ℕ) → x < b.size k v → b.excepted has.row.device x ≡ true → is_owed v x (dropped v all c) ≡ true
-  owed_behind has kept x low e =
+  owed_after : (has : HasRowIn IsUnfailed k v suspended) → is_volume_kept v (dropped v all c) ≡ true → (x : ℕ) → x < b.size k v → b.excepted has.row.device x ≡ true → is_owed v x (dropped v all c) ≡ true
+  owed_after has kept x low e =
       drops_later (b.size k v) v all v x c low sized_before plan
       (λ was. owed_before start b st r may.among was x low (λ is. ap (λ (s : PairRow). b.excepted s.device x) (sym (is_state IsUnfailed has)) ∙ e)) kept
 
@@ -104,7 +104,7 @@ module _ (start : PlantState) (b : Between) (r : PairRow) (state : PairState) (a
     still = λ j w other known. and_from (b.done j w) (not (nat_eq j k && nat_eq w v)) known
         (ap not (ap (λ (t : Bool). t && nat_eq w v) (number_sym j k) ∙ ap (λ (t : Bool). nat_eq k j && t) (number_sym w v) ∙ other));
     rowed = λ kept. stated_there r state rows st.rows.apart there;
-    owed = owed_behind;
+    owed = owed_after;
     failed = λ has kept x low.
         let is : is_device_suspended state ≡ true = ap (λ (s : PairRow). is_device_suspended s.state) (sym (is_state IsFailed has)) ∙ has.state in
         all_tracks all refl (may.failed is) x low (kept_before kept);

@@ -1,4 +1,4 @@
--- What sources give behind headers that were read turns out to be traces of the lanes.
+-- What sources give after headers that were read turns out to be traces of the lanes.
 use Rattle.std.proofs.Common.{◌≡◌, ◌≢◌, inl, inr, ℕ, zero, suc, ◌+◌, ◌<◌, ◌≤◌, not, Bool, true, nat_le, List, [], ◌∷◌, ◌++◌, length, take, get_or, Option, Some, None, Result, Ok, refl, sym, ap, subst, ◌∙◌, append-nil, arith, slice_get}
 use Rattle.std.specs.Prelude.{IsSomeAnd}
 use Rattle.std.specs.List.{list_all}
@@ -25,11 +25,11 @@ use Rattle.sidefile.specs.declared.hand.Halt.TheVariants as halts
 use Rattle.sidefile.specs.AheadEntries.{IsAhead}
 use Rattle.sidefile.specs.States.{SidefileState}
 use Rattle.group_state.specs.Runs.{Answer}
-use Rattle.fed_logs.specs.FeedLaws.{ComeSo, IsBehindHeader}
+use Rattle.fed_logs.specs.FeedLaws.{ComeSo, IsAfterHeader}
 use Rattle.fed_logs.specs.LaneFeeds.{FeedState}
 use Rattle.fed_logs.specs.Reads.{AreLeft, HasRead, IsToFail, MayTurnOut, ReadsBytes, ReadsOn, do_rise}
 use Rattle.fed_logs.specs.Reads.Outlook.{Failing, Whole}
-use Rattle.fed_logs.specs.Tellers.{HasFaultBy}
+use Rattle.fed_logs.specs.Reporters.{HasFaultBy}
 use Rattle.fed_logs.proofs.Beginning.{headers_begin_traces}
 use Rattle.mover.specs.declared.lane.Lane.{Lane}
 use Rattle.mover.specs.Epochs.{AllTurnOut, LaneWent, TurnsOut}
@@ -104,15 +104,15 @@ module _ {S : Type 0} (left : S → Option (List ℕ)) (faults : S → ℕ) (con
   feed = record { side = o.side; primary = o.primary; held = None; halted = None }
 
   module _ (reads_on : ReadsOn (left opened.source) (left last.source) was.feed is.feed run) (by : HasFaultBy (faults opened.source) (faults last.source) is.feed.halted) where
-    -- the bytes behind the header
+    -- the bytes after the header
     abbrev rest : List ℕ
     rest = (o.reads.reads s.held told.held).0
 
     there : IsAhead o.side.reader (left opened.source) rest
     there goes = (o.reads.reads s.held told.held).1
 
-    behind : IsBehindHeader s.held (left opened.source) o.head feed rest
-    behind = record { reads = subst (λ (b : Option (List ℕ)). ReadsHeader b (left opened.source) o.head o.side.reader) told.held o.reads; first = o.fresh; there = there }
+    after : IsAfterHeader s.held (left opened.source) o.head feed rest
+    after = record { reads = subst (λ (b : Option (List ℕ)). ReadsHeader b (left opened.source) o.head o.side.reader) told.held o.reads; first = o.fresh; there = there }
 
     feed_is : was.feed ≡ feed
     feed_is = ap (λ (h : Option Halt). record { side = o.side; primary = o.primary; held = None; halted = h }) o.halted
@@ -123,7 +123,7 @@ module _ {S : Type 0} (left : S → Option (List ℕ)) (faults : S → ℕ) (con
     -- All bytes came.
     whole : faults last.source ≡ faults before.source → TurnedOut left s o.head opened last was is
     whole same =
-        let begins = headers_begin_traces s.held (left opened.source) o.head feed rest behind Whole rest [] refl in
+        let begins = headers_begin_traces s.held (left opened.source) o.head feed rest after Whole rest [] refl in
         record {
           trace = begins.trace;
           given = given_whole s (is_quiet left faults before.source last.source s told same) ∙ begins.is;
@@ -142,7 +142,7 @@ module _ {S : Type 0} (left : S → Option (List ℕ)) (faults : S → ℕ) (con
           };
         }
 
-    -- Some came, and the source failed behind them.
+    -- Some came, and the source failed after them.
     failing : faults last.source ≢ faults before.source → TurnedOut left s o.head opened last was is
     failing other =
         let (upto, halted) = failed_by (faults opened.source) (faults last.source) is.feed.halted by (λ same. other (same ∙ o.quiet)) in
@@ -152,7 +152,7 @@ module _ {S : Type 0} (left : S → Option (List ℕ)) (faults : S → ℕ) (con
         let fails = bytes.fails [] (subst (λ (h : Option Halt). IsToFail [] h is.feed.side.reader) (sym halted) refl) in
         let faulty = subst (λ (h : Option Halt). IsToFail (bytes.used ++ []) h o.side.reader) o.halted fails in
         let come : ComeSo Failing o.side.reader rest (bytes.used ++ []) s.rest = (bytes.split ∙ ap (λ (l : List ℕ). bytes.used ++ l) same_rest ∙ ap (λ (l : List ℕ). l ++ s.rest) (sym (append-nil bytes.used)), faulty.1) in
-        let begins = headers_begin_traces s.held (left opened.source) o.head feed rest behind Failing (bytes.used ++ []) s.rest come in
+        let begins = headers_begin_traces s.held (left opened.source) o.head feed rest after Failing (bytes.used ++ []) s.rest come in
         let failed = told.failed ∙ ap not (ne_eqb (faults last.source) (faults before.source) other) in
         record {
           trace = begins.trace;

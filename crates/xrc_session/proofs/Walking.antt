@@ -182,11 +182,11 @@ module _ (J : Group → List PairRow → Plans → Type 0) (fits : PairRow → T
       subst (λ (rows : List PairRow). J (group_after s (Drop r.control r.volume true)) rows (plans_without r.control r.volume done)) (state_at xs r rest (away r).state kept.apart)
       (steps.drop s (xs ++ r ∷ rest) done r (away r).state true j (contains_of r (xs ++ r ∷ rest) (among_at_place xs r rest)) refl (λ is. refl) (λ none. absurd (true≢false none))) in
       let there = contains_of (away r) (xs ++ away r ∷ rest) (among_at_place xs (away r) rest) in
-      let behind = steps.kept t (xs ++ away r ∷ rest) (plans_without r.control r.volume done) dropped in
-      let own = behind.each (away r) there in
+      let follows = steps.kept t (xs ++ away r ∷ rest) (plans_without r.control r.volume done) dropped in
+      let own = follows.each (away r) there in
       record {
         may = (low, ((own.low, own.own.dropped refl), tt));
-        ends = subst (λ (rows : List PairRow). J (group_after t (Forget r.control r.volume)) rows (plans_without r.control r.volume done)) (without_at xs (away r) rest behind.apart)
+        ends = subst (λ (rows : List PairRow). J (group_after t (Forget r.control r.volume)) rows (plans_without r.control r.volume done)) (without_at xs (away r) rest follows.apart)
             (steps.forget t (xs ++ away r ∷ rest) (plans_without r.control r.volume done) (away r) dropped there refl);
       }
 
@@ -230,7 +230,7 @@ module _ (J : Group → List PairRow → Plans → Type 0) (fits : PairRow → T
   again_one : (before : List PairRow) (r : PairRow) (s : Group) (done : Plans) → Contains before r → is_suspended r.state ≡ true → counts (control_at s r.control).phase ≡ true → J s before done
       → Walked J (Resume r.control r.volume ∷ Drop r.control r.volume (owes_again (tracks_owed_to s (Some r)) r.state) ∷ []) s before done
   again_one before r s done among suspended counted j = record {
-    may = (resumed.may.0, ((behind.each pending there).low, tt));
+    may = (resumed.may.0, ((follows.each pending there).low, tt));
     ends = subst (λ (rows : List PairRow). J (group_after t (Drop r.control r.volume all)) rows (plans_without r.control r.volume done)) (stated_back r Pending before kept.apart among)
         (steps.drop t (with_state r.device Pending before) done pending r.state all resumed.ends there suspended failed known);
   }
@@ -250,8 +250,8 @@ module _ (J : Group → List PairRow → Plans → Type 0) (fits : PairRow → T
       all : Bool
       all = owes_again (tracks_owed_to s (Some r)) r.state
 
-      behind : IsSoundForRows t (with_state r.device Pending before)
-      behind = steps.kept t (with_state r.device Pending before) done resumed.ends
+      follows : IsSoundForRows t (with_state r.device Pending before)
+      follows = steps.kept t (with_state r.device Pending before) done resumed.ends
 
       there : Contains (with_state r.device Pending before) pending
       there = contains_of pending (with_state r.device Pending before) (stated_among r Pending before kept.apart (among_of before r among))
@@ -293,21 +293,21 @@ module _ (J : Group → List PairRow → Plans → Type 0) (fits : PairRow → T
 found_state : (before : List PairRow) (r : PairRow) → none_clash before ≡ true → Among r before → state_or_pending (row_of r.device before) ≡ r.state
 found_state before r apart there = ap state_or_pending (found_of_device r before apart there)
 
--- A row behind suspensions is of the pair of the row that the command left.
-abbrev IsBehind : (r t : PairRow) → Type 0
-IsBehind r t = t ≡ in_state t.state r
+-- A row after suspensions is of the pair of the row that the command left.
+abbrev IsAfter : (r t : PairRow) → Type 0
+IsAfter r t = t ≡ in_state t.state r
 
 -- the state in which a command left a row that it didn't begin
-not_begun : (change : Change) (before : List PairRow) (r t : PairRow) → IsBehind r t → is_begun change r.device ≡ false → none_clash before ≡ true → Among r before → state_by_command change before t ≡ r.state
-not_begun change before r t behind none apart there = ap (λ (d : ℕ). cond (is_begun change d && not (stands_again (row_of d before) (Some t))) Pending (state_or_pending (row_of d before))) (ap (λ (x : PairRow). x.device) behind)
+not_begun : (change : Change) (before : List PairRow) (r t : PairRow) → IsAfter r t → is_begun change r.device ≡ false → none_clash before ≡ true → Among r before → state_by_command change before t ≡ r.state
+not_begun change before r t follows none apart there = ap (λ (d : ℕ). cond (is_begun change d && not (stands_again (row_of d before) (Some t))) Pending (state_or_pending (row_of d before))) (ap (λ (x : PairRow). x.device) follows)
     ∙ ap (λ (b : Bool). cond (b && not (stands_again (row_of r.device before) (Some t))) Pending (state_or_pending (row_of r.device before))) none
     ∙ found_state before r apart there
 
 added_state : (device : ℕ) (before : List PairRow) (new : PairRow) (after : List PairRow) → row_of device after ≡ Some new → none_clash before ≡ true → none_clash (before ++ in_state Pending new ∷ []) ≡ true → (r t : PairRow)
-    → Among r (before ++ in_state Pending new ∷ []) → IsBehind r t → state_by_command (Added device) before t ≡ r.state
-added_state device before new after found apart whole r t there behind = elim (among_either r (in_state Pending new) before there) [
-  | inl old ↦ not_begun (Added device) before r t behind (other old (nat_eq device r.device) refl) apart old
-  | inr same ↦ own (ap (λ (x : PairRow). x.device) behind ∙ ap (λ (x : PairRow). x.device) (sym same)) ∙ ap (λ (x : PairRow). x.state) same
+    → Among r (before ++ in_state Pending new ∷ []) → IsAfter r t → state_by_command (Added device) before t ≡ r.state
+added_state device before new after found apart whole r t there follows = elim (among_either r (in_state Pending new) before there) [
+  | inl old ↦ not_begun (Added device) before r t follows (other old (nat_eq device r.device) refl) apart old
+  | inr same ↦ own (ap (λ (x : PairRow). x.device) follows ∙ ap (λ (x : PairRow). x.device) (sym same)) ∙ ap (λ (x : PairRow). x.state) same
 ]
   where
     own_device : nat_eq device new.device ≡ true
@@ -328,9 +328,9 @@ added_state device before new after found apart whole r t there behind = elim (a
         absurd (true≢false (sym (eq-eqb r.device new.device (sym (eqb-true device r.device is) ∙ eqb-true device new.device own_device)) ∙ (apart_last (in_state Pending new) r before whole old).device))
 
 -- The state in which a resume leaves rows: the row is pending, or is suspended again as it was.
-resumed_state : (device : ℕ) (before : List PairRow) (p : Option PairRow) → none_clash before ≡ true → (r t : PairRow) → Among r (cond (stands_again (row_of device before) p) before (with_state device Pending before)) → IsBehind r t
+resumed_state : (device : ℕ) (before : List PairRow) (p : Option PairRow) → none_clash before ≡ true → (r t : PairRow) → Among r (cond (stands_again (row_of device before) p) before (with_state device Pending before)) → IsAfter r t
     → (nat_eq device t.device ≡ true → p ≡ Some t) → state_by_command (Resumed device) before t ≡ r.state
-resumed_state device before p apart r t there behind found = choose (stands_again (row_of device before) p) refl there
+resumed_state device before p apart r t there follows found = choose (stands_again (row_of device before) p) refl there
   where
     -- what becomes of the row that was before
     was_row : (w : PairRow) → Among w before → t.device ≡ w.device → (again : Bool) → stands_again (row_of device before) p ≡ again → (b : Bool) → nat_eq device w.device ≡ b
@@ -348,7 +348,7 @@ resumed_state device before p apart r t there behind found = choose (stands_agai
         ∙ ap (λ (x : PairState). cond (not again) Pending x) (found_state before w apart among)
 
     device_is : t.device ≡ r.device
-    device_is = ap (λ (x : PairRow). x.device) behind
+    device_is = ap (λ (x : PairRow). x.device) follows
 
     stated_device : (w : PairRow) → (let x : PairRow = changed_row device Pending w in x.device) ≡ w.device
     stated_device w = by (is_of device w)
@@ -376,22 +376,22 @@ resumed_state device before p apart r t there behind found = choose (stands_agai
         was_row was.row was.among same false is (nat_eq device was.row.device) refl ∙ sym (stated_state was.row) ∙ ap (λ (x : PairRow). x.state) was.is
 
 pub begun_state : (change : Change) (before after : List PairRow) (s : Group) → MayBeBegun s change before after → none_clash before ≡ true → none_clash (rows_by_command change before after) ≡ true → none_clash after ≡ true → (r t : PairRow)
-    → Among r (rows_by_command change before after) → Among t after → IsBehind r t → state_by_command change before t ≡ r.state
-begun_state Nothing before after s begun apart whole clear r t there among behind = not_begun Nothing before r t behind refl apart there
-begun_state Started before after s begun apart whole clear r t there among behind = not_begun Started before r t behind refl apart there
-begun_state (Added device) before after s begun apart whole clear r t there among behind = choose (row_of device after) refl begun whole there
+    → Among r (rows_by_command change before after) → Among t after → IsAfter r t → state_by_command change before t ≡ r.state
+begun_state Nothing before after s begun apart whole clear r t there among follows = not_begun Nothing before r t follows refl apart there
+begun_state Started before after s begun apart whole clear r t there among follows = not_begun Started before r t follows refl apart there
+begun_state (Added device) before after s begun apart whole clear r t there among follows = choose (row_of device after) refl begun whole there
   where
     choose : (o : Option PairRow) → row_of device after ≡ o → IsSomeAnd o (λ x. (x.control < length s.controls) × (counts (control_at s x.control).phase ≡ true)) → none_clash (before ++ as_pending o) ≡ true → Among r (before ++ as_pending o)
         → state_by_command (Added device) before t ≡ r.state
     choose None is none whole there = absurd none
-    choose (Some new) is begun whole there = added_state device before new after is apart whole r t there behind
-begun_state (Resumed device) before after s begun apart whole clear r t there among behind =
-    resumed_state device before (row_of device after) apart r t there behind (λ is. ap (λ (d : ℕ). row_of d after) (eqb-true device t.device is) ∙ found_of_device t after clear among)
-begun_state (Gone devices) before after s begun apart whole clear r t there among behind = not_begun (Gone devices) before r t behind refl apart (among_kept (λ x. not (is_among x.device devices)) r before there).0
-begun_state (SuspendedRows devices) before after s begun apart whole clear r t there among behind = not_begun (SuspendedRows devices) before r t behind refl apart there
-begun_state Ended before after s begun apart whole clear r t there among behind = not_begun Ended before r t behind refl apart there
+    choose (Some new) is begun whole there = added_state device before new after is apart whole r t there follows
+begun_state (Resumed device) before after s begun apart whole clear r t there among follows =
+    resumed_state device before (row_of device after) apart r t there follows (λ is. ap (λ (d : ℕ). row_of d after) (eqb-true device t.device is) ∙ found_of_device t after clear among)
+begun_state (Gone devices) before after s begun apart whole clear r t there among follows = not_begun (Gone devices) before r t follows refl apart (among_kept (λ x. not (is_among x.device devices)) r before there).0
+begun_state (SuspendedRows devices) before after s begun apart whole clear r t there among follows = not_begun (SuspendedRows devices) before r t follows refl apart there
+begun_state Ended before after s begun apart whole clear r t there among follows = not_begun Ended before r t follows refl apart there
 
-same_drops : (change : Change) (before rows next : List PairRow) → InPlaces IsSuspendedSince rows next → ((r t : PairRow) → Among r rows → Among t next → IsBehind r t → state_by_command change before t ≡ r.state)
+same_drops : (change : Change) (before rows next : List PairRow) → InPlaces IsSuspendedSince rows next → ((r t : PairRow) → Among r rows → Among t next → IsAfter r t → state_by_command change before t ≡ r.state)
     → drops_in rows next ≡ flat_map (drop_calls change before) next
 same_drops change before [] [] follow states = refl
 same_drops change before [] (t ∷ next) follow states = absurd follow
@@ -401,12 +401,12 @@ same_drops change before (r ∷ rows) (t ∷ next) follow states =
     ap (λ (x : PairState). drop_call t (owes x t.state) ++ drops_in rows next) was
     ∙ ap (λ (calls : List Call). drop_calls change before t ++ calls) (same_drops change before rows next follow.1 (λ x y there among. states x y (Later r rows there) (Later t next among)))
 
--- Suspensions leave each row's pair, so rows that don't clash don't behind them.
-pub same_behind : (rows next : List PairRow) → InPlaces IsSuspendedSince rows next → pairs_of next ≡ pairs_of rows
-same_behind [] [] follow = refl
-same_behind [] (t ∷ next) follow = absurd follow
-same_behind (r ∷ rows) [] follow = absurd follow
-same_behind (r ∷ rows) (t ∷ next) follow = λ i. pair_of (follow.0.same i) ∷ same_behind rows next follow.1 i
+-- Suspensions leave each row's pair, so rows that don't clash don't after them.
+pub same_after : (rows next : List PairRow) → InPlaces IsSuspendedSince rows next → pairs_of next ≡ pairs_of rows
+same_after [] [] follow = refl
+same_after [] (t ∷ next) follow = absurd follow
+same_after (r ∷ rows) [] follow = absurd follow
+same_after (r ∷ rows) (t ∷ next) follow = λ i. pair_of (follow.0.same i) ∷ same_after rows next follow.1 i
 
 -- ---- the whole change
 
@@ -416,7 +416,7 @@ change_walk J fits steps change before after s done may fit j =
     let first = command_walk J fits steps change before after s done may.begun fit may.apart j in
     let calls = command_calls change s before after in
     let rows = rows_by_command change before after in
-    let clear = apart_still rows after (same_behind rows after may.follow) may.apart in
+    let clear = apart_still rows after (same_after rows after may.follow) may.apart in
     let same = same_drops change before rows after may.follow (λ r t. begun_state change before after s may.begun (steps.kept s before done j).apart may.apart clear r t) in
     let second = drops_walk J fits steps [] rows after (after_calls calls s) (plans_after_calls calls done) may.follow first.ends in
     walked_then J calls (flat_map (drop_calls change before) after) s after done first.may

@@ -21,7 +21,7 @@ use Rattle.xrc_session.proofs.WrittenParts.{part_unwritten, parts_append, parts_
 
 -- ---- a line
 
--- The lines behind which a reply was said are some of more.
+-- The lines after which a reply was said are some of more.
 by_lines_more : (lines : List Answered) (a : Answered) (began now : PlantState) (from : ℕ) (p : Point) (n : ℕ) (written : List WrittenLine) (more : List WrittenPart) → n + length written ≤ length lines → WritesByLines lines began now from p n written more → WritesByLines (lines ++ a ∷ []) began now from p n written more
 by_lines_more lines a began now from p n [] more below by = by
 by_lines_more lines a began now from p n (w ∷ written) more below by = (

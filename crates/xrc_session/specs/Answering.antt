@@ -23,7 +23,7 @@ use Rattle.row_changes.specs.Changes.{Timed}
 use Rattle.row_changes.specs.Spans.{is_hit_at}
 use Rattle.site_means.specs.Images.{shape_of}
 use Rattle.site_store.specs.IdleSites.{IsSiteIdle}
-use Rattle.site_store.specs.Commands.{IsToLog, LabelsFit, MayDo, behind_command}
+use Rattle.site_store.specs.Commands.{IsToLog, LabelsFit, MayDo, after_command}
 use Rattle.site_store.specs.Sites.{SiteState}
 use Rattle.site_store.specs.Standing.{FitsPlant}
 use Rattle.consistency.specs.Stages.{ScriptRun, Stage, accepts_end, breaks_of, names_of}
@@ -43,7 +43,7 @@ use Rattle.xrc_status.specs.declared.stop.Stop.TheVariants.{NoMemory}
 use Rattle.xrc_session.specs.declared.answering.LineAnswer.{LineAnswer}
 use Rattle.xrc_session.specs.declared.kept.SessionParts.{SessionParts}
 use Rattle.xrc_session.specs.LinePauses.{GoesOnFrom, HasCut, MayCommandSite, RisesCover, StandsAtLeg, StandsForSite, site_point}
-use Rattle.xrc_session.specs.Steps.{BeginsToPass, PassesPointsOn, TellsAnswer}
+use Rattle.xrc_session.specs.Steps.{BeginsToPass, PassesPointsOn, SaysAnswer}
 use Rattle.xrc_session.specs.Trails.{AreHitsOfFaults}
 
 -- ---- answers
@@ -54,10 +54,10 @@ is_end_accepted (Ok change) = false
 is_end_accepted (Err why) = false
 
 -- the answer of a command that was done or refused, if there was memory for it
-abbrev pub answer_told : Result Change CommandError → Result (Result Change Refusal) Stop
-answer_told (Ok change) = Ok (Ok change)
-answer_told (Err (errors.Refused why)) = Ok (Err why)
-answer_told (Err errors.NoMemory) = Err NoMemory
+abbrev pub answer_said : Result Change CommandError → Result (Result Change Refusal) Stop
+answer_said (Ok change) = Ok (Ok change)
+answer_said (Err (errors.Refused why)) = Ok (Err why)
+answer_said (Err errors.NoMemory) = Err NoMemory
 
 -- what became of a change that was logged, with the tracks that are to be copied by it
 abbrev pub change_result : Change → Result ℕ Stop → Result LineAnswer Stop
@@ -66,13 +66,13 @@ change_result change (Err stop) = Err stop
 
 -- ---- the shared state
 
--- The controls that aren't named as broken count. The volumes that are named are of controls, and no two are alike.
+-- The controllers that aren't named as broken count. The volumes that are named are of controllers, and no two are alike.
 pub record ControlsCount (names : Naming) (group : Group) : Type 0 where
   pub counted : (k : ℕ) → k < length group.controls → is_broken k names ≡ false → IsTrue (counts (control_at group k).phase)
   pub below : (v : NamedVolume) → Contains names.primaries v → v.control < length group.controls
   pub apart : IsTrue (none_alike names.primaries)
 
--- the shared state once a line's change was taken over, with the rows before its command and behind the suspensions that follow it
+-- the shared state once a line's change was taken over, with the rows before its command and after the suspensions that follow it
 abbrev pub group_taken : Result Change Refusal → (before after : List PairRow) → Group → Group
 group_taken (Ok change) before after s = after_calls (calls_of_change change s before after) s
 group_taken (Err why) before after s = s
@@ -87,9 +87,9 @@ pub record IsDoneFrom (names : Naming) (line : Line) (change : Change) (was site
   pub told : hit_now was.failed was.told ≡ []
   pub same : was.told ≡ was.table.rows
   pub done : answer names was.table line.session line.command ≡ Ok change
-  pub site_is : site ≡ behind_command names line.session line.command line.time.0 change was
+  pub site_is : site ≡ after_command names line.session line.command line.time.0 change was
 
--- A change is to be logged at the time of its line: its site is the one behind the command, to which it came.
+-- A change is to be logged at the time of its line: its site is the one after the command, to which it came.
 pub record MayLogChange (tells : Type 0) (names : Naming) (line : Line) (change : Change) (before : List PairRow) (site : SiteState) (plant : PlantState) : Type 0 where
   pub was : SiteState
   pub may : MayCommandSite tells names plant was
@@ -100,9 +100,9 @@ pub record MayLogChange (tells : Type 0) (names : Naming) (line : Line) (change 
   pub rules : AreRowsSound site.table.rows
   pub to_log : IsToLog change site
 
--- A site behind calls that leave its time, its level and its mark's flag, and log no group. Any command may come, and the table has these flags and
+-- A site after calls that leave its time, its level and its mark's flag, and log no group. Any command may come, and the table has these flags and
 -- the rows that the devices tell.
-pub record IsSiteBehind (tells : Type 0) (names : Naming) (old new : SiteState) (plant : PlantState) : Type 0 where
+pub record IsSiteAfter (tells : Type 0) (names : Naming) (old new : SiteState) (plant : PlantState) : Type 0 where
   pub may : MayCommandSite tells names plant new
   pub controls : new.controls ≡ old.controls
   pub level : new.level ≡ old.level
@@ -111,7 +111,7 @@ pub record IsSiteBehind (tells : Type 0) (names : Naming) (old new : SiteState) 
   pub flag : new.mark.ended ≡ old.mark.ended
   pub marked : old.since ≡ 0 → new.since ≡ 0
 
--- A site behind the command of a line, which was answered so. The table is the one after the command, but for rows that were hit. An end that is
+-- A site after the command of a line, which was answered so. The table is the one after the command, but for rows that were hit. An end that is
 -- accepted leaves the rows, and no volume is written for it.
 pub record IsSiteCommanded (tells : Type 0) (names : Naming) (line : Line) (answered : Result Change Refusal) (old new : SiteState) (plant : PlantState) : Type 0 where
   pub answer_is : answered ≡ answer names old.table line.session line.command
@@ -125,7 +125,7 @@ pub record IsSiteCommanded (tells : Type 0) (names : Naming) (line : Line) (answ
   pub same : old.table.is_ended ≡ true → new ≡ old
   pub at_end : IsTrue (is_end_accepted answered) → (new.told ≡ old.told) × (new.written ≡ old.written)
 
--- A site behind a mark, by which the session ends or goes on. No record stands behind the mark. A command may come if one could before.
+-- A site after a mark, by which the session ends or goes on. No record stands after the mark. A command may come if one could before.
 pub record IsMarkedSite (tells : Type 0) (ended : Bool) (old new : SiteState) (plant : PlantState) : Type 0 where
   pub idle : IsSiteIdle tells new plant
   pub told : hit_now new.failed new.told ≡ []
@@ -139,7 +139,7 @@ pub record IsMarkedSite (tells : Type 0) (ended : Bool) (old new : SiteState) (p
   pub empty : new.at ≡ new.mark.at
   pub commands : (names : Naming) → MayDo names old → MayDo names new
 
--- A site behind a line: behind its command, and behind the mark of an end that it accepts.
+-- A site after a line: after its command, and after the mark of an end that it accepts.
 pub record IsSiteAnswered (tells : Type 0) (names : Naming) (line : Line) (answered : Result Change Refusal) (old new : SiteState) (plant : PlantState) : Type 0 where
   pub answer_is : answered ≡ answer names old.table line.session line.command
   pub may : MayCommandSite tells names plant new
@@ -171,7 +171,7 @@ pub record MayAnswer (run : ScriptRun) (stage : Stage) (line : Line) (asked : Li
 
 -- ---- a mark in a run
 
--- A mark may come at a leg: on the way; or as the end of the session, behind the command of an end that is accepted.
+-- A mark may come at a leg: on the way; or as the end of the session, after the command of an end that is accepted.
 pub data IsMarkedAt (run : ScriptRun) (stage : Stage) (asked : LinesAsked) (l : Leg) : (ended : Bool) → Type 0 where
   IsOnWay : stage.next ≡ None → IsLegOf run stage l → l.point.time ≡ stage.replied → IsAtWork run asked l → IsMarkedAt run stage asked l false
   IsAtEnd : (number : ℕ) (before : Leg) (hits : List Timed) → IsLegOf run stage before → asked number ≡ stage.next → IsCommanding run stage.next before l.point hits → l ≡ leg_by before l.point (Commanded number hits) → IsToEnd number l
@@ -192,7 +192,7 @@ pub record HasMarked (run : ScriptRun) (l : Leg) (site : SiteState) (began now :
   pub shows : AtNow (ShowsPoint run (shape_of now) l.point) now
   pub counted : AreHitsOfFaults l began now
 
--- the way of a mark, with hits in it: on the way, or as the end behind the command of a line
+-- the way of a mark, with hits in it: on the way, or as the end after the command of a line
 abbrev pub way_of_mark : (ended : Bool) → (line : ℕ) → (hits : List Timed) → Way
 way_of_mark false line hits = OnTheWay hits
 way_of_mark true line hits = Ending line hits
@@ -205,21 +205,21 @@ EndsMark run stage asked l ended site began old new (Err stop) = BeginsToPass ru
 
 -- ---- how a command ends
 
--- the stage behind a line whose command was done at a leg, before these hits; its texts don't count
+-- the stage after a line whose command was done at a leg, before these hits; its texts don't count
 abbrev pub stage_then : ScriptRun → Stage → Line → Leg → (hits : List Timed) → Stage
 stage_then run stage line l hits = stage_after stage (answered_by run stage [] [] line l.changes hits)
 
--- These points answer the line with a number: its command, behind a mark that its record needs first, and before the mark by which an accepted end
--- ends the session. The hits are those behind the command.
+-- These points answer the line with a number: its command, after a mark that its record needs first, and before the mark by which an accepted end
+-- ends the session. The hits are those after the command.
 pub data AreOfCommand (number : ℕ) (hits : List Timed) : List PassedPoint → Type 0 where
   OfCommand : (n : PassedPoint) → n.way ≡ Commanded number hits → AreOfCommand number hits (n ∷ [])
   OfEnd : (n m : PassedPoint) (own more : List Timed) → n.way ≡ Commanded number own → m.way ≡ Ending number more → hits ≡ own ++ more → AreOfCommand number hits (n ∷ m ∷ [])
-  BehindMark : (n : PassedPoint) (points : List PassedPoint) → (n.way ≡ OnTheWay []) ⊎ ((marked : List Timed) × (n.way ≡ MarkedFor number marked)) → AreOfCommand number hits points → AreOfCommand number hits (n ∷ points)
+  AfterMark : (n : PassedPoint) (points : List PassedPoint) → (n.way ≡ OnTheWay []) ⊎ ((marked : List Timed) × (n.way ≡ MarkedFor number marked)) → AreOfCommand number hits points → AreOfCommand number hits (n ∷ points)
 
--- The command of a line was done or refused behind these points, at a leg whose changes it finds, and what it changes is logged with hits behind it.
---   at: the session stands at the stage behind the line
+-- The command of a line was done or refused after these points, at a leg whose changes it finds, and what it changes is logged with hits after it.
+--   at: the session stands at the stage after the line
 --   ending: or the command is an end that is accepted, and its mark may come
---   unhit: behind a line that is answered with a report no hit stands
+--   unhit: after a line that is answered with a report no hit stands
 --   wants: a resume wants the tracks that the row owed
 pub record HasCommanded (run : ScriptRun) (stage : Stage) (line : Line) (asked : LinesAsked) (l : Leg) (first : Point) (points more : List PassedPoint) (answered : LineAnswer) (site : SiteState) (began now : PlantState) (group : Option Group) : Type 0 where
   pub hits : List Timed
@@ -227,7 +227,7 @@ pub record HasCommanded (run : ScriptRun) (stage : Stage) (line : Line) (asked :
   pub at : site.mark.ended ≡ site.table.is_ended → StandsAtLeg run (stage_then run stage line l hits) (fold leg_after l more) site began now
   pub ending : site.table.is_ended ≡ true → site.mark.ended ≡ false → MayEndBy run stage asked (fold leg_after l more) true site began now
   pub unhit : IsTrue (is_reported run (table_on_the_way run.level l.changes stage.table) line) → hits ≡ []
-  pub tells : (text reply : List ℕ) → TellsAnswer line (reply_content run stage first (points ++ more) l.answered (answered_by run stage text reply line l.changes hits)) answered
+  pub tells : (text reply : List ℕ) → SaysAnswer line (reply_content run stage first (points ++ more) l.answered (answered_by run stage text reply line l.changes hits)) answered
   pub goes_on : site.table.is_ended ≡ false → IsSomeAnd group (GoesOnFrom run first (points ++ more) site now)
   pub wants : (device : ℕ) → answered.answer ≡ Ok (changes.Resumed device) → site.table.is_ended ≡ false
       → IsSomeAnd group (WantsOwed run first (points_before l.answered (points ++ more)) device (table_on_the_way run.level l.changes stage.table).rows site.told line.time.0)

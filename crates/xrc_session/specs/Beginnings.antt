@@ -19,12 +19,12 @@ use Rattle.mover.specs.Bearing.{RunSoFar, StandsSoFar}
 abbrev pub stage_at_start : ScriptRun → (time : ℕ) → (next : Option Line) → Stage
 stage_at_start run time next = record { table = started_table run.session []; replied = time; past = []; next = next }
 
--- the run so far, behind so many lines: no track is excepted, and no plan is known to be done
+-- the run so far, after so many lines: no track is excepted, and no plan is known to be done
 abbrev pub run_at_start : ScriptRun → Stage → (answered : ℕ) → Sizes → (counts : (device : ℕ) → ℕ) → RunSoFar
 run_at_start run stage answered size counts =
     record { run = run; stage = stage; leg = leg_at stage answered; size = size; counts = counts; excepted = none_excepted; done = λ k v. false }
 
--- A run's session has just started at a time, on a plant that tells its bytes. A new state is shared for it, with a control for each trace.
+-- A run's session has just started at a time, on a plant that tells its bytes. A new state is shared for it, with a controller for each trace.
 pub record HasJustStarted (tells : Type 0) (run : ScriptRun) (time : Stamp) (counts : (device : ℕ) → ℕ) (group : Group) (site : SiteState) (plant : PlantState) : Type 0 where
   pub told : tells
   pub controls : ℕ

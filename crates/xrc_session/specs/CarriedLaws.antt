@@ -24,7 +24,7 @@ use Rattle.fed_logs.specs.Logs.{Sizes}
 use Rattle.fed_logs.specs.Moves.{plans_without}
 use Rattle.site_store.specs.DoneDeeds.{DoesDeeds}
 use Rattle.mover.specs.OwedTracks.{ExceptedAreOwed}
-use Rattle.site_store.specs.Exceptions.{excepted_behind, excepted_by_deed}
+use Rattle.site_store.specs.Exceptions.{excepted_after, excepted_by_deed}
 use Rattle.xrc_session.specs.EpochPauses.{Between, MayAdd, MayBegin, MayForget, MayResume, MaySuspend, StandsBetween, between_after}
 use Rattle.xrc_session.specs.Taking.{IfAdds, IsSoundForRows, MayTake, after_calls, calls_of_change, is_begun, plans_after_calls}
 
@@ -64,10 +64,10 @@ abbrev pub IsWithoutEntries : Deed → Type 0
 IsWithoutEntries deed = entries_by_deed deed ≡ []
 
 -- So do several deeds without an entry, as a mark and the record for which it is made, if the tracks that they except are owed.
-abbrev pub RowsStandBehindDeeds : (old new : PlantState) → Type 0
-RowsStandBehindDeeds old new = (b : Between) (rows : List PairRow) (deeds : List Deed) → StandsBetween old b → DoesDeeds b.excepted rows deeds old new → All IsWithoutEntries deeds
-    → ExceptedAreOwed b.size (excepted_behind rows deeds b.excepted) b.group b.point.rows → (some : (c : Choice) × IsChoice new new.clock c)
-    → StandsBetween new (record b { excepted = excepted_behind rows deeds b.excepted })
+abbrev pub RowsStandAfterDeeds : (old new : PlantState) → Type 0
+RowsStandAfterDeeds old new = (b : Between) (rows : List PairRow) (deeds : List Deed) → StandsBetween old b → DoesDeeds b.excepted rows deeds old new → All IsWithoutEntries deeds
+    → ExceptedAreOwed b.size (excepted_after rows deeds b.excepted) b.group b.point.rows → (some : (c : Choice) × IsChoice new new.clock c)
+    → StandsBetween new (record b { excepted = excepted_after rows deeds b.excepted })
 
 -- ---- a command's change
 
@@ -76,7 +76,7 @@ pub record FitsOn (start : PlantState) (size : Sizes) (r : PairRow) : Type 0 whe
   pub below : IsTrue (nat_lt r.device start.volumes)
   pub sized : size r.control r.volume ≡ tracks_of_row r
 
--- the state behind the calls that a change makes, with the rows after it
+-- the state after the calls that a change makes, with the rows after it
 abbrev pub between_taken : Change → (after : List PairRow) → Between → Between
 between_taken change after b =
     let calls = calls_of_change change b.group b.point.rows after in
@@ -86,16 +86,16 @@ between_taken change after b =
 abbrev pub StandingRowsAreKept : PlantState → Type 0
 StandingRowsAreKept start = (b : Between) → StandsBetween start b → IsSoundForRows b.group b.point.rows
 
--- A command's change that is taken over, with suspensions behind it, leaves that the state stands for the rows after it.
+-- A command's change that is taken over, with suspensions after it, leaves that the state stands for the rows after it.
 abbrev pub TakenRowsStand : PlantState → Type 0
 TakenRowsStand start = (b : Between) (change : Change) (after : List PairRow) → StandsBetween start b → IsSoundForRows b.group b.point.rows → MayTake b.group change b.point.rows after
     → IfAdds change after (FitsOn start b.size) → StandsBetween start (between_taken change after b)
 
--- The control of a row that a change adds or resumes counts.
+-- The controller of a row that a change adds or resumes counts.
 abbrev pub BegunControlsCount : Group → Change → (rows : List PairRow) → Type 0
 BegunControlsCount s change rows = (r : PairRow) → Contains rows r → is_begun change r.device ≡ true → (r.control < length s.controls) × IsTrue (counts (control_at s r.control).phase)
 
--- A started session's command that is answered with a change, and the hits behind it, make rows that may be taken over. The control of a row that
+-- A started session's command that is answered with a change, and the hits after it, make rows that may be taken over. The controller of a row that
 -- the command adds or resumes has to count.
 abbrev pub CommandsMayBeTaken : Type 0
 CommandsMayBeTaken = (names : Naming) (table : Table) (session : List ℕ) (command : Command) (change : Change) (at : ℕ) (level : Level) (cut : ℕ) (failed : List Bool) (s : Group)

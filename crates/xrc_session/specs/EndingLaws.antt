@@ -9,7 +9,7 @@ use Rattle.consistency.specs.Leads.{Point}
 use Rattle.consistency.specs.Replying.{HasNames, IsExact}
 use Rattle.consistency.specs.Ways.{IsCommanding, IsEnding, IsLegOf, Leg, PassedPoint}
 
--- A line whose command ends the session is answered exactly: its step, with the hits behind the command and those in the mark of the end, and with
+-- A line whose command ends the session is answered exactly: its step, with the hits after the command and those in the mark of the end, and with
 -- the one reply that is due.
 abbrev pub EndingsAreAnsweredExactly : Type 0
 EndingsAreAnsweredExactly = (run : ScriptRun) (s : Stage) (l : Leg) (q r : Point) (hits more : List Timed) (text reply : List ℕ) (first : Point) (points : List PassedPoint) (number : ℕ) → s.table.is_ended ≡ false → IsLegOf run s l

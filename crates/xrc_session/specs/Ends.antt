@@ -19,25 +19,25 @@ use Rattle.xrc_status.specs.declared.stop.Stop.{Stop}
 use Rattle.xrc_status.specs.declared.stop.Stop.TheVariants.{Spent}
 use Rattle.xrc_session.specs.AppliedEnds.{HasEmptyWalk}
 use Rattle.xrc_session.specs.Frames.{ChangesRows, rows_passed}
-use Rattle.xrc_session.specs.LinePauses.{stage_behind}
+use Rattle.xrc_session.specs.LinePauses.{stage_after_text}
 use Rattle.xrc_session.specs.Starting.{AreOwnSpent}
 use Rattle.xrc_session.specs.Stops.{IsStopped}
 use Rattle.xrc_session.specs.Trails.{AreExact, GoesForth, Trail, HasBegunTrail, StandsOnTrail, first_leg}
 
 -- ---- done
 
--- the rows behind the last of these lines
+-- the rows after the last of these lines
 abbrev pub rows_at_end : ScriptRun → List Answered → List PairRow
 rows_at_end run lines = (stage_at run lines (length lines)).table.rows
 
--- Behind the last line no record stands behind the mark. So the slot of each track of a duplex row begins with the image of its primary's track at
+-- After the last line no record stands after the mark. So the slot of each track of a duplex row begins with the image of its primary's track at
 -- the time of the last reply.
 pub record IsApplied (run : ScriptRun) (lines : List Answered) (now : PlantState) : Type 0 where
   pub walk : AtNow (HasEmptyWalk now) now
   pub slots : (place : ℕ) (r : PairRow) → slice_get (rows_at_end run lines) place ≡ Some r → r.state ≡ Duplex → IsBytes (now.bytes (Volume r.device))
       → (x : ℕ) → x < tracks_of_row r → BeginsWithTrack (now.bytes (Volume r.device)) x (Some (primary run.traces (stage_at run lines (length lines)).replied r.control r.volume x))
 
--- Behind the last line rows change by hits alone, at the time of its reply. So where no volume failed since then, they are the last line's rows.
+-- After the last line rows change by hits alone, at the time of its reply. So where no volume failed since then, they are the last line's rows.
 abbrev pub StaysAtLastLine : ScriptRun → List Answered → Trail → Type 0
 StaysAtLastLine run lines trail = (hits : List Timed) × IsTrue (list_all (is_hit_at (stage_at run lines (length lines)).replied) hits) × ((last_point (first_leg run lines trail).point trail.points).rows ≡ after_changes run.level hits (rows_at_end run lines))
 
@@ -56,9 +56,9 @@ pub record IsRunDone (run : ScriptRun) (lines : List Answered) (trail : Trail) (
 
 -- ---- stopped
 
--- A run stopped in the work for a line, behind the answered ones. At a stop for numbers the devices tell that the session's own are spent.
+-- A run stopped in the work for a line, after the answered ones. At a stop for numbers the devices tell that the session's own are spent.
 pub record StopsInLine (run : ScriptRun) (lines : List Answered) (text : List ℕ) (began now : PlantState) (stop : Stop) : Type 0 where
   pub trail : Trail
   pub stopped : IsStopped run lines trail text began now stop
   pub volumes : ChangesRows (rows_passed trail.points) began now
-  pub spent : stop ≡ Spent → AreOwnSpent run (stage_behind run lines text began) began now
+  pub spent : stop ≡ Spent → AreOwnSpent run (stage_after_text run lines text began) began now

@@ -53,7 +53,7 @@ pub record MayBegin (start : PlantState) (b : Between) : Type 0 where
   pub keeps : IsGroupSound b.group
   pub some : (c : Choice) × IsChoice start start.clock c
 
--- the state behind a call, with other rows, and with other plans that are known to be done
+-- the state after a call, with other rows, and with other plans that are known to be done
 abbrev pub between_after : Call → List PairRow → Plans → Between → Between
 between_after call rows done b = record b { group = group_after b.group call; point = record b.point { rows = rows }; done = done }
 
@@ -69,7 +69,7 @@ pub record MaySuspend (b : Between) (r : PairRow) (state : PairState) (all : Boo
 
 -- ---- a row is resumed
 
--- A row of a control that counts becomes pending, and its volume, which is dropped, is carried again.
+-- A row of a controller that counts becomes pending, and its volume, which is dropped, is carried again.
 pub record MayResume (b : Between) (r : PairRow) : Type 0 where
   pub among : Contains b.point.rows r
   pub counted : IsTrue (counts (control_at b.group r.control).phase)
@@ -84,7 +84,7 @@ pub record MayForget (b : Between) (r : PairRow) : Type 0 where
 
 -- ---- a row is added
 
--- A pending row of a control that counts is added. All tracks of its volume, which has the row's, are wanted.
+-- A pending row of a controller that counts is added. All tracks of its volume, which has the row's, are wanted.
 pub record MayAdd (start : PlantState) (b : Between) (r : PairRow) : Type 0 where
   pub apart : IsTrue (none_clash (b.point.rows ++ r ∷ []))
   pub below : IsTrue (are_below start.volumes (b.point.rows ++ r ∷ []))

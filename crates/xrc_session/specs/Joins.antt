@@ -1,4 +1,4 @@
--- Lanes, shared state and rows behind a command's change.
+-- Lanes, shared state and rows after a command's change.
 use Rattle.std.specs.Prelude.{◌≡◌, ◌≤◌, ◌<◌, ℕ, List, [], length, Option, Ok, IsSomeAnd, IsTrue, slice_index_or}
 use Rattle.std.specs.List.{Contains, list_all}
 use Rattle.crash_plant.specs.Moments.{PlantState}
@@ -18,7 +18,7 @@ use Rattle.fed_logs.specs.Logs.{Stand, is_call_of_seat}
 use Rattle.fed_logs.specs.Moves.{MakesAllDeeds, Plans}
 use Rattle.turn_group.specs.Notes.{volumes_known}
 use Rattle.site_store.specs.Changing.{LogsChange, MayChange}
-use Rattle.site_store.specs.Commands.{MayDo, behind_command}
+use Rattle.site_store.specs.Commands.{MayDo, after_command}
 use Rattle.site_store.specs.Sites.{SiteState}
 use Rattle.site_store.specs.Standing.{Leaves}
 use Rattle.xrc_session.specs.Taking.{IfAdds, IsSoundForRows, after_calls, calls_of_change}
@@ -64,7 +64,8 @@ NamedVolumesStay old new = (names : Naming) → AreSameLanes old new → AreName
 
 -- ---- a change that is taken over
 
--- What stays for readers behind the calls of a change: how many controls there are, how far each has told, whether it still tells, and the last cut.
+-- What stays for readers after the calls of a change: how many controllers there are, how far each has reported, whether it still reports, and the
+-- last cut.
 pub record StaysForReaders (old new : Group) : Type 0 where
   pub many : length new.controls ≡ length old.controls
   pub last : new.last ≡ old.last
@@ -74,9 +75,9 @@ pub record StaysForReaders (old new : Group) : Type 0 where
 abbrev pub ChangesStayForReaders : Type 0
 ChangesStayForReaders = (change : Change) (before after : List PairRow) (s : Group) → StaysForReaders s (after_calls (calls_of_change change s before after) s)
 
--- The lanes are the controls' behind a change, if the volume of the row that it adds is one of its lane's header.
-abbrev pub LanesStandBehindChanges : {S : Type 0} → List (Lane S) → Type 0
-LanesStandBehindChanges lanes = (limit : ℕ) (change : Change) (before after : List PairRow) (s : Group) → AreLanesOf s limit lanes → IfAdds change after (IsRowOfLane lanes)
+-- The lanes are the controllers' after a change, if the volume of the row that it adds is one of its lane's header.
+abbrev pub LanesStandAfterChanges : {S : Type 0} → List (Lane S) → Type 0
+LanesStandAfterChanges lanes = (limit : ℕ) (change : Change) (before after : List PairRow) (s : Group) → AreLanesOf s limit lanes → IfAdds change after (IsRowOfLane lanes)
     → AreLanesOf (after_calls (calls_of_change change s before after) s) limit lanes
 
 -- A mover that begins with a state that keeps volumes for rows knows these rows.
@@ -105,18 +106,18 @@ pub record IsTakenOver {P : Type 0} (tells : Type 0) (at : ℕ) (change : Change
   pub kept : IsSoundForRows end next.table.rows
   pub told : hit_now next.failed next.told ≡ []
 
--- A session at rest is at rest again behind a command at its time, whose change is logged and taken over.
-abbrev pub RestsBehindCommands : {S P : Type 0} → (tells : Type 0) → (was is : P) → List (Lane S) → (old new : PlantState) → Type 0
-RestsBehindCommands tells was is lanes old new =
-    (names : Naming) (session : List ℕ) (command : Command) (change : Change) (at : ℕ) (group end : Group) (site next : SiteState) → let changed = behind_command names session command at change site in
+-- A session at rest is at rest again after a command at its time, whose change is logged and taken over.
+abbrev pub RestsAfterCommands : {S P : Type 0} → (tells : Type 0) → (was is : P) → List (Lane S) → (old new : PlantState) → Type 0
+RestsAfterCommands tells was is lanes old new =
+    (names : Naming) (session : List ℕ) (command : Command) (change : Change) (at : ℕ) (group end : Group) (site next : SiteState) → let changed = after_command names session command at change site in
     AreNamedOfLanes lanes names → MayDo names changed → RestsAt tells at lanes group site old → IsTakenOver tells at change site.table.rows group end changed next old new was is
     → RestsAt tells at lanes end next new
 
 -- ---- an epoch
 
--- Rows stand behind a log of calls, whatever the traces are, if all of the mover's calls were kept.
-abbrev pub RowsStandBehindLogs : Type 0
-RowsStandBehindLogs = (s end : Group) (run : List Answer) (time ended : ℕ) (rows last : List PairRow) (done known : Plans) (deeds : List Deed) → IsGroupSound s → Runs s run end → IsTrue (list_all is_call_of_seat run)
+-- Rows stand after a log of calls, whatever the traces are, if all of the mover's calls were kept.
+abbrev pub RowsStandAfterLogs : Type 0
+RowsStandAfterLogs = (s end : Group) (run : List Answer) (time ended : ℕ) (rows last : List PairRow) (done known : Plans) (deeds : List Deed) → IsGroupSound s → Runs s run end → IsTrue (list_all is_call_of_seat run)
     → Stand s rows done → MakesAllDeeds time rows done (part_of_mover run) deeds ended last known → IsGroupSound end × Stand end last known
 
 -- An epoch that reaches its limit comes to rest there, if the shared state kept volumes for the rows before it.

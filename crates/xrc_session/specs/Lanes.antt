@@ -24,7 +24,7 @@ abbrev pub heads_of_reader : Option LaneReaderState → List VolumeHead
 heads_of_reader None = []
 heads_of_reader (Some r) = heads_of r.feed
 
--- the volumes that the headers of the lanes' traces name, from this control on
+-- the volumes that the headers of the lanes' traces name, from this controller on
 abbrev pub primaries_in : {S : Type 0} → (control : ℕ) → List (Lane S) → List NamedVolume
 primaries_in k [] = []
 primaries_in k (lane ∷ lanes) = volumes_named k 0 (heads_of_reader (reader_in lane)) ++ primaries_in (k + 1) lanes
@@ -47,7 +47,7 @@ sizes_of traces = λ k v. tracks_of_volume (slice_get traces k) v
 
 -- ---- reading
 
--- the names once these lanes' controls were named that have broken
+-- the names once these lanes' controllers were named that have broken
 abbrev pub with_lanes_broken : {S : Type 0} → (control : ℕ) → List (Lane S) → Naming → Naming
 with_lanes_broken k [] names = names
 with_lanes_broken k (lane ∷ lanes) names = with_lanes_broken (k + 1) lanes (if is_some (broken_by (reader_in lane)) then with_broken k names else names)
@@ -93,7 +93,7 @@ pub record AllTold {S : Type 0} (left : S → Option (List ℕ)) (faults : S →
 abbrev pub AreTracesGiven : List SourceBytes → List Trace → Type 0
 AreTracesGiven sources traces = map trace_given sources ≡ map (λ t. Ok t) traces
 
--- Lanes that were just opened behind the headers: whatever their sources turn out to give by a later time is the traces of these lanes, if each
+-- Lanes that were just opened after the headers: whatever their sources turn out to give by a later time is the traces of these lanes, if each
 -- lane's reader went on to then.
 abbrev pub TurnOutFrom : {S : Type 0} → (left : S → Option (List ℕ)) → (faults : S → ℕ) → (before opened : List (Lane S)) → Type 0
 TurnOutFrom left faults before opened = (last : _) (sources : List SourceBytes) (traces : List Trace) → AllTold left faults before last sources → AreTracesGiven sources traces → AllWent left faults opened last

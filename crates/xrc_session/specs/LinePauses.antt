@@ -62,7 +62,7 @@ pub record MayCommandSite (tells : Type 0) (names : Naming) (plant : PlantState)
   pub commands : MayDo names site
   pub labels : LabelsFit plant names
 
--- A started session stands between two lines. Once it has ended, no record stands behind the site's mark.
+-- A started session stands between two lines. Once it has ended, no record stands after the site's mark.
 pub record IsAtSite {S : Type 0} (tells : Type 0) (s : SessionState) (lanes : List (Lane S)) (plant : PlantState) (site : SiteState) : Type 0 where
   pub table : s.table ≡ site.table
   pub session : site.table.session ≡ s.session
@@ -75,7 +75,7 @@ pub record IsAtSite {S : Type 0} (tells : Type 0) (s : SessionState) (lanes : Li
   pub ready : site.table.is_ended ≡ false → IsSomeAnd s.group (IsReadyForEpoch tells lanes site plant)
   pub cut : site.table.is_ended ≡ false → IsSomeAnd s.group (HasCut site.time)
 
--- A session that hasn't started has no row, knows no label, and has read nothing behind the headers.
+-- A session that hasn't started has no row, knows no label, and has read nothing after the headers.
 pub record IsUnstarted {S : Type 0} (s : SessionState) (lanes : List (Lane S)) : Type 0 where
   pub table : s.table ≡ new_table s.session
   pub labels : s.names.labels ≡ []
@@ -133,8 +133,8 @@ pub record StandsForSite (run : ScriptRun) (site : SiteState) (group : Group) (n
   pub stands : SiteStands excepted site now
   pub rows : StandsBetween now (record { run = run; size = sizes_of run.traces; excepted = excepted; group = group; point = site_point site; done = done })
 
--- What an epoch goes on from behind points that were passed from a first one on, until the session has ended.
---   broke, come: controls broke as their traces do, and the others will
+-- What an epoch goes on from after points that were passed from a first one on, until the session has ended.
+--   broke, come: controllers broke as their traces do, and the others will
 --   last: the last of the points has the site's rows
 --   maps, maps_rest: suspended rows owe what their maps have, and what maps stand on is there
 pub record GoesOnFrom (run : ScriptRun) (first : Point) (points : List PassedPoint) (site : SiteState) (now : PlantState) (group : Group) : Type 0 where
@@ -152,7 +152,7 @@ pub record StandsAtLeg (run : ScriptRun) (stage : Stage) (l : Leg) (site : SiteS
   pub leg : IsLegOf run stage l
   pub counted : AreHitsOfFaults l began now
 
--- A started session is under way in a run, at a stage behind some lines: its devices have gone to the point of a leg of the stage.
+-- A started session is under way in a run, at a stage after some lines: its devices have gone to the point of a leg of the stage.
 pub record IsUnderWay (run : ScriptRun) (lines : List Answered) (stage : Stage) (trail : Trail) (s : SessionState) (began now : PlantState) (site : SiteState) : Type 0 where
   pub some : 0 < trail.started
   pub started : trail.started ≤ length lines
@@ -165,7 +165,7 @@ pub record IsUnderWay (run : ScriptRun) (lines : List Answered) (stage : Stage) 
 
 -- ---- at rest
 
--- A leg has come to rest behind lines: at the point of the stage, with no change and no mark since.
+-- A leg has come to rest after lines: at the point of the stage, with no change and no mark since.
 pub record HasComeToRest (run : ScriptRun) (lines : List Answered) (l : Leg) : Type 0 where
   pub point : l.point ≡ stage_point (stage_at run lines (length lines))
   pub changes : l.changes ≡ []
@@ -173,7 +173,7 @@ pub record HasComeToRest (run : ScriptRun) (lines : List Answered) (l : Leg) : T
   pub answered : l.answered ≡ length lines
   pub not_ending : is_ending run (asked_with lines None) l ≡ false
 
--- A started session rests behind its lines. Until it has ended, its names are those at its time.
+-- A started session rests after its lines. Until it has ended, its names are those at its time.
 pub record RestsAtSite (run : ScriptRun) (lines : List Answered) (stage : Stage) (trail : Trail) (s : SessionState) (began now : PlantState) (site : SiteState) : Type 0 where
   pub under_way : IsUnderWay run lines stage trail s began now site
   pub rest : HasComeToRest run lines (last_leg run lines trail)
@@ -188,23 +188,23 @@ pub record HasNotBegun (trail : Trail) (began now : PlantState) : Type 0 where
   pub points : trail.points ≡ []
   pub devices : LeavesAll began now
 
--- What a session has come to in a run behind its lines, at a stage there: its table is the stage's. Of the volumes only slots of its points' rows
+-- What a session has come to in a run after its lines, at a stage there: its table is the stage's. Of the volumes only slots of its points' rows
 -- were written.
-pub record StandsBehindLines (run : ScriptRun) (lines : List Answered) (stage : Stage) (trail : Trail) (s : SessionState) (began now : PlantState) : Type 0 where
+pub record StandsAfterLines (run : ScriptRun) (lines : List Answered) (stage : Stage) (trail : Trail) (s : SessionState) (began now : PlantState) : Type 0 where
   pub its : IsRunOfSession s run
   pub table : stage.table ≡ s.table
   pub volumes : ChangesRows (rows_passed trail.points) began now
   pub place : MatchOption s.site (HasNotBegun trail began now) (RestsAtSite run lines stage trail s began now)
 
--- the stage behind lines where this was heard of the next one
-abbrev pub stage_behind : ScriptRun → List Answered → (text : List ℕ) → (began : PlantState) → Stage
-stage_behind run lines text began = stage_now run began.script lines text
+-- the stage after lines where this was heard of the next one
+abbrev pub stage_after_text : ScriptRun → List Answered → (text : List ℕ) → (began : PlantState) → Stage
+stage_after_text run lines text began = stage_now run began.script lines text
 
--- A session has answered these lines in a run since a plant's state, each exactly, has heard so much of the next one, and stands behind them. Its
--- lanes have broken as their traces do below its time. Behind a line behind which it has ended all stays applied.
+-- A session has answered these lines in a run since a plant's state, each exactly, has heard so much of the next one, and stands after them. Its
+-- lanes have broken as their traces do below its time. After a line after which it has ended all stays applied.
 pub record HasAnswered {S : Type 0} (run : ScriptRun) (lines : List Answered) (trail : Trail) (text : List ℕ) (s : SessionState) (lanes : List (Lane S)) (began now : PlantState) : Type 0 where
   pub goes : RunGoesOn run lines text began now
   pub exact : AreExact run lines trail
-  pub stands : StandsBehindLines run lines (stage_behind run lines text began) trail s began now
+  pub stands : StandsAfterLines run lines (stage_after_text run lines text began) trail s began now
   pub broke : LanesBrokeAs (session_time s) run.traces lanes
   pub applied : StaysApplied run lines began now

@@ -38,7 +38,7 @@ pub record IsStartAnswered (site : Option SiteState) (at : ℕ) (answered : Line
   pub tracks : answered.tracks ≡ 0
   pub time : IsSomeAnd site (λ site. site.time ≡ at)
 
--- Name and controls stay.
+-- Name and controllers stay.
 pub record IsSameSession (old new : SessionState) : Type 0 where
   pub session : new.session ≡ old.session
   pub controls : new.controls ≡ old.controls
@@ -74,7 +74,7 @@ pub record StandsStartedAt {S : Type 0} (run : ScriptRun) (s : SessionState) (la
 -- ---- at the end
 
 -- A session stands so that its run may be finished: it hasn't started, or nothing waits on its site. Once it has ended the journal has no record
--- behind the mark.
+-- after the mark.
 pub record MayFinish (tells : Type 0) (s : SessionState) (plant : PlantState) : Type 0 where
   pub home : NoneLent plant
   pub unstarted : s.site ≡ None → s.table.is_started ≡ false

@@ -1,4 +1,4 @@
--- What is mapped of volumes that are dropped, by the traces of their controls.
+-- What is mapped of volumes that are dropped, by the traces of their controllers.
 use Rattle.std.specs.Prelude.{◌≡◌, ◌⊎◌, ℕ, ◌<◌, ◌&&◌, ◌||◌, List, [], ◌∷◌, length, Bool, true, false, Some, None, nat_lt, nat_le, slice_get, IsTrue}
 use Rattle.std.specs.List.{list_all, list_any}
 use Rattle.tod_stamp.specs.declared.stamp.Stamp.{Stamp}
@@ -7,7 +7,7 @@ use Rattle.pair_table.specs.declared.row.PairState.TheVariants.{Suspended}
 use Rattle.pair_table.specs.declared.row.SuspendCause.{SuspendCause}
 use Rattle.pair_table.specs.Rows.{is_suspended}
 use Rattle.pair_table.specs.Tables.{none_clash}
-use Rattle.record_rows.specs.Deeds.{Deed, rows_behind, rows_by_deed, time_by_deed}
+use Rattle.record_rows.specs.Deeds.{Deed, rows_after_deeds, rows_by_deed, time_by_deed}
 use Rattle.pair_table.specs.States.{is_by_device}
 use Rattle.record_rows.specs.ToldRows.{InPlaces}
 use Rattle.change_map.specs.Sets.{has_track}
@@ -28,11 +28,11 @@ use Rattle.fed_logs.specs.ToldTracks.{HeldTracks, floor_of}
 use Rattle.mover.specs.Dropping.{owed_by_calls, stood_duplex}
 use Rattle.mover.specs.Moves.{KeepsPair, LogsEntriesOf}
 
--- whether a trace has a write on a track of a volume behind one time, up to another
+-- whether a trace has a write on a track of a volume after one time, up to another
 abbrev pub has_write_between : Trace → (volume track from to : ℕ) → Bool
 has_write_between t v x from to = list_any (λ w. is_on v x w && (nat_lt from w.stamp.0 && nat_le w.stamp.0 to)) (writes_of t.entries)
 
--- whether the map of a control's volume has a track
+-- whether the map of a controller's volume has a track
 abbrev pub maps_track : (volume track : ℕ) → ControlState → Bool
 maps_track v x c = passes (λ u. has_track u.map x) (volume_of v c.volumes)
 
@@ -76,26 +76,26 @@ pub record BecomesAt (time : ℕ) (r s : PairRow) : Type 0 where
   pub keeps : KeepsPair r s
   pub since : (cause : SuspendCause) (at : Stamp) → s.state ≡ Suspended cause at → (s.state ≡ r.state) ⊎ (at.0 ≡ time)
 
--- So does each of these deeds in each place, at the time that is meant behind it.
+-- So does each of these deeds in each place, at the time that is meant after it.
 abbrev pub RowsGo : (time : ℕ) → List PairRow → List Deed → Type 0
 RowsGo time rows [] = Unit {0}
 RowsGo time rows (deed ∷ deeds) = InPlaces (BecomesAt (time_by_deed time deed)) rows (rows_by_deed deed) × RowsGo (time_by_deed time deed) (rows_by_deed deed) deeds
 
--- At rest the last cut is the time that is meant, and each control that counts has told up to it.
+-- At rest the last cut is the time that is meant, and each controller that counts has reported up to it.
 pub record RestsAtCut (s : Group) (time : ℕ) : Type 0 where
   pub cut : s.last.0 ≡ time
   pub told : (k : ℕ) → k < length s.controls → IsTrue (counts (control_at s k).phase) → floor_of s k ≡ time
 
--- A row is live before deeds. It stands duplex before them or behind one of them, and is suspended behind all, but not by its device.
+-- A row is live before deeds. It stands duplex before them or after one of them, and is suspended after all, but not by its device.
 pub record IsSuspendedBy (rows : List PairRow) (deeds : List Deed) (place : ℕ) (r z : PairRow) (cause : SuspendCause) (since : Stamp) : Type 0 where
   pub was : slice_get rows place ≡ Some r
-  pub is : slice_get (rows_behind deeds rows) place ≡ Some z
+  pub is : slice_get (rows_after_deeds deeds rows) place ≡ Some z
   pub live : is_suspended r.state ≡ false
   pub stood : stood_duplex place rows deeds ≡ true
   pub suspended : z.state ≡ Suspended cause since
   pub whole : is_by_device cause ≡ false
 
--- A row is suspended in a log behind which its control counts, and its volume, which was carried, is dropped there without all of its tracks.
+-- A row is suspended in a log after which its controller counts, and its volume, which was carried, is dropped there without all of its tracks.
 -- Then its map has the tracks that are written from the row's suspension on.
 abbrev pub MapsBegin : Type 0
 MapsBegin = (size : Sizes) (traces : List Trace) (held : HeldTracks) (s end : Group) (run : List Answer) (time ended : ℕ) (rows last : List PairRow) (done known : Plans) (deeds : List Deed)

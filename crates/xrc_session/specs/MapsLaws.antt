@@ -23,7 +23,7 @@ use Rattle.xrc_session.specs.MapsOwed.{HasCutOrNoRow, HaveRowsOf, MapsOwed, Maps
 
 -- ---- an epoch
 
--- An epoch of a run reached its limit, from a state that stands for the site's rows, and whose controls broke as the run's traces do.
+-- An epoch of a run reached its limit, from a state that stands for the site's rows, and whose controllers broke as the run's traces do.
 pub record ReachesLimit {S : Type 0} (tells : Type 0) (left : S → Option (List ℕ)) (faults : S → ℕ) (limit : ℕ) (run : ScriptRun) (group next : Group) (old new : List (Lane S)) (site after : SiteState) (was is : PlantState) : Type 0 where
   pub goes : EpochGoes tells left faults limit group old new site after was is (ends.Reached next)
   pub reached : ReachedBy tells left limit group old new site next after is
@@ -41,9 +41,9 @@ pub record ReachesLimit {S : Type 0} (tells : Type 0) (left : S → Option (List
   pub apart : IsTrue (none_clash site.told)
   pub carried : CarriedAsLive group site.told
 
--- Where the maps have what rows owe, they do so behind such an epoch, at the points that its deeds pass.
-abbrev pub MapsOwedBehindEpochs : {S : Type 0} → (tells : Type 0) → (left : S → Option (List ℕ)) → (faults : S → ℕ) → (was is : PlantState) → Type 0
-MapsOwedBehindEpochs {S} tells left faults was is =
+-- Where the maps have what rows owe, they do so after such an epoch, at the points that its deeds pass.
+abbrev pub MapsOwedAfterEpochs : {S : Type 0} → (tells : Type 0) → (left : S → Option (List ℕ)) → (faults : S → ℕ) → (was is : PlantState) → Type 0
+MapsOwedAfterEpochs {S} tells left faults was is =
     (limit : ℕ) (run : ScriptRun) (group next : Group) (old new : List (Lane S)) (site after : SiteState) (first : Point) (points more : List PassedPoint) → (e : ReachesLimit tells left faults limit run group next old new site after was is)
     → LogsEntriesOf site.told (deeds_of e.goes.ran.steps) → HaveRowsOf more (deeds_of e.goes.ran.steps) → (last_point first points).rows ≡ site.told → MapsRest (point_of site) group → HasCutOrNoRow site.time site.told group
     → MapsOwed run first points (point_of site) group

@@ -12,7 +12,7 @@ use Rattle.group_state.specs.Controls.{counts}
 use Rattle.group_state.specs.Groups.{Group, control_at}
 use Rattle.group_state.specs.Runs.{Answer}
 use Rattle.group_state.specs.Volumes.{passes, volume_of}
-use Rattle.record_rows.specs.Deeds.{Deed, rows_by_deed, time_meant_behind}
+use Rattle.record_rows.specs.Deeds.{Deed, rows_by_deed, time_meant_after}
 use Rattle.passages.specs.Points.{last_point}
 use Rattle.consistency.specs.Stages.{ScriptRun, tracks_of_row}
 use Rattle.consistency.specs.Leads.{Point}
@@ -27,7 +27,7 @@ use Rattle.mover.specs.OwedTracks.{CarriedAsLive}
 use Rattle.mover.specs.Moves.{LogsEntriesOf}
 use Rattle.xrc_session.specs.Maps.{AreMapsSound, RestsAtCut, RowsGo}
 
--- The map of each suspended row's volume, if its control counts, has exactly the tracks that the row owes at a point's time.
+-- The map of each suspended row's volume, if its controller counts, has exactly the tracks that the row owes at a point's time.
 abbrev pub MapsOwed : ScriptRun → (first : Point) → List PassedPoint → Point → Group → Type 0
 MapsOwed run first points p group = (r : PairRow) → Contains p.rows r → is_suspended r.state ≡ true → IsTrue (counts (control_at group r.control).phase)
     → (x : ℕ) → x < tracks_of_row r → passes (λ u. has_track u.map x) (volume_of r.volume (control_at group r.control).volumes) ≡ owes_track run first points r p.time x
@@ -59,9 +59,9 @@ pub record DeedsLeadTo (run : ScriptRun) (size : Sizes) (held : HeldTracks) (s e
   pub go : RowsGo p.time p.rows deeds
   pub entries : LogsEntriesOf p.rows deeds
   pub owed : OwesExactly p.rows q.rows (part_of_mover log) deeds
-  pub times : (n : ℕ) → n ≤ length deeds → time_meant_behind (take n deeds) p.time ≤ q.time
+  pub times : (n : ℕ) → n ≤ length deeds → time_meant_after (take n deeds) p.time ≤ q.time
 
--- Points are passed by deeds: their rows are those that are meant behind these.
+-- Points are passed by deeds: their rows are those that are meant after these.
 abbrev pub HaveRowsOf : List PassedPoint → List Deed → Type 0
 HaveRowsOf points deeds = map (λ n. n.point.rows) points ≡ map rows_by_deed deeds
 
@@ -69,8 +69,9 @@ HaveRowsOf points deeds = map (λ n. n.point.rows) points ≡ map rows_by_deed d
 abbrev pub HasCutOrNoRow : (time : ℕ) → List PairRow → Group → Type 0
 HasCutOrNoRow time rows s = (s.last.0 ≡ time) ⊎ (rows ≡ [])
 
--- Where the maps have what rows owe, they do so behind a log that leads to another point, once the controls that count have told up to its time.
-abbrev pub MapsOwedBehindLogs : Type 0
-MapsOwedBehindLogs = (run : ScriptRun) (size : Sizes) (held : HeldTracks) (s end : Group) (log : List Answer) (first : Point) (points more : List PassedPoint) (p q : Point) (done known : Plans) (deeds : List Deed)
+-- Where the maps have what rows owe, they do so after a log that leads to another point, once the controllers that count have reported up to its
+-- time.
+abbrev pub MapsOwedAfterLogs : Type 0
+MapsOwedAfterLogs = (run : ScriptRun) (size : Sizes) (held : HeldTracks) (s end : Group) (log : List Answer) (first : Point) (points more : List PassedPoint) (p q : Point) (done known : Plans) (deeds : List Deed)
     → DeedsLeadTo run size held s end log p q done known deeds → (last_point first points).rows ≡ p.rows → HaveRowsOf more deeds → MapsRest p s → HasCutOrNoRow p.time p.rows s → RestsAtCut end q.time → MapsOwed run first points p s
     → MapsOwed run first (points ++ more) q end × MapsRest q end

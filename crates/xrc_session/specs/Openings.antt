@@ -28,11 +28,11 @@ use Rattle.xrc_session.specs.Lanes.{AllTold, AllWent, SourceBytes, trace_given}
 
 -- ---- the site
 
--- There are as many traces as the session has controls, and as many journals and volumes as a site has; one volume at least.
+-- There are as many traces as the session has controllers, and as many journals and volumes as a site has; one volume at least.
 abbrev pub has_site_numbers : (controls traces : ℕ) → PlantState → Bool
 has_site_numbers controls traces plant = traces == controls && (nat_le FEWEST_JOURNALS plant.journals && nat_le plant.journals MOST_JOURNALS) && (nat_le 1 plant.volumes && nat_le plant.volumes MOST_SITE_VOLUMES)
 
--- how many bytes a device needs in a session of so many controls; a volume's are no matter of its opening
+-- how many bytes a device needs in a session of so many controllers; a volume's are no matter of its opening
 abbrev pub session_need : (controls : ℕ) → Device → ℕ
 session_need controls Control = CONTROL_LENGTH
 session_need controls State = STATE_LENGTH
@@ -72,7 +72,7 @@ stop_of_header k (header.BadHeader place) = BadHeader k place
 stop_of_header k header.HeaderFault = HeaderFault k
 stop_of_header k header.NoMemory = NoMemory
 
--- The stop by the headers of traces, from this control on, if there is one: the first header that leaves its form, is cut, or names a serial
+-- The stop by the headers of traces, from this controller on, if there is one: the first header that leaves its form, is cut, or names a serial
 -- that an earlier one names.
 abbrev pub stop_of_headers : (control : ℕ) → (named : List (List ℕ)) → List SourceBytes → Option Stop
 stop_of_headers k named [] = None
@@ -113,27 +113,27 @@ pub record OpensInOrder {S T : Type 0} (left : S → Option (List ℕ)) (faults 
 
 -- ---- in the work for headers
 
--- Headers stop a call exactly by the first of them that stops a run, from this control on, or it stops for want of memory.
+-- Headers stop a call exactly by the first of them that stops a run, from this controller on, or it stops for want of memory.
 pub record StopsByHeaders {S T : Type 0} (left : S → Option (List ℕ)) (faults : S → ℕ) (control : ℕ) (named : List (List ℕ)) (before now : List (Lane S)) (result : Result T Stop) : Type 0 where
   pub due : (sources : List SourceBytes) (stop : Stop) → AllTold left faults before now sources → stop_of_headers control named sources ≡ Some stop → IsErrOf result stop ⊎ IsErrOf result NoMemory
   pub stops : (sources : List SourceBytes) (stop : Stop) → AllTold left faults before now sources → IsErrOf result stop → (stop ≡ NoMemory) ⊎ (stop_of_headers control named sources ≡ Some stop)
 
--- A stop is one of a control's header.
+-- A stop is one of a controller's header.
 abbrev pub IsOfControl : (control : ℕ) → Stop → Type 0
 IsOfControl k stop = ((place : ℕ) × (stop ≡ BadHeader k place)) ⊎ (stop ≡ HeaderFault k)
 
--- The serials that were named are those of the names' volumes, which are of the controls below this one.
+-- The serials that were named are those of the names' volumes, which are of the controllers below this one.
 pub record AreSerialsNamed (control : ℕ) (named : List (List ℕ)) (names : Naming) : Type 0 where
   pub serials : named ≡ map (λ v. v.serial) names.primaries
   pub below : IsTrue (list_all (λ v. nat_lt v.control control) names.primaries)
   pub apart : IsTrue (none_alike names.primaries)
 
--- The volumes of a control may be named: none of their serials was.
+-- The volumes of a controller may be named: none of their serials was.
 pub record NamesApart (control : ℕ) (volumes : List VolumeHead) (named : List (List ℕ)) (names : Naming) : Type 0 where
   pub are : AreSerialsNamed control named names
   pub new : first_named_again named 0 volumes ≡ None
 
--- A lane's header was read, its volumes were named, and the lane has its reader, which has read nothing behind the header. Its source was told so.
+-- A lane's header was read, its volumes were named, and the lane has its reader, which has read nothing after the header. Its source was told so.
 pub record OpensLane {S : Type 0} (left : S → Option (List ℕ)) (faults : S → ℕ) (control : ℕ) (named : List (List ℕ)) (names : Naming) (before opened : Lane S) (named_now : List (List ℕ)) (names_now : Naming) : Type 0 where
   pub head : Header
   pub side : SidefileState
@@ -148,7 +148,7 @@ pub record OpensLane {S : Type 0} (left : S → Option (List ℕ)) (faults : S �
   pub names_are : names_now ≡ record names { primaries = names.primaries ++ volumes_named control 0 head.volumes }
   pub named_are : named_now ≡ named ++ serials_in_header head.volumes
 
--- Each lane has its reader, of its control, which has read nothing behind the header.
+-- Each lane has its reader, of its controller, which has read nothing after the header.
 pub record AreLanesOpened {S : Type 0} (left : S → Option (List ℕ)) (faults : S → ℕ) (before opened : List (Lane S)) : Type 0 where
   pub many : length opened ≡ length before
   pub each : (k : ℕ) (d : Lane S) → k < length opened → IsSomeAnd (reader_in (slice_index_or opened k d)) (λ r. (r.feed.side.control ≡ k) × (r.feed.halted ≡ None) × (r.feed.side.upto ≡ 0) × (r.feed.primary.time ≡ 0))

@@ -23,7 +23,7 @@ use Rattle.xrc_session.specs.declared.answering.LineAnswer.{LineAnswer}
 abbrev pub cause_in : Option LaneReaderState → Option Cause
 cause_in reader = option_map (λ b. b.1) (broken_by reader)
 
--- for each control in order, why its trace broke, if it has
+-- for each controller in order, why its trace broke, if it has
 abbrev pub causes_in : {S : Type 0} → List (Lane S) → List (Option Cause)
 causes_in lanes = map (λ lane. cause_in (reader_in lane)) lanes
 
@@ -37,14 +37,14 @@ abbrev pub report_in : Option SiteState → List (Option Cause) → List ℕ
 report_in None causes = []
 report_in (Some site) causes = report_text site.table site.level site.time causes
 
--- the session's time, which a reply tells from the start on
-abbrev pub time_told : Option SiteState → Option Stamp
-time_told site = option_map (λ s. stamp s.time) site
+-- the session's time, which a reply says from the start on
+abbrev pub time_said : Option SiteState → Option Stamp
+time_said site = option_map (λ s. stamp s.time) site
 
 -- the reply to a line that was answered so
 abbrev pub reply_composed : {S : Type 0} → Option SiteState → List (Lane S) → Line → LineAnswer → List ℕ
 reply_composed site lanes line answered =
-    report_in (reported_site site line.command answered.answer) (causes_in lanes) ++ reply_line line.time.0 line.command answered.answer answered.tracks (time_told site)
+    report_in (reported_site site line.command answered.answer) (causes_in lanes) ++ reply_line line.time.0 line.command answered.answer answered.tracks (time_said site)
 
 -- the level of a start that was done
 abbrev pub level_in : Result Change Refusal → Command → Option Level

@@ -21,7 +21,7 @@ use Rattle.mover.specs.Moves.{most_faults}
 use Rattle.xrc_session.specs.AppliedEnds.{StaysApplied}
 use Rattle.xrc_session.specs.LinePauses.{HasAnswered, IsRunOver}
 use Rattle.xrc_session.specs.States.{SessionState}
-use Rattle.xrc_session.specs.Stops.{IsStopBehindEnd}
+use Rattle.xrc_session.specs.Stops.{IsStopAfterEnd}
 use Rattle.xrc_session.specs.Lanes.{AllTold, AreTracesGiven, SourceBytes}
 use Rattle.xrc_session.specs.Openings.{opening_stop}
 use Rattle.xrc_session.specs.Trails.{Trail}
@@ -54,7 +54,7 @@ pub record AreLabelsRead (old new : PlantState) (labels : List NamedDevice) : Ty
   pub are : AreLabels old new 0 labels
   pub faultless : All (IsFaultless old new) labels
 
--- A volume was named by its label, behind others. If it gave one, its count is as before.
+-- A volume was named by its label, after others. If it gave one, its count is as before.
 pub record NamesLabel (old new : PlantState) (device : ℕ) (names named : Naming) : Type 0 where
   pub labels : List NamedDevice
   pub gives : GivesLabel old new device labels
@@ -71,22 +71,22 @@ pub record IsRunOfScript (session : List ℕ) (sources : List SourceBytes) (old 
 
 -- ---- a bad line
 
--- What was heard behind the answered lines is no line that counts: it is too long, outside the grammar, before the last one's time, or number
+-- What was heard after the answered lines is no line that counts: it is too long, outside the grammar, before the last one's time, or number
 -- 100,001.
-abbrev pub IsBadBehind : (tells : Type 0) → List Answered → (text left : List ℕ) → Type 0
-IsBadBehind tells lines text left = IsNextLine tells (length lines + 1) (last_line_time lines (length lines)) text left Bad
+abbrev pub IsBadAfter : (tells : Type 0) → List Answered → (text left : List ℕ) → Type 0
+IsBadAfter tells lines text left = IsNextLine tells (length lines + 1) (last_line_time lines (length lines)) text left Bad
 
--- A run stopped behind its lines. The stop is that of a bad line exactly if one was heard, with its number. A last line without a line feed is heard
--- only once the script's end was told, which the console may fail to do. Behind a line behind which the session has ended all stays applied,
+-- A run stopped after its lines. The stop is that of a bad line exactly if one was heard, with its number. A last line without a line feed is heard
+-- only once the script's end was told, which the console may fail to do. After a line after which the session has ended all stays applied,
 -- and no device stops the run.
 pub record StopsAtLine (tells : Type 0) (run : ScriptRun) (lines : List Answered) (text : List ℕ) (began now : PlantState) (stop : Stop) : Type 0 where
   pub stops : StopsInLine run lines text began now stop
-  pub bad : IsBadBehind tells lines text now.script → (stop ≡ BadLine (length lines + 1)) ⊎ ((stop ≡ ConsoleFault) × (has_feed text ≡ false))
-  pub of_bad : (n : ℕ) → stop ≡ BadLine n → (n ≡ length lines + 1) × IsBadBehind tells lines text now.script
+  pub bad : IsBadAfter tells lines text now.script → (stop ≡ BadLine (length lines + 1)) ⊎ ((stop ≡ ConsoleFault) × (has_feed text ≡ false))
+  pub of_bad : (n : ℕ) → stop ≡ BadLine n → (n ≡ length lines + 1) × IsBadAfter tells lines text now.script
   pub applied : StaysApplied run lines began now
-  pub behind_end : IsTrue (stage_at run lines (length lines)).table.is_ended → IsStopBehindEnd stop
+  pub after_end : IsTrue (stage_at run lines (length lines)).table.is_ended → IsStopAfterEnd stop
 
--- How the lines of a script end: the script was heard to its end and each line was answered, or the run stopped behind its lines.
+-- How the lines of a script end: the script was heard to its end and each line was answered, or the run stopped after its lines.
 abbrev pub EndsLines : {S : Type 0} → (tells : Type 0) → ScriptRun → SessionState → List (Lane S) → (began now : PlantState) → Result (Unit {0}) Stop → Type 0
 EndsLines tells run s lanes began now (Ok done) = (lines : List Answered) × ((trail : Trail) × HasAnswered run lines trail [] s lanes began now) × (now.script ≡ [])
 EndsLines tells run s lanes began now (Err stop) = (lines : List Answered) × ((text : List ℕ) × StopsAtLine tells run lines text began now stop)
@@ -97,7 +97,7 @@ EndsLines tells run s lanes began now (Err stop) = (lines : List Answered) × ((
 abbrev pub AreCountsBelow : PlantState → Type 0
 AreCountsBelow plant = (d : ℕ) → plant.faults (Volume d) < most_faults
 
--- How a run of a script ends: done, or stopped behind its lines, where so much was heard of the next one.
+-- How a run of a script ends: done, or stopped after its lines, where so much was heard of the next one.
 abbrev pub EndsScript : (tells : Type 0) → ScriptRun → List Answered → (text : List ℕ) → (began now : PlantState) → Result (Unit {0}) Stop → Type 0
 EndsScript tells run lines text began now (Ok done) = (text ≡ []) × ((trail : Trail) × IsRunDone run lines trail began now) × StaysApplied run lines began now
 EndsScript tells run lines text began now (Err stop) = StopsAtLine tells run lines text began now stop
@@ -115,8 +115,8 @@ pub record IsKnownSession (session : List ℕ) (old new : PlantState) (s : Sessi
   pub name : s.session ≡ session
   pub labels : IfSome s.site (λ site. AreLabels old new 0 s.names.labels)
 
--- In each run over what its lanes read and its volumes failed, the lines are answered to the script's end, or the run stops behind some.
---   known: the session by which such a run is known. It is the one behind the lines, if they were all answered
+-- In each run over what its lanes read and its volumes failed, the lines are answered to the script's end, or the run stops after some.
+--   known: the session by which such a run is known. It is the one after the lines, if they were all answered
 pub record RunsLines {S : Type 0} (tells : Type 0) (left : S → Option (List ℕ)) (session : List ℕ) (next : SessionState) (lanes after : List (Lane S)) (old new : PlantState) (result : Result (Unit {0}) Stop) : Type 0 where
   pub known : SessionState
   pub is_known : IsKnownSession session old new known

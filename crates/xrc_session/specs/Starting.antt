@@ -71,7 +71,7 @@ abbrev pub IsSafeThroughout : (session : List ℕ) → Level → (at : ℕ) → 
 IsSafeThroughout session level at old new = IsDurable (on old Control) → IsSafeUpTo session level at new.clock old new
 
 -- At the end of calls, also on a plant that keeps no past: each volume holds what it held, and a crash leaves of it what it could leave at first. If a
--- crash left of the control at first what a read gives, each choice comes safely.
+-- crash left of the controller at first what a read gives, each choice comes safely.
 pub record IsSafeNow (session : List ℕ) (level : Level) (at : ℕ) (old new : PlantState) : Type 0 where
   pub bytes : (d : ℕ) → d < old.volumes → new.bytes (Volume d) ≡ old.bytes (Volume d)
   pub images : (d : ℕ) → d < old.volumes → (c : List ℕ) → new.images new.clock (Volume d) c → old.images old.clock (Volume d) c
@@ -112,7 +112,7 @@ IsUnsaid before said = (said ≡ before) ⊎ ((rest : List ℕ) × (said ≡ bef
 abbrev pub reply_to_start : Level → (at : ℕ) → List ℕ
 reply_to_start level at = reply_line at (Start level) (Ok Started) 0 (Some (stamp at))
 
--- It was said whole, behind what was said at first.
+-- It was said whole, after what was said at first.
 pub record HasRepliedToStart (level : Level) (at : ℕ) (old new : PlantState) : Type 0 where
   pub before : List ℕ
   pub later : List ℕ
@@ -133,7 +133,7 @@ level_started session line = elim line.command [
   | End ↦ None
 ]
 
--- A start stands so in a script: as the next line that counts behind these lines, each of which counts and starts nothing. Of these lines only the
+-- A start stands so in a script: as the next line that counts after these lines, each of which counts and starts nothing. Of these lines only the
 -- texts and what they ask matter.
 pub record IsStartOfScript (session : List ℕ) (level : Level) (at : ℕ) (script : List ℕ) (lines : List Answered) (text : List ℕ) : Type 0 where
   pub asked : AreAsked script lines
@@ -143,10 +143,10 @@ pub record IsStartOfScript (session : List ℕ) (level : Level) (at : ℕ) (scri
   pub left : List ℕ
   pub front : script ≡ texts_of lines ++ text ++ left
 
--- A start was heard, behind other lines. Until then a crash leaves what it could leave at first. From then on it is safe up to a moment, at which
+-- A start was heard, after other lines. Until then a crash leaves what it could leave at first. From then on it is safe up to a moment, at which
 -- the reply was said whole, or at the end of the calls if it wasn't, and up to it the volumes hold what they held; there it means just the session
 -- that starts, which was formatted first, unless nothing of the reply was said.
-pub record StartsBehind (session : List ℕ) (level : Level) (at : ℕ) (old new : PlantState) : Type 0 where
+pub record StartsAfter (session : List ℕ) (level : Level) (at : ℕ) (old new : PlantState) : Type 0 where
   pub lines : List Answered
   pub text : List ℕ
   pub start : IsStartOfScript session level at old.script lines text
@@ -175,7 +175,7 @@ pub record HearsStart (session : List ℕ) (level : Level) (at : ℕ) (old new :
 -- session starts safely, if a crash left of the control at first what a read gives.
 pub data BeginsRun (session : List ℕ) (old new : PlantState) : Type 0 where
   Unstarted : LeavesAll old new → BeginsRun session old new
-  Starting : (level : Level) (at : ℕ) → HearsStart session level at old new → HasRepliedToStart level at old new ⊎ IsSafeNow session level at old new → (0 < old.clock → IsDurable (on old Control) → StartsBehind session level at old new) → BeginsRun session old new
+  Starting : (level : Level) (at : ℕ) → HearsStart session level at old new → HasRepliedToStart level at old new ⊎ IsSafeNow session level at old new → (0 < old.clock → IsDurable (on old Control) → StartsAfter session level at old new) → BeginsRun session old new
 
 -- A line is answered before the start: no device is worked on, unless it is a start that is accepted.
 abbrev pub BeginsByLine : (session : List ℕ) → Line → (old new : PlantState) → Type 0
@@ -186,13 +186,13 @@ BeginsByLine session line old new =
 abbrev pub RepliesToStart : (session : List ℕ) → Line → (old new : PlantState) → Type 0
 RepliesToStart session line old new = IfSome (level_started session line) (λ level. new.said new.clock ≡ old.said old.clock ++ reply_to_start level line.time.0)
 
--- A start was heard and replied to whole, behind other lines.
+-- A start was heard and replied to whole, after other lines.
 pub record HasStartedRun (session : List ℕ) (old new : PlantState) : Type 0 where
   pub level : Level
   pub at : ℕ
   pub hears : HearsStart session level at old new
   pub replied : HasRepliedToStart level at old new
-  pub behind : 0 < old.clock → IsDurable (on old Control) → (b : StartsBehind session level at old new) × (new.said b.replied_at ≡ new.said b.heard_at ++ reply_to_start level at)
+  pub after : 0 < old.clock → IsDurable (on old Control) → (b : StartsAfter session level at old new) × (new.said b.replied_at ≡ new.said b.heard_at ++ reply_to_start level at)
 
 -- What has begun of a run where its session stands between lines: no device was worked on before its start.
 abbrev pub HasBegunRun : (session : List ℕ) → (site : Option SiteState) → (old new : PlantState) → Type 0
@@ -209,7 +209,7 @@ pub record AreOwnSpent (run : ScriptRun) (s : Stage) (began now : PlantState) : 
 
 -- ---- in the work for a start
 
--- A session of so many controls may be started at a time: it knows no label, no control has broken, and its lanes have read nothing behind the
+-- A session of so many controllers may be started at a time: it knows no label, no controller has broken, and its lanes have read nothing after the
 -- headers.
 pub record MayBeStarted {S : Type 0} (controls at : ℕ) (names : Naming) (group : Option Group) (lanes : List (Lane S)) (plant : PlantState) : Type 0 where
   pub time : 1 ≤ at
@@ -221,7 +221,7 @@ pub record MayBeStarted {S : Type 0} (controls at : ℕ) (names : Naming) (group
   pub fresh : group ≡ Some (new_group controls WRITES_OF_RUN BLOCKS_OF_QUEUE)
   pub lanes_of : AreLanesOf (new_group controls WRITES_OF_RUN BLOCKS_OF_QUEUE) 0 lanes
 
--- A site that has just been started stands behind its first epoch, at the time of its start, without a row. The next line may bring it on.
+-- A site that has just been started stands after its first epoch, at the time of its start, without a row. The next line may bring it on.
 pub record IsSiteStarted {S : Type 0} (tells : Type 0) (session : List ℕ) (level : Level) (controls at : ℕ) (lanes : List (Lane S)) (names : Naming) (group : Option Group) (plant : PlantState) (site : SiteState) : Type 0 where
   pub table : site.table ≡ started_table session []
   pub level_is : site.level ≡ level
@@ -239,7 +239,7 @@ pub record StandsStarted (run : ScriptRun) (site : SiteState) (now : PlantState)
   pub goes_on : GoesOnFrom run (site_point site) [] site now group
 
 -- Calls have started a session: whatever a crash leaves means just it, and it was formatted first.
-pub record StandsBehindStart (session : List ℕ) (level : Level) (at : ℕ) (old new : PlantState) : Type 0 where
+pub record StandsAfterStart (session : List ℕ) (level : Level) (at : ℕ) (old new : PlantState) : Type 0 where
   pub means : AtNow (MeansStart session level at old) new
   pub formats : 0 < old.clock → IsDurable (on old Control) → FormatsFirst session level at old new new.clock
 

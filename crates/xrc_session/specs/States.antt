@@ -13,9 +13,9 @@ pub record SessionState : Type 0 where
   pub controls : ℕ
   -- the names that commands speak of
   pub names : Naming
-  -- what readers and mover share: none while they are at work, and behind a stop
+  -- what readers and mover share: none while they are at work, and after a stop
   pub group : Option Group
-  -- the session's pairs, before its start and behind it
+  -- the session's pairs, before its start and after it
   pub table : Table
   -- the site on which it works, from its start on
   pub site : Option SiteState

@@ -23,8 +23,8 @@ use Rattle.consistency.specs.Pauses.{RunGoesOn}
 use Rattle.consistency.specs.Leads.{Point}
 use Rattle.xrc_status.specs.declared.stop.Stop.{Stop}
 use Rattle.xrc_status.specs.declared.stop.Stop.TheVariants as stops
-use Rattle.xrc_session.specs.AppliedEnds.{IsAllApplied, StaysAppliedBehind}
-use Rattle.xrc_session.specs.LinePauses.{stage_behind}
+use Rattle.xrc_session.specs.AppliedEnds.{IsAllApplied, StaysAppliedAfter}
+use Rattle.xrc_session.specs.LinePauses.{stage_after_text}
 use Rattle.xrc_session.specs.Trails.{AreExact, GoesForth, Trail, HasBegunTrail, StandsOnTrail}
 
 -- ---- which stop
@@ -68,8 +68,8 @@ abbrev pub HasRunCause : (old new : PlantState) → Stop → Type 0
 HasRunCause old new stop = HasStopCause old new stop ⊎ ((n : ℕ) × (stop ≡ stops.BadLine n))
 
 -- The stops of a run whose session has ended, where no device is called: a want of memory, a fault of the console, or a bad line.
-abbrev pub IsStopBehindEnd : Stop → Type 0
-IsStopBehindEnd stop = (stop ≡ stops.NoMemory) ⊎ ((stop ≡ stops.ConsoleFault) ⊎ ((n : ℕ) × (stop ≡ stops.BadLine n)))
+abbrev pub IsStopAfterEnd : Stop → Type 0
+IsStopAfterEnd stop = (stop ≡ stops.NoMemory) ⊎ ((stop ≡ stops.ConsoleFault) ⊎ ((n : ℕ) × (stop ≡ stops.BadLine n)))
 
 -- No count of the console, the control, the state or a journal rises but with its own stop, and none falls. The console's rises by one at most.
 pub record StopsByCount {T : Type 0} (old new : PlantState) (result : Result T Stop) : Type 0 where
@@ -81,7 +81,7 @@ pub record StopsByCount {T : Type 0} (old new : PlantState) (result : Result T S
 
 -- ---- numbers
 
--- The mark that counts has the greatest number, or the next record would need a number behind the greatest, with the switch that it may need.
+-- The mark that counts has the greatest number, or the next record would need a number after the greatest, with the switch that it may need.
 pub record AreNumbersSpent (plant : PlantState) (images : (d : Device) → List ℕ) : Type 0 where
   pub mark : Mark
   pub chosen : chosen_in (shape_of plant) images ≡ Ok (Some mark)
@@ -96,10 +96,10 @@ IsSpentNow plant = AtNow (AreNumbersSpent plant) plant
 
 -- ---- how a run stands
 
--- The console failed within the reply to a line: a front of it was said behind the replies to the lines before, and each moment bears.
---   applied: where the session has ended behind the line, all is applied and marked
+-- The console failed within the reply to a line: a front of it was said after the replies to the lines before, and each moment bears.
+--   applied: where the session has ended after the line, all is applied and marked
 --   stays: if the plant keeps its past, so it was from the first byte of the line's reply on
---   bears_now: whatever a crash leaves bears a time behind the line, also on a plant that keeps no past
+--   bears_now: whatever a crash leaves bears a time after the line, also on a plant that keeps no past
 pub record RepliesInPart (run : ScriptRun) (lines : List Answered) (a : Answered) (began now : PlantState) : Type 0 where
   pub course : IsCourse run (lines ++ a ∷ [])
   pub asked : AreAsked began.script (lines ++ a ∷ [])
@@ -107,9 +107,9 @@ pub record RepliesInPart (run : ScriptRun) (lines : List Answered) (a : Answered
   pub script : began.script ≡ texts_of (lines ++ a ∷ []) ++ now.script
   pub front : (k : ℕ) × (k ≤ length a.reply) × (now.said now.clock ≡ began.said began.clock ++ (replies_of lines ++ take k a.reply))
   pub bears : 0 < began.clock → BearsThroughout run (lines ++ a ∷ []) began now
-  pub applied : IsTrue (stage_behind run (lines ++ a ∷ []) [] began).table.is_ended → IsAllApplied now now.clock
-  pub stays : 0 < began.clock → IsTrue (stage_behind run (lines ++ a ∷ []) [] began).table.is_ended → StaysAppliedBehind lines began now
-  pub bears_now : let s = stage_behind run (lines ++ a ∷ []) [] began in IsTrue s.table.is_started → AtNow (BearsTime run s (replies_of (lines ++ a ∷ [])) now) now
+  pub applied : IsTrue (stage_after_text run (lines ++ a ∷ []) [] began).table.is_ended → IsAllApplied now now.clock
+  pub stays : 0 < began.clock → IsTrue (stage_after_text run (lines ++ a ∷ []) [] began).table.is_ended → StaysAppliedAfter lines began now
+  pub bears_now : let s = stage_after_text run (lines ++ a ∷ []) [] began in IsTrue s.table.is_started → AtNow (BearsTime run s (replies_of (lines ++ a ∷ [])) now) now
 
 -- How a run stands when a call stops it: the replies to the answered lines were said and nothing more, and so much was heard of the next line.
 -- Only where the console failed part of that line's reply may have been said.
@@ -117,7 +117,7 @@ abbrev pub StandsStopped : ScriptRun → List Answered → (text : List ℕ) →
 StandsStopped run lines text None began now stop = RunGoesOn run lines text began now
 StandsStopped run lines text (Some a) began now stop = (stop ≡ stops.ConsoleFault) × (a.text ≡ text) × RepliesInPart run lines a began now
 
--- the lines of which something was said, and the one that was heard whole behind them
+-- the lines of which something was said, and the one that was heard whole after them
 abbrev pub lines_said : List Answered → (part : Option Answered) → List Answered
 lines_said lines None = lines
 lines_said lines (Some a) = lines ++ a ∷ []
@@ -135,5 +135,5 @@ pub record IsStopped (run : ScriptRun) (lines : List Answered) (trail : Trail) (
   pub unstarted : trail.started ≡ 0 → trail.points ≡ []
   pub begun : HasBegunTrail run (lines_said lines part) trail
   pub next : Option Point
-  pub on_trail : 0 < trail.started → StandsOnTrail run (lines_said lines part) (line_asked (stage_behind run lines text began).next part) trail next now
-  pub goes_forth : 0 < began.clock → 0 < trail.started → GoesForth run (lines_said lines part) (line_asked (stage_behind run lines text began).next part) trail next began now
+  pub on_trail : 0 < trail.started → StandsOnTrail run (lines_said lines part) (line_asked (stage_after_text run lines text began).next part) trail next now
+  pub goes_forth : 0 < began.clock → 0 < trail.started → GoesForth run (lines_said lines part) (line_asked (stage_after_text run lines text began).next part) trail next began now

@@ -28,7 +28,7 @@ use Rattle.mover.specs.OwedTracks.{IsCarriedAsLive, KeptHaveRows}
 
 -- ---- what is kept for rows
 
--- A state is sound for a row: it has the row's volume, a control that counts if the row isn't suspended, and a plan that is done if it is duplex.
+-- A state is sound for a row: it has the row's volume, a controller that counts if the row isn't suspended, and a plan that is done if it is duplex.
 pub record IsSoundForRow (s : Group) (r : PairRow) : Type 0 where
   pub low : r.control < length s.controls
   pub own : IsCarriedAsLive s r
@@ -53,7 +53,7 @@ abbrev pub AllMay : List Call → Group → Type 0
 AllMay [] s = Unit {0}
 AllMay (call ∷ calls) s = May s call × AllMay calls (group_after s call)
 
--- the plans that are known to be done behind calls
+-- the plans that are known to be done after calls
 abbrev pub plans_after : Call → Plans → Plans
 plans_after (Drop k v all) done = plans_without k v done
 plans_after call done = done
@@ -74,7 +74,7 @@ is_begun change d = false
 abbrev pub is_suspended_as : (was is : PairState) → Bool
 is_suspended_as was is = is_suspended is && is_same_state was is
 
--- Whether a device's row is suspended behind a command as it was before. Where a command resumes the row, no record shows it in another state.
+-- Whether a device's row is suspended after a command as it was before. Where a command resumes the row, no record shows it in another state.
 abbrev pub stands_again : (before after : Option PairRow) → Bool
 stands_again None after = false
 stands_again (Some r) None = false
@@ -134,7 +134,7 @@ abbrev pub state_or_pending : Option PairRow → PairState
 state_or_pending None = Pending
 state_or_pending (Some r) = r.state
 
--- The state in which a command left a row, as it is behind the suspensions that followed.
+-- The state in which a command left a row, as it is after the suspensions that followed.
 abbrev pub state_by_command : Change → (before : List PairRow) → PairRow → PairState
 state_by_command change before r =
     if is_begun change r.device && not (stands_again (row_of r.device before) (Some r)) then Pending else state_or_pending (row_of r.device before)
@@ -145,7 +145,7 @@ drop_calls change before r = drop_call r (owes (state_by_command change before r
 -- ---- a change
 
 -- The calls of the shared state for a command's change: what the command itself asks, and then a drop for each row that is suspended by the
--- command or by a failure behind it.
+-- command or by a failure after it.
 abbrev pub calls_of_change : Change → Group → (before after : List PairRow) → List Call
 calls_of_change change s before after = command_calls change s before after ++ flat_map (drop_calls change before) after
 
@@ -154,7 +154,7 @@ pub record IsSuspendedSince (r s : PairRow) : Type 0 where
   pub same : s ≡ in_state s.state r
   pub stays : owes r.state s.state ≡ None → s.state ≡ r.state
 
--- The row that a change adds is among those after it, and its control counts. One that it resumes is suspended, and its control counts.
+-- The row that a change adds is among those after it, and its controller counts. One that it resumes is suspended, and its controller counts.
 abbrev pub MayBeBegun : Group → Change → (before after : List PairRow) → Type 0
 MayBeBegun s (Added device) before after = IsSomeAnd (row_of device after) (λ r. (r.control < length s.controls) × IsTrue (counts (control_at s r.control).phase))
 MayBeBegun s (Resumed device) before after = IfSome (row_of device before) (λ r. IsTrue (is_suspended r.state) × IsTrue (counts (control_at s r.control).phase))
@@ -165,7 +165,7 @@ abbrev pub IfAdds : Change → (after : List PairRow) → (PairRow → Type 0) �
 IfAdds (Added device) after is = IfSome (row_of device after) is
 IfAdds change after is = Unit {0}
 
--- Rows come from others by a command's change and by suspensions behind it, of different pairs on different devices.
+-- Rows come from others by a command's change and by suspensions after it, of different pairs on different devices.
 pub record MayTake (s : Group) (change : Change) (before after : List PairRow) : Type 0 where
   pub begun : MayBeBegun s change before after
   pub apart : IsTrue (none_clash (rows_by_command change before after))

@@ -27,7 +27,7 @@ pub record Trail : Type 0 where
 abbrev pub with_points : List PassedPoint → Trail → Trail
 with_points more trail = record trail { points = trail.points ++ more }
 
--- A trail begins with the line that started the session: one of these, or the next one. The session hadn't started before it, and had behind it.
+-- A trail begins with the line that started the session: one of these, or the next one. The session hadn't started before it, and had after it.
 pub record BeginsAtStart (run : ScriptRun) (lines : List Answered) (trail : Trail) : Type 0 where
   pub within : trail.started ≤ suc (length lines)
   pub before : (n : ℕ) → n < trail.started → n ≤ length lines → (stage_at run lines n).table.is_started ≡ false
@@ -44,7 +44,7 @@ first_leg run lines trail = leg_at (stage_at run lines trail.started) trail.star
 abbrev pub last_leg : ScriptRun → List Answered → Trail → Leg
 last_leg run lines trail = fold leg_after (first_leg run lines trail) trail.points
 
--- the line with a number: one that was answered, or the one that was heard whole behind these
+-- the line with a number: one that was answered, or the one that was heard whole after these
 abbrev pub asked_with : List Answered → Option Line → (number : ℕ) → Option Line
 asked_with lines next number = if number == length lines then next else asked_in lines number
 
@@ -74,7 +74,7 @@ pub record StandsOnTrail (run : ScriptRun) (lines : List Answered) (asked : Opti
   pub on_its_way : IfSome next (IsOnItsWay run (asked_with lines asked) (last_leg run lines trail))
   pub shows : AtNow (ShowsLast run now (last_point (first_leg run lines trail).point trail.points) next) now
 
--- The points before the command of a line bring the changes behind which it is answered, and the last of them has the rows that the command finds.
+-- The points before the command of a line bring the changes after which it is answered, and the last of them has the rows that the command finds.
 pub record BringsChanges (run : ScriptRun) (s : Stage) (first : Leg) (points : List PassedPoint) (number : ℕ) (a : Answered) : Type 0 where
   pub changes : (fold leg_after first (points_before number points)).changes ≡ a.changes
   pub rows : (last_point first.point (points_before number points)).rows ≡ after_changes run.level a.changes s.table.rows

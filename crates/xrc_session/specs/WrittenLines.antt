@@ -18,7 +18,7 @@ pub record WrittenLine : Type 0 where
 abbrev pub points_of_line : WrittenLine → List PassedPoint
 points_of_line w = points_of_parts w.parts
 
--- From a moment on, at which devices are at a point behind so many lines, the volumes are written in parts: up to each reply, and from the last of
+-- From a moment on, at which devices are at a point after so many lines, the volumes are written in parts: up to each reply, and from the last of
 -- these up to now.
 abbrev pub WritesByLines : List Answered → (began now : PlantState) → (from : ℕ) → Point → (answered : ℕ) → List WrittenLine → (more : List WrittenPart) → Type 0
 WritesByLines lines began now from p answered [] more = WritesInParts now from now.clock p more
@@ -26,7 +26,7 @@ WritesByLines lines began now from p answered (w ∷ written) more =
     WritesInParts now from w.at p w.parts × (now.heard w.at ≡ began.heard began.clock ++ texts_of (take (suc answered) lines)) × (now.said w.at ≡ began.said began.clock ++ replies_of (take (suc answered) lines))
     × WritesByLines lines began now w.at (last_point p (points_of_line w)) (suc answered) written more
 
--- So they are with each of these lines, since the first ones: but for the last line where none was heard behind it, whose reply may not have been said.
+-- So they are with each of these lines, since the first ones: but for the last line where none was heard after it, whose reply may not have been said.
 pub record AreWrittenByLines (lines : List Answered) (asked : Option Line) (first : ℕ) (points : List PassedPoint) (p : Point) (from : ℕ) (began now : PlantState) : Type 0 where
   pub written : List WrittenLine
   pub more : List WrittenPart

@@ -7,7 +7,7 @@ ghost use Rattle.record_rows.specs.Hits.{hit_now};
 ghost use Rattle.site_store.specs.IdleSites.{IsSiteIdle};
 ghost use Rattle.site_store.specs.Changing.{changed_items};
 ghost use Rattle.site_store.specs.Records.{VolumesStay};
-ghost use Rattle.xrc_session.specs.Answering.{group_taken, AnswersCommands, ControlsCount, IsMarkedSite, IsSiteAnswered, IsSiteBehind, IsSiteCommanded, LogsCommands, MarksOn, MayLogChange, answer_told, change_result, is_end_accepted};
+ghost use Rattle.xrc_session.specs.Answering.{group_taken, AnswersCommands, ControlsCount, IsMarkedSite, IsSiteAnswered, IsSiteAfter, IsSiteCommanded, LogsCommands, MarksOn, MayLogChange, answer_said, change_result, is_end_accepted};
 ghost use Rattle.xrc_session.specs.LinePauses.{MayCommandSite};
 ghost use Rattle.xrc_session.specs.Bringing.{IsWorkOfStore};
 ghost use Rattle.xrc_status.specs.declared.stop.Stop.TheVariants as stops;
@@ -47,7 +47,7 @@ impl LineAnswer {
 
 /// The answer of a command that was done or refused, if there was memory for it.
 pub(crate) fn answer_of(done: Result<Change, CommandError>) -> Result<Result<Change, Refusal>, Stop>
-    ensures { result ≡ answer_told done }
+    ensures { result ≡ answer_said done }
 {
     match done {
         Ok(change) => Ok(Ok(change)),
@@ -90,7 +90,7 @@ impl SessionParts {
         requires may { MayLogChange P.tells self.old.names line.now change.now self.old.before.rows.items site.old (P.state plant.old) }
         requires kept { IsSomeAnd self.old.group (λ group. IsSoundForRows group self.old.before.rows.items) }
         requires live { IsSomeAnd self.old.group (ControlsCount self.old.names) }
-        ensures site { OnOk result (IsSiteBehind P.tells self.old.names site.old site.new (P.state plant.new)) }
+        ensures site { OnOk result (IsSiteAfter P.tells self.old.names site.old site.new (P.state plant.new)) }
         ensures kept { OnOk result (IsSomeAnd self.new.group (λ group. IsSoundForRows group site.new.told)) }
         ensures quiet { OnOk result (changed_items change.now site.old.table.rows ≡ [] → site.new ≡ record site.old { is_ahead = false }) }
         ensures tracks { IfOk result (λ tracks. IsSomeAnd self.old.group (λ group. tracks ≡ tracks_to_copy change.now group self.old.before.rows.items site.new.told)) }
@@ -126,7 +126,7 @@ impl SessionParts {
         ensures names { self.new.names ≡ self.old.names }
         ensures taken { IfOk result (λ answered. self.new.group ≡ option_map (group_taken answered.answer site.old.told site.new.told) self.old.group) }
         ensures works { IsWorkOfStore P.tells site.old site.new (P.state plant.old) (P.state plant.new) result }
-        ensures behind_end { site.old.table.is_ended ≡ true → (plant.new ≡ plant.old) × IfErr result (λ stop. stop ≡ stops.NoMemory) }
+        ensures after_end { site.old.table.is_ended ≡ true → (plant.new ≡ plant.old) × IfErr result (λ stop. stop ≡ stops.NoMemory) }
         ensures answers { P.tells → (began : P) → AnswersCommands line.now self.old self.new site.old site.new (P.state began) (P.state plant.old) (P.state plant.new) result }
     {
         self.before.copy(site.table());
@@ -165,7 +165,7 @@ impl SessionParts {
         ensures names { self.new.names ≡ self.old.names }
         ensures taken { IfOk result (λ answered. site.new.table.is_ended ≡ false → self.new.group ≡ option_map (group_taken answered.answer site.old.told site.new.told) self.old.group) }
         ensures works { IsWorkOfStore P.tells site.old site.new (P.state plant.old) (P.state plant.new) result }
-        ensures behind_end { site.old.table.is_ended ≡ true → (plant.new ≡ plant.old) × IfErr result (λ stop. stop ≡ stops.NoMemory) }
+        ensures after_end { site.old.table.is_ended ≡ true → (plant.new ≡ plant.old) × IfErr result (λ stop. stop ≡ stops.NoMemory) }
         ensures answers { P.tells → (began : P) → AnswersCommands line.now self.old self.new site.old site.new (P.state began) (P.state plant.old) (P.state plant.new) result }
     {
         let answered = self.command(alloc, site, plant, line)?;

@@ -22,7 +22,7 @@ use tod_stamp::Stamp;
 use xrc_edge::Source;
 use xrc_status::Stop;
 
-/// Names the controls whose traces broke.
+/// Names the controllers whose traces broke.
 fn name_broken<S>(names: &mut Names, traces: &[Lane<S>])
     requires { length traces.now ≤ MOST_CONTROLS }
     ensures { names.new ≡ with_lanes_broken 0 traces.now names.old }
@@ -36,7 +36,7 @@ fn name_broken<S>(names: &mut Names, traces: &[Lane<S>])
 
 impl SessionParts {
     /// Brings a site to a limit: each write up to it is logged and applied, each wanted track is copied, and what suspends pairs up to
-    /// it is logged. The controls whose traces broke below the limit are named.
+    /// it is logged. The controllers whose traces broke below the limit are named.
     #[tactic(none)]
     pub(crate) fn bring_to<R: Threads + Wait + Sync, S: Source + Send, P: Plant>(
         &mut self,

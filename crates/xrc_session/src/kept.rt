@@ -16,13 +16,13 @@ use xrc_edge::NoMemory;
 #[derive(Drop)]
 pub(crate) struct SessionParts {
     pub(crate) names: Names,
-    /// None only while readers and mover are at work, and behind a stop.
+    /// None only while readers and mover are at work, and after a stop.
     pub(crate) group: Option<GroupState>,
     pub(crate) before: RowsBefore,
 }
 
 impl SessionParts {
-    /// What a session of so many controls begins with.
+    /// What a session of so many controllers begins with.
     pub(crate) fn make(alloc: Global, names: Names, controls: u16) -> Result<SessionParts, NoMemory>
         requires { (1 ≤ controls) × (controls ≤ MOST_CONTROLS) }
         ensures names { IfOk result (λ kept. kept.names ≡ names) }

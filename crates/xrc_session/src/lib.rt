@@ -30,16 +30,16 @@ pub use beginnings::started_sessions_stand;
 pub use carried::{commands_may_be_taken, recorded_rows_stand, rows_stand_again, taken_rows_stand};
 pub use endings::endings_are_answered_exactly;
 pub use joins::{
-    epochs_come_to_rest, kept_rows_are_known, lanes_stand_behind_changes, limits_rise,
-    named_volumes_stay, rests_behind_commands,
+    epochs_come_to_rest, kept_rows_are_known, lanes_stand_after_changes, limits_rise,
+    named_volumes_stay, rests_after_commands,
 };
 pub use maps::{
-    calls_keep_maps, maps_are_owed_behind_changes, maps_are_owed_behind_epochs,
-    maps_are_owed_behind_logs, maps_follow_traces,
+    calls_keep_maps, maps_are_owed_after_changes, maps_are_owed_after_epochs,
+    maps_are_owed_after_logs, maps_follow_traces,
 };
 pub use resting::{
-    commands_come_again, failures_are_told, points_are_shown_behind_changes,
-    rows_stand_behind_changes, sites_are_idle_again, walks_begin_at_marks,
+    commands_come_again, failures_are_told, points_are_shown_after_changes,
+    rows_stand_after_changes, sites_are_idle_again, walks_begin_at_marks,
 };
 pub use run::SessionRun;
 pub use script::run_script;

@@ -1,9 +1,9 @@
 //! Laws: what is mapped of suspended rows is what they owe.
 
 ghost use Rattle.xrc_session.specs.Maps.{CallsKeepMaps, MapsAreWhole, MapsBegin, MapsGrow, NewGroupsKeepMaps};
-ghost use Rattle.xrc_session.specs.MapsLaws.{MapsOwedBehindEpochs};
-ghost use Rattle.xrc_session.specs.MapsOwed.{MapsOwedBehindLogs};
-ghost use Rattle.xrc_session.specs.MapsTaken.{MapsOwedBehindChanges};
+ghost use Rattle.xrc_session.specs.MapsLaws.{MapsOwedAfterEpochs};
+ghost use Rattle.xrc_session.specs.MapsOwed.{MapsOwedAfterLogs};
+ghost use Rattle.xrc_session.specs.MapsTaken.{MapsOwedAfterChanges};
 
 use crash_plant::Plant;
 use xrc_edge::Source;
@@ -24,17 +24,17 @@ pub fn maps_follow_traces()
     ensures begin { MapsBegin }
 {}
 
-/// Where the maps have what rows owe in a run, they do so behind a log that leads to another point of the run.
-pub fn maps_are_owed_behind_logs()
-    ensures { MapsOwedBehindLogs }
+/// Where the maps have what rows owe in a run, they do so after a log that leads to another point of the run.
+pub fn maps_are_owed_after_logs()
+    ensures { MapsOwedAfterLogs }
 {}
 
-/// So they do behind an epoch that reached its limit.
-pub fn maps_are_owed_behind_epochs<S: Source, P: Plant>(old: &P, new: &P)
-    ensures { MapsOwedBehindEpochs P.tells S.left S.faults (P.state old.now) (P.state new.now) }
+/// So they do after an epoch that reached its limit.
+pub fn maps_are_owed_after_epochs<S: Source, P: Plant>(old: &P, new: &P)
+    ensures { MapsOwedAfterEpochs P.tells S.left S.faults (P.state old.now) (P.state new.now) }
 {}
 
-/// So they do behind a command's change that was taken over.
-pub fn maps_are_owed_behind_changes()
-    ensures { MapsOwedBehindChanges }
+/// So they do after a command's change that was taken over.
+pub fn maps_are_owed_after_changes()
+    ensures { MapsOwedAfterChanges }
 {}

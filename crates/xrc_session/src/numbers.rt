@@ -12,7 +12,7 @@ use xrc_edge::{FEWEST_JOURNALS, MOST_JOURNALS, MOST_SITE_VOLUMES};
 use xrc_journal::journal_length;
 use xrc_status::Stop;
 
-/// Whether a session of so many controls can run over so many traces on a site with these numbers of journals and volumes.
+/// Whether a session of so many controllers can run over so many traces on a site with these numbers of journals and volumes.
 fn has_numbers<P: Plant>(plant: &P, controls: u16, traces: usize) -> bool
     ensures { result ≡ has_site_numbers controls traces (P.state plant.now) }
 {
@@ -33,7 +33,7 @@ fn check_length<P: Plant>(plant: &P, device: Device, need: u64) -> Result<(), St
     Ok(())
 }
 
-/// That the control, the state and each journal have the bytes that a session of so many controls needs, in this order.
+/// That the control, the state and each journal have the bytes that a session of so many controllers needs, in this order.
 fn check_lengths<P: Plant>(plant: &P, controls: u16) -> Result<(), Stop>
     requires home { NoneLent (P.state plant.now) }
     ensures ok { OnOk result (first_too_short controls (P.state plant.now) ≡ None) }
@@ -47,7 +47,7 @@ fn check_lengths<P: Plant>(plant: &P, controls: u16) -> Result<(), Stop>
     Ok(())
 }
 
-/// Why a session over so many controls can't run with so many traces on a site, if it can't: the numbers, or the first device that
+/// Why a session over so many controllers can't run with so many traces on a site, if it can't: the numbers, or the first device that
 /// is too short.
 pub(crate) fn check_site<P: Plant>(plant: &P, controls: u16, traces: usize) -> Result<(), Stop>
     requires home { NoneLent (P.state plant.now) }

@@ -32,7 +32,7 @@ fn stop_of_header(control: u16, error: HeaderError) -> Stop
     }
 }
 
-/// That no volume of a control has a serial that an earlier trace names.
+/// That no volume of a controller has a serial that an earlier trace names.
 fn check_serials(control: u16, named: &[Serial], volumes: &[VolumeHead]) -> Result<(), Stop>
     requires { length volumes.now ≤ MOST_CONTROL_VOLUMES }
     ensures ok { OnOk result (first_named_again named.now 0 volumes.now ≡ None) }
@@ -46,7 +46,7 @@ fn check_serials(control: u16, named: &[Serial], volumes: &[VolumeHead]) -> Resu
     Ok(())
 }
 
-/// Names the volumes of a control.
+/// Names the volumes of a controller.
 fn name_volumes(
     alloc: Global,
     names: &mut Names,
@@ -68,7 +68,7 @@ fn name_volumes(
     Ok(())
 }
 
-/// Reads the header of a control's trace, names its volumes, and gives the lane its reader.
+/// Reads the header of a controller's trace, names its volumes, and gives the lane its reader.
 fn open_lane<S: Source>(
     alloc: Global,
     names: &mut Names,

@@ -2,7 +2,7 @@
 
 ghost use Rattle.std.specs.Prelude.{◌≡◌, ◌++◌, [], OnOk};
 ghost use Rattle.std.specs.Option.{option_copied};
-ghost use Rattle.xrc_session.specs.Replying.{causes_in, reply_composed, reported_site, time_told};
+ghost use Rattle.xrc_session.specs.Replying.{causes_in, reply_composed, reported_site, time_said};
 ghost use Rattle.xquery_report.specs.Reports.{report_text};
 ghost use Rattle.xrc_session.specs.States.{site_in};
 
@@ -17,7 +17,7 @@ use xquery_report::{ControlList, reply, report};
 use xrc_command::Line;
 use xrc_edge::{Bytes, NoMemory};
 
-/// The text of a line's reply, and the causes of breaks that a report tells.
+/// The text of a line's reply, and the causes of breaks that a report says.
 #[derive(Drop)]
 pub(crate) struct ReplyText {
     bytes: Bytes,
@@ -41,7 +41,7 @@ impl ReplyText {
         self.bytes.as_slice()
     }
 
-    /// Takes, for each control in order, why its trace broke, in place of what stood there.
+    /// Takes, for each controller in order, why its trace broke, in place of what stood there.
     fn take_causes<S>(&mut self, alloc: Global, traces: &[Lane<S>]) -> Result<(), NoMemory>
         ensures causes { OnOk result (self.new.causes ≡ causes_in traces.now) }
         ensures bytes { self.new.bytes ≡ self.old.bytes }
@@ -118,9 +118,9 @@ fn asked_site<'a, V>(
     }
 }
 
-/// The session's time, which a reply tells from the start on.
+/// The session's time, which a reply says from the start on.
 fn told_time<V>(place: &SessionPlace<V>) -> Option<Stamp>
-    ensures { result ≡ time_told (site_in place.now) }
+    ensures { result ≡ time_said (site_in place.now) }
 {
     match place {
         SessionPlace::Unstarted(_) => None,

@@ -13,7 +13,7 @@ ghost use Rattle.xrc_session.specs.Lines.{MayFinish, IsBegunTable, IsDoneLine, I
 ghost use Rattle.xrc_session.specs.Openings.{ComesEarly, OpensInOrder, StayGood};
 ghost use Rattle.xrc_session.specs.Replying.{level_in};
 ghost use Rattle.xrc_session.specs.Runs.{AreLabelsRead};
-ghost use Rattle.xrc_session.specs.Starting.{BeginsByLine, IsSafeStart, IsWorkOfStart, RepliesToStart, StandsBehindStart, level_started};
+ghost use Rattle.xrc_session.specs.Starting.{BeginsByLine, IsSafeStart, IsWorkOfStart, RepliesToStart, StandsAfterStart, level_started};
 ghost use Rattle.xrc_session.specs.States.{session_time};
 ghost use Rattle.xrc_session.specs.Stops.{HasStopCause, StopsByCount};
 ghost use Rattle.xrc_session.specs.Steps.{AnswersLine, DoesLine, FinishesRuns};
@@ -167,7 +167,7 @@ impl<V: Drop> SessionRun<V> {
         ensures lanes { OnOk result (AreSameLanes traces.old traces.new) }
         ensures hits { OnOk result (SuspendsByCounts self.old.table.rows self.new.table.rows (P.state plant.old) (P.state plant.new)) }
         ensures begins { P.tells → BeginsByLine self.old.session line.now (P.state plant.old) (P.state plant.new) }
-        ensures means { P.tells → OnOk result (IfSome (level_started self.old.session line.now) (λ level. StandsBehindStart self.old.session level line.now.time.0 (P.state plant.old) (P.state plant.new))) }
+        ensures means { P.tells → OnOk result (IfSome (level_started self.old.session line.now) (λ level. StandsAfterStart self.old.session level line.now.time.0 (P.state plant.old) (P.state plant.new))) }
         ensures starts { IfOk result (λ answered. IfSome (level_started self.old.session line.now) (λ level. IsStartAnswered self.new.site line.now.time.0 answered)) }
         ensures same { IsSameSession self.old self.new }
         ensures labels { P.tells → IfSome self.new.site (λ site. AreLabelsRead (P.state plant.old) (P.state plant.new) self.new.names.labels) }
@@ -190,7 +190,7 @@ impl<V: Drop> SessionRun<V> {
 
     /// Answers a line once the session has ended, at the time of its end. It calls no device.
     #[tactic(none)]
-    fn answer_behind_end<R: Threads + Sync, S: Source, P: Plant<Volume = V>>(
+    fn answer_after_end<R: Threads + Sync, S: Source, P: Plant<Volume = V>>(
         &mut self,
         rt: &R,
         alloc: Global,
@@ -271,7 +271,7 @@ impl<V: Drop> SessionRun<V> {
         requires started { IsSome self.old.site }
         requires time { (1 ≤ line.now.time.0) × (session_time self.old ≤ line.now.time.0) }
         ensures done { IfOk result (IsDoneLine P.tells self.old self.new line.now traces.new (P.state plant.new)) }
-        ensures behind_end { self.old.is_ended ≡ true → (plant.new ≡ plant.old) × IfErr result (λ stop. stop ≡ stops.NoMemory) }
+        ensures after_end { self.old.is_ended ≡ true → (plant.new ≡ plant.old) × IfErr result (λ stop. stop ≡ stops.NoMemory) }
         ensures keeps { KeepsPlant P.tells (P.state plant.old) (P.state plant.new) }
         ensures silent { P.tells → Silent (P.state plant.old) (P.state plant.new) }
         ensures went { AllWent S.left S.faults traces.old traces.new }
@@ -283,7 +283,7 @@ impl<V: Drop> SessionRun<V> {
         ensures does { P.tells → (began : P) → DoesLine S.left line.now self.old self.new traces.old traces.new (P.state began) (P.state plant.old) (P.state plant.new) result }
     {
         if self.ended {
-            self.answer_behind_end(rt, alloc, plant, traces, line)
+            self.answer_after_end(rt, alloc, plant, traces, line)
         } else {
             self.answer_in_time(rt, alloc, plant, traces, line)
         }
@@ -302,14 +302,14 @@ impl<V: Drop> SessionRun<V> {
         requires between { IsBetween P.tells self.old traces.old (P.state plant.old) }
         requires time { (1 ≤ line.now.time.0) × (session_time self.old ≤ line.now.time.0) }
         ensures done { IfOk result (IsDoneLine P.tells self.old self.new line.now traces.new (P.state plant.new)) }
-        ensures behind_end { self.old.is_ended ≡ true → (plant.new ≡ plant.old) × IfErr result (λ stop. stop ≡ stops.NoMemory) }
+        ensures after_end { self.old.is_ended ≡ true → (plant.new ≡ plant.old) × IfErr result (λ stop. stop ≡ stops.NoMemory) }
         ensures keeps { KeepsPlant P.tells (P.state plant.old) (P.state plant.new) }
         ensures silent { P.tells → Silent (P.state plant.old) (P.state plant.new) }
         ensures went { AllWent S.left S.faults traces.old traces.new }
         ensures lanes { OnOk result (AreSameLanes traces.old traces.new) }
         ensures hits { OnOk result (SuspendsByCounts self.old.table.rows self.new.table.rows (P.state plant.old) (P.state plant.new)) }
         ensures begins { P.tells → self.old.site ≡ None → BeginsByLine self.old.session line.now (P.state plant.old) (P.state plant.new) }
-        ensures means { P.tells → self.old.site ≡ None → OnOk result (IfSome (level_started self.old.session line.now) (λ level. StandsBehindStart self.old.session level line.now.time.0 (P.state plant.old) (P.state plant.new))) }
+        ensures means { P.tells → self.old.site ≡ None → OnOk result (IfSome (level_started self.old.session line.now) (λ level. StandsAfterStart self.old.session level line.now.time.0 (P.state plant.old) (P.state plant.new))) }
         ensures starts { self.old.site ≡ None → IfOk result (λ answered. IfSome (level_started self.old.session line.now) (λ level. IsStartAnswered self.new.site line.now.time.0 answered)) }
         ensures same { IsSameSession self.old self.new }
         ensures labels { P.tells → self.old.site ≡ None → IfSome self.new.site (λ site. AreLabelsRead (P.state plant.old) (P.state plant.new) self.new.names.labels) }
@@ -349,7 +349,7 @@ impl<V: Drop> SessionRun<V> {
         ensures went { AllWent S.left S.faults traces.old traces.new }
         ensures lanes { OnOk result (AreSameLanes traces.old traces.new) }
         ensures hits { OnOk result (SuspendsByCounts self.old.table.rows self.new.table.rows (P.state plant.old) (P.state plant.new)) }
-        // In each run, since whenever it began: the line is answered exactly behind those before it, or the session stops in it.
+        // In each run, since whenever it began: the line is answered exactly after those before it, or the session stops in it.
         ensures answers { P.tells → (began : P) → AnswersLine S.left line.now self.old self.new traces.old traces.new (P.state began) (P.state plant.old) (P.state plant.new) result }
         ensures begins { P.tells → self.old.site ≡ None → BeginsByLine self.old.session line.now (P.state plant.old) (P.state plant.new) }
         ensures replies { P.tells → self.old.site ≡ None → OnOk result (RepliesToStart self.old.session line.now (P.state plant.old) (P.state plant.new)) }
@@ -377,9 +377,9 @@ impl<V: Drop> SessionRun<V> {
         plant: &mut P,
     ) -> Result<(), Stop>
         requires may { MayFinish P.tells self (P.state plant.old) }
-        ensures behind_end { self.is_ended ≡ true → (plant.new ≡ plant.old) × IsOk result }
+        ensures after_end { self.is_ended ≡ true → (plant.new ≡ plant.old) × IsOk result }
         ensures keeps { KeepsPlant P.tells (P.state plant.old) (P.state plant.new) }
-        // In each run behind its lines, at the script's end: all is applied and marked, or it stops meanwhile.
+        // In each run after its lines, at the script's end: all is applied and marked, or it stops meanwhile.
         ensures ends { P.tells → (began : P) → FinishesRuns self (P.state began) (P.state plant.old) (P.state plant.new) result }
         ensures begins { P.tells → self.site ≡ None → plant.new ≡ plant.old }
         ensures silent { P.tells → Silent (P.state plant.old) (P.state plant.new) }

@@ -23,7 +23,7 @@ use tod_stamp::{Session, Stamp};
 use xrc_edge::Source;
 use xrc_status::Stop;
 
-/// The number behind that of the line that is one too many.
+/// The number after that of the line that is one too many.
 const NUMBERS_END: u32 = 100_002;
 
 /// Hears and runs the lines of a script to its end.

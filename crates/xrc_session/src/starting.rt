@@ -26,7 +26,7 @@ use tod_stamp::{Session, Stamp};
 use xrc_edge::Source;
 use xrc_status::Stop;
 
-/// What a start is given: the session, its level, the number of its controls, and the time of its line.
+/// What a start is given: the session, its level, the number of its controllers, and the time of its line.
 #[derive(Clone, Copy)]
 pub(crate) struct Beginning {
     pub(crate) session: Session,

@@ -72,7 +72,7 @@ fn is_begun(change: &Change, device: u16) -> bool
     }
 }
 
-/// Whether a device's row is suspended behind a command as it was before.
+/// Whether a device's row is suspended after a command as it was before.
 fn stands_again(before: Option<&PairRow>, after: Option<&PairRow>) -> bool
     ensures { result ≡ stands_again (option_copied before.entry) (option_copied after.entry) }
 {
@@ -82,7 +82,7 @@ fn stands_again(before: Option<&PairRow>, after: Option<&PairRow>) -> bool
     }
 }
 
-/// The state in which a command left a row, as it is behind the suspensions that followed.
+/// The state in which a command left a row, as it is after the suspensions that followed.
 fn state_by_command(change: &Change, before: &[PairRow], row: &PairRow) -> PairState
     ensures { result ≡ state_by_command change.now before.now row.now }
 {
@@ -188,7 +188,7 @@ fn drop_row(group: &mut GroupState, was: PairState, row: &PairRow)
     }
 }
 
-/// Drops the volumes of the rows that were suspended by a command or behind it.
+/// Drops the volumes of the rows that were suspended by a command or after it.
 fn drop_suspended(group: &mut GroupState, before: &[PairRow], table: &PairTable, change: &Change)
     requires may { AllMay (flat_map (drop_calls change.now before.now) table.now.rows) group.old }
     ensures calls { group.new ≡ after_calls (flat_map (drop_calls change.now before.now) table.now.rows) group.old }
@@ -199,7 +199,7 @@ fn drop_suspended(group: &mut GroupState, before: &[PairRow], table: &PairTable,
     }
 }
 
-/// Takes a command's change of rows over into the shared state, with the suspensions that came behind it, and tells how many tracks
+/// Takes a command's change of rows over into the shared state, with the suspensions that came after it, and tells how many tracks
 /// are to be copied. `before` has the rows before the command, and `table` has the rows after the change was logged.
 ///
 /// - An added row's volume begins to be carried, and all of its tracks are wanted.

@@ -34,7 +34,7 @@ device_text State = codes " STATE"
 device_text (Journal j) = codes " JOURNAL" ++ number_text j
 device_text (Volume v) = codes " VOLUME" ++ number_text v
 
--- What the line says behind the status: a line of the script; a journal; a trace, and a place of it; a trace; a session; a device and
+-- What the line says after the status: a line of the script; a journal; a trace, and a place of it; a trace; a session; a device and
 -- a place of it; a device and how many bytes it needs.
 abbrev pub details : Stop → List ℕ
 details (BadLine n) = number_text n
@@ -55,8 +55,8 @@ details BadSite = []
 details Spent = []
 
 -- the line of a status
-abbrev pub status_line : ℕ → (behind : List ℕ) → List ℕ
-status_line status behind = codes "STATUS" ++ number_text status ++ behind ++ 10 ∷ []
+abbrev pub status_line : ℕ → (after : List ℕ) → List ℕ
+status_line status after = codes "STATUS" ++ number_text status ++ after ++ 10 ∷ []
 
 -- Each says the line of its status, but that the console failed says none.
 abbrev pub last_line : Stop → List ℕ

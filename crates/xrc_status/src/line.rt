@@ -26,7 +26,7 @@ impl TextLine {
         TextLine { text: Text::make() }
     }
 
-    /// Puts a text behind what stands in the line.
+    /// Puts a text after what stands in the line.
     pub fn add(&mut self, text: &[u8])
         requires { length self.old + length text.now ≤ 160 }
         ensures text { self.new ≡ self.old ++ text.now }
@@ -35,7 +35,7 @@ impl TextLine {
         self.text.add(text);
     }
 
-    /// Puts a space and a number in decimal digits behind what stands in the line.
+    /// Puts a space and a number in decimal digits after what stands in the line.
     pub fn add_number(&mut self, number: u64)
         requires { length self.old ≤ 119 }
         ensures text { self.new ≡ self.old ++ 32 ∷ decimal number }

@@ -81,7 +81,7 @@ fn add_place(line: &mut TextLine, device: Device, place: u64)
     line.add_number(place);
 }
 
-/// Puts what a stop's line says behind its status.
+/// Puts what a stop's line says after its status.
 fn add_details(line: &mut TextLine, stop: &Stop)
     requires { length line.old ≤ 47 }
     ensures text { line.new ≡ line.old ++ details stop.now }

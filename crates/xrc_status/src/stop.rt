@@ -38,7 +38,7 @@ pub enum Stop {
     /// The device needs this many bytes.
     TooSmall(Device, u64),
     /// The journals are not 2 to 16, or the volumes are more than 64. For a run also: there is no volume, or the traces are not as
-    /// many as its words tell.
+    /// many as its words say.
     BadSite,
     /// The numbers of the journals' records are spent.
     Spent,

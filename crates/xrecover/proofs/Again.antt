@@ -21,7 +21,7 @@ use Rattle.crash_plant.specs.declared.device.Device.TheVariants.{Journal}
 use Rattle.crash_plant.specs.Moments.{PlantState}
 use Rattle.crash_plant.specs.Calls.{SameSite}
 use Rattle.control_set.specs.declared.value.Mark.{Mark}
-use Rattle.applier.proofs.InSlots.{has_before, has_behind}
+use Rattle.applier.proofs.InSlots.{has_after, has_before}
 use Rattle.site_means.specs.Images.{shape_of}
 use Rattle.site_means.specs.Walk.{start}
 use Rattle.site_means.specs.Meaning.{Meaning}
@@ -33,7 +33,7 @@ use Rattle.site_means.specs.declared.site_error.SiteError.TheVariants.{NoSession
 use Rattle.xrecover.specs.Rereading.{FoundAgain}
 use Rattle.xrecover.specs.Answers.{HasWalk}
 
--- the walk behind a record
+-- the walk after a record
 pub record Next (shape : Shape) (images : Images) (s : WalkState) (time : ℕ) (items : List Item) (after : Spot) : Type 0 where
   pub n : WalkState
   pub at : n.at ≡ after
@@ -124,7 +124,7 @@ module _ (shape : Shape) (images : Images) (items its : List Item) (live : ℕ �
   pub of_walk : (device x : ℕ) → HasItem device x its → HasItem device x items
   of_walk device x has =
       let rest = walk_items (rest_of shape images n.n) in
-      subst (λ (l : List Item). HasItem device x l) (sym (r.items_are ∙ ap (λ (l : List Item). r.before ++ l) n.items_are)) (has_behind device x r.before (its ++ rest) (has_before device x its rest has))
+      subst (λ (l : List Item). HasItem device x l) (sym (r.items_are ∙ ap (λ (l : List Item). r.before ++ l) n.items_are)) (has_after device x r.before (its ++ rest) (has_before device x its rest has))
 
 -- What is found there is the same while only volumes are written.
 pub found_same : (old new : PlantState) (s : WalkState) (at : Spot) (last : ℕ) → SameSite old new → new.bytes (Journal at.set) ≡ old.bytes (Journal at.set) → s.at ≡ at → s.last ≡ last → found_at (shape_of old) old.bytes s ≡ walk_one (form_of new) new.journals (new.bytes (Journal at.set)) at last

@@ -11,7 +11,7 @@ use Rattle.ckd_track.specs.Images.{image, image_at}
 use Rattle.ckd_track.specs.SlotPlaces.{slot_place, slot_end, slot_track, track_read}
 use Rattle.ckd_track.proofs.Parts.{length-image}
 use Rattle.crash_plant.specs.Moments.{PlantState}
-use Rattle.xrc_journal.specs.Items.{AreItems, Item, Earlier, behind, form_of, is_item, are_items_behind, none_earlier}
+use Rattle.xrc_journal.specs.Items.{AreItems, Item, Earlier, earlier_after, form_of, is_item, are_items_after, none_earlier}
 use Rattle.xrc_journal.specs.Items.Item.{Image, Delta, Pair, Gone}
 use Rattle.xrc_journal.specs.Contents.{HasItem, content_by, content_through, is_of_track}
 use Rattle.xrc_journal.proofs.ItemsAgain.{image_rules}
@@ -71,12 +71,12 @@ module _ (plant : PlantState) (device x : ℕ) where
   one_short earlier (Gone of) t keeps (inl mine) = absurd cc
   one_short earlier (Gone of) t keeps (inr short) = short
 
-  all_short : (earlier : Earlier) (items : List Item) (t : Option (List Rec)) → are_items_behind (form_of plant) earlier items ≡ true → HasItem device x items ⊎ Short t → Short (content_through device x items t)
+  all_short : (earlier : Earlier) (items : List Item) (t : Option (List Rec)) → are_items_after (form_of plant) earlier items ≡ true → HasItem device x items ⊎ Short t → Short (content_through device x items t)
   all_short earlier [] t keep (inl none) = absurd cc
   all_short earlier [] t keep (inr short) = short
   all_short earlier (i ∷ items) t keep has =
-      let parts = and_parts (is_item (form_of plant) earlier i) (are_items_behind (form_of plant) (behind i earlier) items) keep in
-      all_short (behind i earlier) items (content_by device x t i) parts.1 (by_first (is_of_track device x i) refl has parts.0)
+      let parts = and_parts (is_item (form_of plant) earlier i) (are_items_after (form_of plant) (earlier_after i earlier) items) keep in
+      all_short (earlier_after i earlier) items (content_by device x t i) parts.1 (by_first (is_of_track device x i) refl has parts.0)
     where
       by_first : (mine : Bool) → is_of_track device x i ≡ mine → ((mine || list_any (is_of_track device x) items) ≡ true) ⊎ Short t → is_item (form_of plant) earlier i ≡ true → HasItem device x items ⊎ Short (content_by device x t i)
       by_first true is has keeps = inr (one_short earlier i t keeps (inl is))
@@ -109,12 +109,12 @@ track_kept device x items b c differs none = elim (cases_lt (length b) (slot_end
     apart y has = slots_apart device x y (λ e. none (subst (λ (n : ℕ). HasItem device n items) e has))
 
 -- A label leaves what slots begin with.
-begins_behind : (device x : ℕ) (b c : List ℕ) (t : Option (List Rec)) → Redoes device [] b c → BeginsWithTrack b x t → BeginsWithTrack c x t
-begins_behind device x b c (Some recs) differs begins = differs.others (slot_place x) (slot_place x + length (image recs)) (omega arith) (omega arith) (λ y none. absurd cc) ∙ begins
-begins_behind device x b c None differs begins = begins
+begins_after : (device x : ℕ) (b c : List ℕ) (t : Option (List Rec)) → Redoes device [] b c → BeginsWithTrack b x t → BeginsWithTrack c x t
+begins_after device x b c (Some recs) differs begins = differs.others (slot_place x) (slot_place x + length (image recs)) (omega arith) (omega arith) (λ y none. absurd cc) ∙ begins
+begins_after device x b c None differs begins = begins
 
-pub draws_behind : (device : ℕ) (items : List Item) (a b c : List ℕ) → Draws device items a b → Redoes device [] b c → Draws device items a c
-draws_behind device items a b c draws differs x has = begins_behind device x b c (content_through device x items (slot_track a x)) differs (draws x has)
+pub draws_after : (device : ℕ) (items : List Item) (a b c : List ℕ) → Draws device items a b → Redoes device [] b c → Draws device items a c
+draws_after device items a b c draws differs x has = begins_after device x b c (content_through device x items (slot_track a x)) differs (draws x has)
 
 -- ---- record after record
 

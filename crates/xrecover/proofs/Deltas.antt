@@ -12,7 +12,7 @@ use Rattle.control_set.specs.declared.value.Mark.{Mark}
 use Rattle.control_set.proofs.Keeps.{number_kept}
 use Rattle.pair_table.specs.Rows.{row_at}
 use Rattle.state_set.specs.Slots.{Stored}
-use Rattle.xrc_journal.specs.Items.{Item, Form, Earlier, behind, may_draw, none_earlier}
+use Rattle.xrc_journal.specs.Items.{Item, Form, Earlier, earlier_after, may_draw, none_earlier}
 use Rattle.xrc_journal.specs.Items.Item.{Image, Delta, Pair, Gone}
 use Rattle.xrc_journal.specs.Bodies.{draws}
 use Rattle.xrc_journal.specs.Reading.{Items, delta_item_at, first_and_rest, gone_item_at, body_image_field, image_item_at, is_tag, item_at, items_from, no_items, pair_item_at, row_or, track_at}
@@ -93,12 +93,12 @@ first_no_delta form earlier left (Ok i) rest none is more = (λ n. item_no_delta
 body_no_delta : (turns : ℕ) (form : Form) (earlier : Earlier) (left : Left) → form.deltas ≡ false → list_any is_delta (items_from turns form earlier left).good ≡ false
 unfolding items_from
 body_no_delta zero form earlier left none = refl
-body_no_delta (suc turns) form earlier left none = by_end (nat_eq (length left.bytes) 0) (λ i. body_no_delta turns form (behind i.0 earlier) i.1 none)
+body_no_delta (suc turns) form earlier left none = by_end (nat_eq (length left.bytes) 0) (λ i. body_no_delta turns form (earlier_after i.0 earlier) i.1 none)
   where
-    by_end : (over : Bool) → ((i : Item × Left) → list_any is_delta (items_from turns form (behind i.0 earlier) i.1).good ≡ false)
-        → list_any is_delta (cond over no_items (first_and_rest left.place (item_at form earlier left) (λ i. items_from turns form (behind i.0 earlier) i.1))).good ≡ false
+    by_end : (over : Bool) → ((i : Item × Left) → list_any is_delta (items_from turns form (earlier_after i.0 earlier) i.1).good ≡ false)
+        → list_any is_delta (cond over no_items (first_and_rest left.place (item_at form earlier left) (λ i. items_from turns form (earlier_after i.0 earlier) i.1))).good ≡ false
     by_end true more = refl
-    by_end false more = first_no_delta form earlier left (item_at form earlier left) (λ i. items_from turns form (behind i.0 earlier) i.1) none refl more
+    by_end false more = first_no_delta form earlier left (item_at form earlier left) (λ i. items_from turns form (earlier_after i.0 earlier) i.1) none refl more
 
 -- ---- a walk
 

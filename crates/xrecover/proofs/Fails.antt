@@ -43,7 +43,7 @@ so_counted X Y a b e f = record {
 
 -- ---- the count of one volume
 
--- behind calls that left it
+-- after calls that left it
 pub counted_then : (failed : Bool) (a b c : ℕ) → b ≡ a → FailsByCount failed b c → FailsByCount failed a c
 counted_then failed a b c same counted = subst (λ (n : ℕ). FailsByCount failed n c) same counted
 
@@ -71,7 +71,7 @@ tells_none {X} {E} a b x f same = record { rose = λ d is. absurd (no_error x (f
     no_error : (x : X) (e : E) → (let r : Result X E = Ok x in let q : Result X E = Err e in r ≡ q) → ⊥
     no_error x e is = cc
 
--- The fault of a call that reads, behind calls that left the counts of the control, the state and the journals.
+-- The fault of a call that reads, after calls that left the counts of the control, the state and the journals.
 pub tells_read : {X Y : Type 0} (a b c : Device → ℕ) (e : SiteError) → ((d : Device) → a d ≤ b d) → ((d : Device) → IsExamined d → b d ≡ a d) → (let r : Result X SiteError = Err e in FaultsAreCounted b c r) → TellsFaults a c (λ d. let r : Result Y SiteError = Err e in IsErrOf r (Fault d))
 tells_read {X} {Y} a b c e le same f =
     let counted = fails_as {X = X} {Y = Y} b c e f in
@@ -83,7 +83,7 @@ recover_error_is e f is = cc
 site_is : (e f : SiteError) → (let a : RecoverError = Site e in let b : RecoverError = Site f in a ≡ b) → e ≡ f
 site_is e f is = cc
 
--- It is told as a recovery's, behind calls that left the counts of the control, the state and the journals.
+-- It is told as a recovery's, after calls that left the counts of the control, the state and the journals.
 pub tells_site : {X Y : Type 0} (a b c : Device → ℕ) (e : SiteError) → ((d : Device) → a d ≤ b d) → ((d : Device) → IsExamined d → b d ≡ a d)
     → TellsFaults b c (λ d. let r : Result X SiteError = Err e in IsErrOf r (Fault d)) → TellsFaults a c (λ d. let r : Result Y RecoverError = Err (Site e) in IsErrOf r (Site (Fault d)))
 tells_site {X} {Y} a b c e le same t = record {

@@ -24,7 +24,7 @@ use Rattle.xrecover.specs.declared.labelling.Labelling.{Labelling}
 use Rattle.xrecover.specs.RedoneVolumes.{BearsLabel, Draws, Recovers, Redone, meant_rows, rows_of}
 use Rattle.xrecover.specs.Works.{Nothing, Works}
 use Rattle.xrecover.specs.Labels.{TreatsLabels}
-use Rattle.xrecover.proofs.Labels.{treats_behind}
+use Rattle.xrecover.proofs.Labels.{treats_after}
 use Rattle.xrecover.proofs.Relations.{recovers_same}
 use Rattle.xrecover.proofs.Works.{works_more, works_reads, works_trans}
 
@@ -72,7 +72,7 @@ module _ (tells : Type 0) (old one : PlantState) (reads : ReadsAll tells old one
 
     pub all_treated : (labelling : Labelling) (step : _) → tells → Works tells step one new → TreatsLabels labelling means.table.rows (walked one one.bytes) one new → TreatsLabels labelling (meant_rows old old.bytes) (walked old old.bytes) old new
     all_treated labelling step told works treats =
-        subst (λ (r : List PairRow). TreatsLabels labelling r (walked old old.bytes) old new) (sym (rows_are told)) (treats_behind tells told labelling means.table.rows step old one new reads works treats)
+        subst (λ (r : List PairRow). TreatsLabels labelling r (walked old old.bytes) old new) (sym (rows_are told)) (treats_after tells told labelling means.table.rows step old one new reads works treats)
 
 -- ---- counts of volumes
 

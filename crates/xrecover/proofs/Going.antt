@@ -117,12 +117,12 @@ duplex_last front r duplex =
     right true = refl
     right false = refl
 
--- Rows behind a row that clashes with none of them are of other devices.
-apart_behind : (q : PairRow) (rows : List PairRow) → list_any (clashes q) rows ≡ false → Apart rows q
-apart_behind q [] none = All-nil (λ p. p.device ≢ q.device)
-apart_behind q (p ∷ rows) none =
+-- Rows after a row that clashes with none of them are of other devices.
+apart_after : (q : PairRow) (rows : List PairRow) → list_any (clashes q) rows ≡ false → Apart rows q
+apart_after q [] none = All-nil (λ p. p.device ≢ q.device)
+apart_after q (p ∷ rows) none =
     let parts = neither (clashes q p) (list_any (clashes q) rows) none in
-    All-cons (λ p. p.device ≢ q.device) p rows (λ same. clash_apart q p parts.0 (sym same)) (apart_behind q rows parts.1)
+    All-cons (λ p. p.device ≢ q.device) p rows (λ same. clash_apart q p parts.0 (sym same)) (apart_after q rows parts.1)
   where
     neither : (a b : Bool) → (a || b) ≡ false → (a ≡ false) × (b ≡ false)
     neither true b e = absurd cc
@@ -137,7 +137,7 @@ pub duplex_found : (v : ℕ) (rows : List PairRow) → none_clash rows ≡ true 
 duplex_found v [] none = refl
 duplex_found v (q ∷ rows) none =
     let parts = and_parts (not (list_any (clashes q) rows)) (none_clash rows) none in
-    by_first (is_of v q) refl (duplex_found v rows parts.1) (apart_behind q rows (not_false (list_any (clashes q) rows) parts.0))
+    by_first (is_of v q) refl (duplex_found v rows parts.1) (apart_after q rows (not_false (list_any (clashes q) rows) parts.0))
   where
     or_none : (b : Bool) → (b || false) ≡ b
     or_none true = refl
@@ -244,7 +244,7 @@ pub going_other : (tells : Type 0) (labelling : Labelling) (left : ℕ → Bool)
 going_other tells labelling left items front r failed a b other g = record {
   works = works_more tells (Recovers front items) (Recovers (front ++ r ∷ []) items) a b (λ told d x y p. recovers_more front (r ∷ []) items d x y p) g.works;
   has_failed = g.has_failed;
-  listed = g.listed ∙ sym (ap (filter (either left g.has_failed)) (devices_append front r false other) ∙ nil_behind);
+  listed = g.listed ∙ sym (ap (filter (either left g.has_failed)) (devices_append front r false other) ∙ nil_after);
   are_duplex = λ v is. duplex_before front (r ∷ []) v (g.are_duplex v is);
   were_fit = g.were_fit;
   counted = g.counted;
@@ -252,8 +252,8 @@ going_other tells labelling left items front r failed a b other g = record {
   stays = g.stays;
 }
   where
-    nil_behind : filter (either left g.has_failed) (duplex_devices front ++ []) ≡ filter (either left g.has_failed) (duplex_devices front)
-    nil_behind = filter-append (either left g.has_failed) (duplex_devices front) [] ∙ append-nil (filter (either left g.has_failed) (duplex_devices front))
+    nil_after : filter (either left g.has_failed) (duplex_devices front ++ []) ≡ filter (either left g.has_failed) (duplex_devices front)
+    nil_after = filter-append (either left g.has_failed) (duplex_devices front) [] ∙ append-nil (filter (either left g.has_failed) (duplex_devices front))
 
 -- A duplex pair whose volume is left alone has failed before.
 pub going_left : (tells : Type 0) (labelling : Labelling) (left : ℕ → Bool) (items : List Item) (front : List PairRow) (r : PairRow) (failed : List ℕ) (a b : PlantState) → is_duplex r.state ≡ true → left r.device ≡ true → Going tells labelling left items front failed a b

@@ -28,20 +28,20 @@ use Rattle.xrecover.specs.Labels.{AreNamed, IsNamed, KeepsLabel, LabelsLast, Tre
 use Rattle.xrecover.proofs.Going.{Apart, none_duplex, same_row}
 use Rattle.xrecover.proofs.Works.{rose_later}
 
--- ---- slots lie behind the label
+-- ---- slots lie after the label
 
-range_behind : (place from to : ℕ) (b c : List ℕ) → drop place c ≡ drop place b → place ≤ from → slice_range c from to ≡ slice_range b from to
-range_behind place from to b c same le =
+range_after : (place from to : ℕ) (b c : List ℕ) → drop place c ≡ drop place b → place ≤ from → slice_range c from to ≡ slice_range b from to
+range_after place from to b c same le =
     let at : place + (from - place) ≡ from = omega (arith, le) in
     ap (λ (k : ℕ). take (to - from) (drop k c)) (sym at)
     ∙ ap (λ (l : List ℕ). take (to - from) l) (sym (drop-drop (from - place) place c) ∙ ap (λ (l : List ℕ). drop (from - place) l) same ∙ drop-drop (from - place) place b)
     ∙ ap (λ (k : ℕ). take (to - from) (drop k b)) at
 
 begins_by : (x : ℕ) (b c : List ℕ) (t : Option (List Rec)) → drop 14 c ≡ drop 14 b → BeginsWithTrack b x t → BeginsWithTrack c x t
-begins_by x b c (Some recs) same begins = range_behind 14 (slot_place x) (slot_place x + length (image recs)) b c same (omega arith) ∙ begins
+begins_by x b c (Some recs) same begins = range_after 14 (slot_place x) (slot_place x + length (image recs)) b c same (omega arith) ∙ begins
 begins_by x b c None same begins = begins
 
--- What is the same behind the label has the same slots.
+-- What is the same after the label has the same slots.
 draws_by : (device : ℕ) (items : List Item) (a b c : List ℕ) → drop 14 c ≡ drop 14 b → Draws device items a b → Draws device items a c
 draws_by device items a b c same draws x has = begins_by x b c (content_through device x items (slot_track a x)) same (draws x has)
 
@@ -60,8 +60,8 @@ module _ (device : ℕ) (items : List Item) where
   label_kept a b f t from to z left = inl (f t from to z left)
 
   -- or nothing changed before,
-  pub last_behind : (a b c : Standing) → a.clock ≤ b.clock → Follows Same a b → b.bytes ≡ a.bytes → SamePast b c → LabelsLast device items b c → LabelsLast device items a c
-  last_behind a b c le f same k last t from to z left = elim (cases_lt t b.clock) [
+  pub last_after : (a b c : Standing) → a.clock ≤ b.clock → Follows Same a b → b.bytes ≡ a.bytes → SamePast b c → LabelsLast device items b c → LabelsLast device items a c
+  last_after a b c le f same k last t from to z left = elim (cases_lt t b.clock) [
     | inl early ↦ inl (label_same a b f t from (omega (arith, early)) z (k.same t (omega (arith, early)) (omega (arith, early)) z left))
     | inr late ↦ elim (last t late to z left) [
       | inl was ↦ let start = label_same a b f b.clock le (omega arith) was.0 was.1 in inl (start.0, start.1, was.2 ∙ start.2)
@@ -94,9 +94,9 @@ module _ (device : ℕ) (items : List Item) where
     ]
   ]
 
--- A label is written behind a sync.
+-- A label is written after a sync.
 pub label_last : (device : ℕ) (a b c : Standing) → a.clock ≤ b.clock → Follows Same a b → b.bytes ≡ a.bytes → IsDurable b → SamePast b c → Follows (Torn 0 14) b c → Torn 0 14 b.bytes c.bytes → LabelsLast device [] a c
-label_last device a b c le f same durable k torn now = last_behind device [] a b c le f same k
+label_last device a b c le f same durable k torn now = last_after device [] a b c le f same k
     (λ t from to z left. let start = torn t from to z left in inr ((λ x none. absurd cc), start.2.after ∙ ap (λ (l : List ℕ). drop 14 l) (durable start.0 start.1) ∙ sym now.after))
 
 -- ---- on a plant
@@ -106,8 +106,8 @@ module _ (tells : Type 0) (told : tells) where
   pub labels_read : (items : List Item) (a b : PlantState) → ReadsAll tells a b → (v : ℕ) → LabelsLast v items (on a (Volume v)) (on b (Volume v))
   labels_read items a b r v = label_kept v items (on a (Volume v)) (on b (Volume v)) (label_same (on a (Volume v)) (on b (Volume v)) (r.moments told (Volume v)))
 
-  pub labels_behind : (step : _) (a b c : PlantState) → ReadsAll tells a b → Works tells step b c → ((v : ℕ) → LabelsLast v (walked b b.bytes) (on b (Volume v)) (on c (Volume v))) → (v : ℕ) → LabelsLast v (walked a a.bytes) (on a (Volume v)) (on c (Volume v))
-  labels_behind step a b c r w last v = last_behind v (walked a a.bytes) (on a (Volume v)) (on b (Volume v)) (on c (Volume v)) ((r.only.elapses told).kept (Volume v)).later
+  pub labels_after : (step : _) (a b c : PlantState) → ReadsAll tells a b → Works tells step b c → ((v : ℕ) → LabelsLast v (walked b b.bytes) (on b (Volume v)) (on c (Volume v))) → (v : ℕ) → LabelsLast v (walked a a.bytes) (on a (Volume v)) (on c (Volume v))
+  labels_after step a b c r w last v = last_after v (walked a a.bytes) (on a (Volume v)) (on b (Volume v)) (on c (Volume v)) ((r.only.elapses told).kept (Volume v)).later
       (r.moments told (Volume v)) (r.same told (Volume v)) ((w.elapses told).kept (Volume v))
       (subst (λ (l : List Item). LabelsLast v l (on b (Volume v)) (on c (Volume v))) (ap walked_by (seen_meaning a b (same_seen tells a b r told))) (last v))
 
@@ -119,7 +119,7 @@ module _ (tells : Type 0) (told : tells) where
     pub labels_pair : (own : List Item) → own ≡ items → ((v : ℕ) → LabelsLast v items (on a (Volume v)) (on b (Volume v))) → LabelsLast r.device own (on b (Volume r.device)) (on c (Volume r.device)) → (v : ℕ) → LabelsLast v items (on a (Volume v)) (on c (Volume v))
     labels_pair own same last here v = elim (cases_eq v r.device) [
       | inl is ↦ subst (λ (n : ℕ). LabelsLast n items (on a (Volume n)) (on c (Volume n))) (sym is)
-          (last_behind r.device items (on a (Volume r.device)) (on b (Volume r.device)) (on c (Volume r.device)) ((before.elapses told).kept (Volume r.device)).later
+          (last_after r.device items (on a (Volume r.device)) (on b (Volume r.device)) (on c (Volume r.device)) ((before.elapses told).kept (Volume r.device)).later
           (λ t from to z left. let start = before.moments told (Volume r.device) t from to z left in (start.0, start.1, untouched start.0 z start.2))
           (untouched (a.bytes (Volume r.device)) (b.bytes (Volume r.device)) (before.bytes told (Volume r.device))) ((works.elapses told).kept (Volume r.device))
           (subst (λ (l : List Item). LabelsLast r.device l (on b (Volume r.device)) (on c (Volume r.device))) same here))
@@ -154,9 +154,9 @@ named_by row a b c (Err e) le cause label quiet = absurd (quiet (rose_later (a.f
 pub named_same : (rows : List PairRow) (a b : PlantState) → ((v : ℕ) → b.bytes (Volume v) ≡ a.bytes (Volume v)) → AreNamed rows a b
 named_same rows a b same k d lt duplex quiet = inl (ap (λ (l : List ℕ). take 14 l) (same (slice_index_or rows k d).device))
 
--- Calls behind others that only read
-pub named_behind : (rows : List PairRow) (a b c : PlantState) → ((v : ℕ) → b.bytes (Volume v) ≡ a.bytes (Volume v)) → ((v : ℕ) → a.faults (Volume v) ≤ b.faults (Volume v)) → AreNamed rows b c → AreNamed rows a c
-named_behind rows a b c same le named k d lt duplex =
+-- Calls after others that only read
+pub named_after : (rows : List PairRow) (a b c : PlantState) → ((v : ℕ) → b.bytes (Volume v) ≡ a.bytes (Volume v)) → ((v : ℕ) → a.faults (Volume v) ≤ b.faults (Volume v)) → AreNamed rows b c → AreNamed rows a c
+named_after rows a b c same le named k d lt duplex =
     let row = slice_index_or rows k d in
     named_then row a b c (ap (λ (l : List ℕ). take 14 l) (same row.device)) (le row.device) (named k d lt duplex)
 
@@ -186,7 +186,7 @@ keeps_then a b c le k kept l = record {
 pub keeps_same : (a b : Standing) → b.bytes ≡ a.bytes → Follows Same a b → KeepsLabel a b
 keeps_same a b same f = record { bytes = ap (λ (l : List ℕ). take 14 l) same; moments = label_same a b f }
 
--- A volume bears its label behind calls that kept the one that was there.
+-- A volume bears its label after calls that kept the one that was there.
 pub bears_then : (labelling : Labelling) (row : PairRow) (a b c : List ℕ) → SameLabel a b → BearsLabel labelling row b c → BearsLabel labelling row a c
 bears_then AsPrimary row a b c same bears = bears
 bears_then AsItIs row a b c same bears = bears ∙ same
@@ -197,14 +197,14 @@ treats_kept AsPrimary row items a b k = (label_kept row.device items (on a (Volu
 treats_kept AsItIs row items a b k = k
 
 module _ (tells : Type 0) (told : tells) where
-  -- calls that read, and calls behind them
+  -- calls that read, and calls after them
   pub treats_read : (labelling : Labelling) (rows : List PairRow) (items : List Item) (a b : PlantState) → ReadsAll tells a b → TreatsLabels labelling rows items a b
   treats_read AsPrimary rows items a b r = (labels_read tells told items a b r, named_same rows a b (λ v. r.same told (Volume v)))
   treats_read AsItIs rows items a b r = λ v. keeps_same (on a (Volume v)) (on b (Volume v)) (r.same told (Volume v)) (r.moments told (Volume v))
 
-  pub treats_behind : (labelling : Labelling) (rows : List PairRow) (step : _) (a b c : PlantState) → ReadsAll tells a b → Works tells step b c → TreatsLabels labelling rows (walked b b.bytes) b c → TreatsLabels labelling rows (walked a a.bytes) a c
-  treats_behind AsPrimary rows step a b c r w t = (labels_behind tells told step a b c r w t.0, named_behind rows a b c (λ v. r.same told (Volume v)) (λ v. r.only.faults (Volume v)) t.1)
-  treats_behind AsItIs rows step a b c r w t = λ v.
+  pub treats_after : (labelling : Labelling) (rows : List PairRow) (step : _) (a b c : PlantState) → ReadsAll tells a b → Works tells step b c → TreatsLabels labelling rows (walked b b.bytes) b c → TreatsLabels labelling rows (walked a a.bytes) a c
+  treats_after AsPrimary rows step a b c r w t = (labels_after tells told step a b c r w t.0, named_after rows a b c (λ v. r.same told (Volume v)) (λ v. r.only.faults (Volume v)) t.1)
+  treats_after AsItIs rows step a b c r w t = λ v.
       keeps_then (on a (Volume v)) (on b (Volume v)) (on c (Volume v)) ((r.only.elapses told).kept (Volume v)).later (keeps_same (on a (Volume v)) (on b (Volume v)) (r.same told (Volume v)) (r.moments told (Volume v))) ((w.elapses told).kept (Volume v)) (t v)
 
   -- One pair more.

@@ -34,7 +34,7 @@ not_true false e = refl
 
 -- ---- jobs at home
 
--- What is so of each element, and of one behind them.
+-- What is so of each element, and of one after them.
 push_at : {X : Type 0} (P : ℕ → X → Type 0) (xs : List X) (x : X) → ((i : ℕ) (d : X) → i < length xs → P i (get_or xs i d)) → P (length xs) x → (i : ℕ) (d : X) → i < length (xs ++ x ∷ []) → P i (get_or (xs ++ x ∷ []) i d)
 push_at P [] x each last zero d lt = last
 push_at P [] x each last (suc i) d lt = absurd (omega (arith, lt))

@@ -23,7 +23,7 @@ use Rattle.site_means.proofs.Reaching.{meant_by}
 use Rattle.volume_label.specs.Labels.{volume_need}
 use Rattle.xrecover.specs.declared.recover_error.RecoverError.{RecoverError}
 use Rattle.xrecover.specs.declared.recover_error.RecoverError.TheVariants.{Site, Other}
-use Rattle.xrecover.specs.Answers.{Behind, HasWalk, IsGoodOrCalledFor, IsMeant, IsOf, IsRecoverable, IsTooSmall}
+use Rattle.xrecover.specs.Answers.{After, HasWalk, IsGoodOrCalledFor, IsMeant, IsOf, IsRecoverable, IsTooSmall}
 use Rattle.xrecover.specs.Pairs.{first_small}
 use Rattle.pair_table.specs.States.{is_duplex}
 use Rattle.xrecover.specs.Sights.{TellsDurable}
@@ -62,7 +62,7 @@ first_examined plant d e = by_control (is_short plant Control) e
     by_control true e = let same : d ≡ Control = cc in subst (λ (k : Device). IsExamined k) (sym same) tt
     by_control false e = by_state (is_short plant State) e
 
--- ---- behind what is meant
+-- ---- after what is meant
 
 module _ (old one : PlantState) (site : SameSite old one) (session : List ℕ) (means : Means) (meant : IsMeant old session means) where
   pub too_small : (row : PairRow) → first_small one means.table.rows ≡ Some row → IsTooSmall old session (Volume row.device) (volume_need row.cylinders)
@@ -88,17 +88,17 @@ called_as plant session good other (Site (Fault d)) says = says
 called_as plant session good other (Site (TooSmall d needed)) says = says
 called_as plant session good other (Site NoMemory) says = says
 
--- ---- behind a mark
+-- ---- after a mark
 
 module _ (tells : Type 0) (told : tells) (old one : PlantState) (reads : ReadsAll tells old one) (m : Mark) (session : List ℕ) (chosen : IsChosen old m) (same : m.session ≡ session) where
   pub is_of : IsOf old session
   is_of = record { mark = m; chosen = chosen; same = same }
 
-  behind : (d : Device) → Behind old session d
-  behind Control = tt
-  behind State = record { mark = m; chosen = chosen; same = same }
-  behind (Journal j) = record { mark = m; chosen = chosen; same = same }
-  behind (Volume v) = record { mark = m; chosen = chosen; same = same }
+  after : (d : Device) → After old session d
+  after Control = tt
+  after State = record { mark = m; chosen = chosen; same = same }
+  after (Journal j) = record { mark = m; chosen = chosen; same = same }
+  after (Volume v) = record { mark = m; chosen = chosen; same = same }
 
   seen : SameSeen old one
   seen = same_seen tells old one reads told
@@ -106,13 +106,13 @@ module _ (tells : Type 0) (told : tells) (old one : PlantState) (reads : ReadsAl
   pub chosen_later : IsChosen one m
   chosen_later = seen_chosen old one seen m chosen
 
-  -- An error behind the mark says the same of the devices before.
+  -- An error after the mark says the same of the devices before.
   pub means_says : {X : Type 0} (good : X → Type 0) (e : SiteError) → (let r : Result SiteReading SiteError = Err e in AnswersMeaning (λ reading. IsRead one reading) (meaning one one.bytes) r)
       → ((d : Device) → (let r : Result SiteReading SiteError = Err e in IsErrOf r (Fault d)) → IsInTurn one d)
       → ((d : Device) (needed : ℕ) → ¬ (let r : Result SiteReading SiteError = Err e in IsErrOf r (TooSmall d needed))) → (let r : Result X RecoverError = Err (Site e) in IsGoodOrCalledFor old session good r)
   means_says good NoSession says turn small = sym (seen_meaning old one seen) ∙ says
-  means_says good (Damaged d place) says turn small = (sym (seen_meaning old one seen) ∙ says, behind d)
-  means_says good (Fault d) says turn small = (behind d, seen_reached old one seen d (turn d refl))
+  means_says good (Damaged d place) says turn small = (sym (seen_meaning old one seen) ∙ says, after d)
+  means_says good (Fault d) says turn small = (after d, seen_reached old one seen d (turn d refl))
   means_says good (TooSmall d needed) says turn small = absurd (small d needed refl)
   means_says good NoMemory says turn small = is_of
 
@@ -124,33 +124,33 @@ module _ (tells : Type 0) (told : tells) (old one : PlantState) (reads : ReadsAl
 pub mark_says : {X : Type 0} (plant : PlantState) (session : List ℕ) (good : X → Type 0) (e : SiteError) → IsOfControl e → (let r : Result Mark SiteError = Err e in AnswersMeaning (λ m. IsChosen plant m) (meaning plant plant.bytes) r)
     → (let r : Result X RecoverError = Err (Site e) in IsGoodOrCalledFor plant session good r)
 mark_says plant session good NoSession wrong says = says
-mark_says plant session good (Damaged d place) wrong says = (says, subst (λ (k : Device). Behind plant session k) (sym wrong) tt)
-mark_says plant session good (Fault d) wrong says = (subst (λ (k : Device). Behind plant session k) (sym wrong) tt, subst (λ (k : Device). IsInTurn plant k) (sym wrong) tt)
+mark_says plant session good (Damaged d place) wrong says = (says, subst (λ (k : Device). After plant session k) (sym wrong) tt)
+mark_says plant session good (Fault d) wrong says = (subst (λ (k : Device). After plant session k) (sym wrong) tt, subst (λ (k : Device). IsInTurn plant k) (sym wrong) tt)
 mark_says plant session good (TooSmall d needed) wrong says = absurd wrong
 mark_says plant session good NoMemory wrong says = absurd wrong
 
 -- ---- what lasts
 
--- What is meant behind a mark isn't told of the control.
-abbrev StandsBehind : Meaning → Type 0
-StandsBehind NoMark = ⊥
-StandsBehind (DamagedAt Control place) = ⊥
-StandsBehind (DamagedAt State place) = Unit {0}
-StandsBehind (DamagedAt (Journal j) place) = Unit {0}
-StandsBehind (DamagedAt (Volume v) place) = Unit {0}
-StandsBehind (Meant means walk) = Unit {0}
+-- What is meant after a mark isn't told of the control.
+abbrev StandsAfter : Meaning → Type 0
+StandsAfter NoMark = ⊥
+StandsAfter (DamagedAt Control place) = ⊥
+StandsAfter (DamagedAt State place) = Unit {0}
+StandsAfter (DamagedAt (Journal j) place) = Unit {0}
+StandsAfter (DamagedAt (Volume v) place) = Unit {0}
+StandsAfter (Meant means walk) = Unit {0}
 
 module _ (old new : PlantState) where
-  by_walk_end : (m : Mark) (s : Stored) (w : Walk) (bad : Option (ℕ × ℕ)) → StandsBehind (meaning_by_walk m s w bad)
+  by_walk_end : (m : Mark) (s : Stored) (w : Walk) (bad : Option (ℕ × ℕ)) → StandsAfter (meaning_by_walk m s w bad)
   by_walk_end m s w None = tt
   by_walk_end m s w (Some bad) = tt
 
-  by_slot : (m : Mark) (r : Result Stored ℕ) → StandsBehind (meaning_by_state (shape_of old) old.bytes m r)
+  by_slot : (m : Mark) (r : Result Stored ℕ) → StandsAfter (meaning_by_state (shape_of old) old.bytes m r)
   by_slot m (Ok s) = by_walk_end m s (walk_in (shape_of old) old.bytes m s.rows) (walk_in (shape_of old) old.bytes m s.rows).bad
   by_slot m (Err place) = tt
 
-  stands_behind : (m : Mark) (k : Meaning) → IsChosen old m → meaning old old.bytes ≡ k → StandsBehind k
-  stands_behind m k chosen is = subst (λ (n : Meaning). StandsBehind n) (sym (ap (λ (c : Result (Option Mark) ℕ). meaning_by_mark (shape_of old) old.bytes c) chosen) ∙ is) (by_slot m (stored_in (shape_of old) old.bytes m))
+  stands_after : (m : Mark) (k : Meaning) → IsChosen old m → meaning old old.bytes ≡ k → StandsAfter k
+  stands_after m k chosen is = subst (λ (n : Meaning). StandsAfter n) (sym (ap (λ (c : Result (Option Mark) ℕ). meaning_by_mark (shape_of old) old.bytes c) chosen) ∙ is) (by_slot m (stored_in (shape_of old) old.bytes m))
 
   -- Where no mark is chosen only the control is read.
   only_control : IsDurable (on new Control) → ((m : Mark) → ¬ IsChosen old m) → AllDurable old new
@@ -169,14 +169,14 @@ module _ (old new : PlantState) where
   pub mark_durable : (X Y : Type 0) (session : List ℕ) (good : X → Type 0) (e : RecoverError) → ((k : SiteError) → e ≡ Site k → IsOfControl k) → (¬ (e ≡ Site (Fault Control)) → IsDurable (on new Control))
       → (let r : Result X RecoverError = Err e in IsGoodOrCalledFor old session good r) → (let r : Result Y RecoverError = Err e in TellsDurable old new r)
   mark_durable X Y session good (Other name) wrong durable says = durable (λ is. cc)
-  mark_durable X Y session good (Site NoSession) wrong durable says = only_control (durable (λ is. cc)) (λ m chosen. stands_behind m NoMark chosen says)
+  mark_durable X Y session good (Site NoSession) wrong durable says = only_control (durable (λ is. cc)) (λ m chosen. stands_after m NoMark chosen says)
   mark_durable X Y session good (Site (Damaged d place)) wrong durable says =
-      only_control (durable (λ is. cc)) (λ m chosen. subst (λ (k : Device). StandsBehind (DamagedAt k place)) (wrong (Damaged d place) refl) (stands_behind m (DamagedAt d place) chosen says.0))
+      only_control (durable (λ is. cc)) (λ m chosen. subst (λ (k : Device). StandsAfter (DamagedAt k place)) (wrong (Damaged d place) refl) (stands_after m (DamagedAt d place) chosen says.0))
   mark_durable X Y session good (Site (Fault d)) wrong durable says = tt
   mark_durable X Y session good (Site (TooSmall d needed)) wrong durable says = tt
   mark_durable X Y session good (Site NoMemory) wrong durable says = tt
 
--- What lasts behind a mark.
+-- What lasts after a mark.
 module _ (tells : Type 0) (told : tells) (old one new : PlantState) (first : ReadsAll tells old one) (then : ReadsAll tells one new) (control : IsDurable (on one Control)) where
   rest_before : RestDurable one new → RestDurable old new
   rest_before rest d other turn = rest d other (seen_reached one old (seen_back old one (same_seen tells old one first told)) d turn)

@@ -21,7 +21,7 @@ use Rattle.pair_table.specs.States.{is_duplex}
 use Rattle.xrecover.specs.RedoneVolumes.{Draws, Recovers, Redone, SameLabel}
 use Rattle.xrecover.specs.SideVolumes.{AppliesSides, OfVolumes}
 use Rattle.xrecover.specs.Works.{Works}
-use Rattle.xrecover.proofs.Contents.{draws_behind}
+use Rattle.xrecover.proofs.Contents.{draws_after}
 use Rattle.xrecover.proofs.Fails.{counted_same, counted_then}
 use Rattle.xrecover.proofs.Going.{all_listed, either}
 use Rattle.xrecover.proofs.Labels.{bears_then, keeps_same, keeps_then, label_kept, last_redone, named_then, slots_label}
@@ -46,7 +46,7 @@ of_duplex P (q ∷ rows) all = by_state (is_duplex q.state) refl (of_duplex P ro
 has_at : (rows : List PairRow) (k : ℕ) (d : PairRow) → k < length rows → is_duplex (slice_index_or rows k d).state ≡ true → HasDuplex rows (slice_index_or rows k d).device
 has_at rows k d lt duplex = duplex_at rows k (slice_index_or rows k d) (slice_get-get_or rows k d lt) duplex
 
--- ---- behind the walk
+-- ---- after the walk
 
 module _ (tells : Type 0) (rows : List PairRow) (items : List Item) (was left : ℕ → Bool) (a b : PlantState) (walk : AppliesSides tells items was left a b) (duplex : (v : ℕ) → HasDuplex rows v → was v ≡ false) (others : (v : ℕ) → ¬ HasDuplex rows v → was v ≡ true) where
   recovers_sides : (d : Device) (x y : List ℕ) → OfVolumes was (λ v b c. DiffersInSlots v items b c) d x y → Recovers rows items d x y
@@ -146,7 +146,7 @@ module _ (tells : Type 0) (rows : List PairRow) (items : List Item) (was left : 
 
     module _ (told : tells) (content : (v : ℕ) → left v ≡ false → Draws v items (a.bytes (Volume v)) (b.bytes (Volume v))) where
       draws_now : (v : ℕ) → HasDuplex rows v → left v ≡ false → Draws v items (a.bytes (Volume v)) (c.bytes (Volume v))
-      draws_now v has fit = draws_behind v items (a.bytes (Volume v)) (b.bytes (Volume v)) (c.bytes (Volume v)) (content v fit) ((fin.works.bytes told (Volume v)).0 has)
+      draws_now v has fit = draws_after v items (a.bytes (Volume v)) (b.bytes (Volume v)) (c.bytes (Volume v)) (content v fit) ((fin.works.bytes told (Volume v)).0 has)
 
       good_flags : (x y : Bool) → ¬ ((x || y) ≡ true) → (x ≡ false) × (y ≡ false)
       good_flags true y none = absurd (none refl)

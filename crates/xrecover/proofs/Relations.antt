@@ -7,7 +7,7 @@ use Rattle.crash_plant.specs.Bytes.{Torn}
 use Rattle.crash_plant.specs.Moments.{PlantState}
 use Rattle.crash_plant.specs.declared.device.Device.{Device}
 use Rattle.crash_plant.specs.declared.device.Device.TheVariants.{Control, State, Journal, Volume}
-use Rattle.xrc_journal.specs.Items.{Item, Earlier, behind, form_of, is_item, is_within, is_drawn, are_items_behind}
+use Rattle.xrc_journal.specs.Items.{Item, Earlier, earlier_after, form_of, is_item, is_within, is_drawn, are_items_after}
 use Rattle.xrc_journal.specs.Items.Item.{Image, Delta, Pair, Gone}
 use Rattle.xrc_journal.specs.Contents.{HasItem}
 use Rattle.xrc_journal.proofs.ItemsAgain.{image_rules}
@@ -79,11 +79,11 @@ module _ (plant : PlantState) (device x : ℕ) where
   one_within earlier (Pair row) keeps has = absurd cc
   one_within earlier (Gone of) keeps has = absurd cc
 
-  pub items_within : (earlier : Earlier) (items : List Item) → are_items_behind (form_of plant) earlier items ≡ true → HasItem device x items → slot_end x ≤ plant.lengths (Volume device)
+  pub items_within : (earlier : Earlier) (items : List Item) → are_items_after (form_of plant) earlier items ≡ true → HasItem device x items → slot_end x ≤ plant.lengths (Volume device)
   items_within earlier [] keep has = absurd cc
   items_within earlier (i ∷ items) keep has =
-      let parts = and_parts (is_item (form_of plant) earlier i) (are_items_behind (form_of plant) (behind i earlier) items) keep in
+      let parts = and_parts (is_item (form_of plant) earlier i) (are_items_after (form_of plant) (earlier_after i earlier) items) keep in
       elim (has_split device x i items has) [
         | inl here ↦ one_within earlier i parts.0 here
-        | inr more ↦ items_within (behind i earlier) items parts.1 more
+        | inr more ↦ items_within (earlier_after i earlier) items parts.1 more
       ]

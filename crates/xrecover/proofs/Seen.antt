@@ -201,7 +201,7 @@ module _ (tells : Type 0) (told : tells) (rows : List PairRow) (old new : PlantS
     now : meaning old c ≡ meaning old b
     now = meaning_alike old b c logs_same
 
-    -- behind the walk's items a track is the same
+    -- after the walk's items a track is the same
     redone_same : (d x : ℕ) → Redoes d (walked old old.bytes) (b (Volume d)) (c (Volume d)) → content_through d x (walked old old.bytes) (slot_track (c (Volume d)) x) ≡ content_through d x (walked old old.bytes) (slot_track (b (Volume d)) x)
     redone_same d x redoes = elim (item_cases d x (walked old old.bytes)) [
       | inl has ↦ contents_are_drawn d x (walked old old.bytes) (slot_track (b (Volume d)) x) (slot_track (c (Volume d)) x) (walked_drawn old old.bytes d x has)

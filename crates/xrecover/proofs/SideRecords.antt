@@ -52,7 +52,7 @@ module _ (items : List Item) (was : ℕ → Bool) where
   ]
 
   module _ (tells : Type 0) (is : ℕ → Bool) (a b c : PlantState) (first : AppliesSides tells items was is a b) where
-    -- a record that is read behind them
+    -- a record that is read after them
     pub sides_read : ReadsAll tells b c → AppliesSides tells items was is a c
     sides_read r = record {
       works = works_trans tells (OfVolumes was (λ v b c. DiffersInSlots v items b c)) Nothing (OfVolumes was (λ v b c. DiffersInSlots v items b c)) a b c (λ d x y z p e. after_same d x y z p e) (λ d x y p. p) first.works (works_reads tells b c r);

@@ -1,4 +1,4 @@
--- A duplex pair finished behind others: what its call needs, and what stands afterwards.
+-- A duplex pair finished after others: what its call needs, and what stands afterwards.
 use Rattle.std.proofs.Common.{inl, inr, refl, ap, ◌∙◌, ◌≡◌, ◌≤◌, ◌<◌, ◌+◌, ◌++◌, ◌∷◌, ℕ, Bool, true, false, cond, List, [], take, None, Some, sym, subst, arith}
 use Rattle.std.specs.Prelude.{slice_get}
 use Rattle.std.proofs.lemmas.Bool.{cases_Bool}

@@ -78,7 +78,7 @@ works_one tells v step a b w bytes moments = record {
   faults = w.faults;
 }
 
--- a count that rose behind others
+-- a count that rose after others
 pub rose_later : (before mid now : ℕ) → before ≤ mid → Rose mid now → Rose before now
 rose_later before mid now le (inl less) = inl (omega (arith, le, less))
 rose_later before mid now le (inr most) = inr most

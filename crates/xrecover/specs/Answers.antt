@@ -42,7 +42,7 @@ pub record IsRecoverable (plant : PlantState) (session : List ℕ) (means : Mean
   pub meant : IsMeant plant session means
   pub long : first_small plant means.table.rows ≡ None
 
--- The first duplex pair's volume that is too small, behind a meaning.
+-- The first duplex pair's volume that is too small, after a meaning.
 pub record IsTooSmall (plant : PlantState) (session : List ℕ) (d : Device) (needed : ℕ) : Type 0 where
   pub of : IsOf plant session
   pub means : Means
@@ -54,19 +54,19 @@ pub record IsTooSmall (plant : PlantState) (session : List ℕ) (d : Device) (ne
 
 -- Where a device is damaged or fails, all before it in the order of the answers was good: the control is read first, and the session
 -- is compared before the state is read.
-abbrev pub Behind : PlantState → (session : List ℕ) → Device → Type 0
-Behind plant session Control = Unit {0}
-Behind plant session State = IsOf plant session
-Behind plant session (Journal j) = IsOf plant session
-Behind plant session (Volume v) = IsOf plant session
+abbrev pub After : PlantState → (session : List ℕ) → Device → Type 0
+After plant session Control = Unit {0}
+After plant session State = IsOf plant session
+After plant session (Journal j) = IsOf plant session
+After plant session (Volume v) = IsOf plant session
 
 -- What was found is good, or the error is the one that what reads give calls for. A device that fails was read in its turn.
 abbrev pub IsGoodOrCalledFor : {X : Type 0} → PlantState → (session : List ℕ) → (good : X → Type 0) → Result X RecoverError → Type 0
 IsGoodOrCalledFor plant session good (Ok x) = good x
 IsGoodOrCalledFor plant session good (Err (Other name)) = IsOther plant session name
 IsGoodOrCalledFor plant session good (Err (Site NoSession)) = meaning plant plant.bytes ≡ NoMark
-IsGoodOrCalledFor plant session good (Err (Site (Damaged d place))) = (meaning plant plant.bytes ≡ DamagedAt d place) × Behind plant session d
-IsGoodOrCalledFor plant session good (Err (Site (Fault d))) = Behind plant session d × IsInTurn plant d
+IsGoodOrCalledFor plant session good (Err (Site (Damaged d place))) = (meaning plant plant.bytes ≡ DamagedAt d place) × After plant session d
+IsGoodOrCalledFor plant session good (Err (Site (Fault d))) = After plant session d × IsInTurn plant d
 IsGoodOrCalledFor plant session good (Err (Site (TooSmall d needed))) = (first_short plant ≡ Some d) ⊎ IsTooSmall plant session d needed
 IsGoodOrCalledFor plant session good (Err (Site NoMemory)) = IsOf plant session
 

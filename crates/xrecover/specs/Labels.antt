@@ -18,7 +18,7 @@ pub record KeepsLabel (old new : Standing) : Type 0 where
 
 -- A label is written on what is redone and durable: at every moment of calls whatever a crash leaves of a device has the 14 bytes of a
 -- label that it could have had before them, or the slot of each of its tracks of which an item is begins with the image of the track's
--- content, and it holds behind the label what a read gives in the end.
+-- content, and it holds after the label what a read gives in the end.
 abbrev pub LabelsLast : (device : ℕ) → List Item → (old new : Standing) → Type 0
 LabelsLast device items old new = (t : ℕ) → old.clock ≤ t → t ≤ new.clock → (c : List ℕ) → new.images t c → ((b : List ℕ) × old.images old.clock b × SameLabel b c) ⊎ (Draws device items old.bytes c × (drop 14 c ≡ drop 14 new.bytes))
 

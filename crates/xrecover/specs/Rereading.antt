@@ -21,8 +21,8 @@ FoundAgain set found items (Err NoSession) = ⊥
 FoundAgain set found items (Err (TooSmall d needed)) = ⊥
 FoundAgain set found items (Err NoMemory) = ⊥
 
--- Behind a record a walk goes on before the end of a journal, at the next number.
-pub record IsBehind (plant : PlantState) (at after : Spot) : Type 0 where
+-- After a record a walk goes on before the end of a journal, at the next number.
+pub record IsAfter (plant : PlantState) (at after : Spot) : Type 0 where
   pub set : after.set < plant.journals
   pub place : after.place < plant.lengths (Journal after.set)
   pub number : after.number ≡ at.number + 1

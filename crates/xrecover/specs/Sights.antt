@@ -43,7 +43,7 @@ TellsDurable old new (Err (Site (Fault d))) = Unit {0}
 TellsDurable old new (Err (Site (TooSmall d needed))) = Unit {0}
 TellsDurable old new (Err (Site NoMemory)) = Unit {0}
 
--- What is answered of the devices is so of whatever a crash leaves now. Behind a fault nothing was written, or the rest is so.
+-- What is answered of the devices is so of whatever a crash leaves now. After a fault nothing was written, or the rest is so.
 abbrev pub TellsLasting : {X : Type 0} → (tells : Type 0) → (old new : PlantState) → Result X RecoverError → Type 0
 TellsLasting tells old new (Ok x) = AtNow (MeansAsRead old) new
 TellsLasting tells old new (Err (Other name)) = AtNow (ChoosesAsRead old) new

@@ -90,7 +90,7 @@ pub(crate) fn read_own_mark<P: Plant>(
     ensures slot { IfOk result (λ mark. mark.state_slot ≤ 1) }
     ensures spot { IfOk result (λ mark. HasSpot (P.state plant.old) mark.at) }
     ensures wrong { (e : SiteErrorValue) → IsErrOf result (Site e) → IsOfControl e }
-    // Behind a sync, whatever is told of the control lasts.
+    // After a sync, whatever is told of the control lasts.
     ensures durable { P.tells → first ≡ Synced → ¬ IsErrOf result (Site (Fault Control)) → IsDurable (on (P.state plant.new) Control) }
     ensures fails { FailsSo (P.state plant.old).faults (P.state plant.new).faults result }
     ensures reads { ReadsAll P.tells (P.state plant.old) (P.state plant.new) }
@@ -120,7 +120,7 @@ pub fn read_session<P: Plant>(
     // Whatever reads gave, the spot lies in a journal, and the devices of the rows are the plant's.
     ensures spot { IfOk result (λ reading. HasSpot (P.state plant.old) reading.mark.at) }
     ensures below { IfOk result (λ reading. IsTrue (are_below (P.state plant.old).volumes reading.means.table.rows)) }
-    // Behind syncs, whatever is told of the devices lasts.
+    // After syncs, whatever is told of the devices lasts.
     ensures durable { P.tells → first ≡ Synced → TellsDurable (P.state plant.old) (P.state plant.new) result }
     ensures examined { (d : AnyDevice) → IsErrOf result (Site (Fault d)) → IsExamined d }
     ensures fails { FailsSo (P.state plant.old).faults (P.state plant.new).faults result }
@@ -132,7 +132,7 @@ pub fn read_session<P: Plant>(
     Ok(reading)
 }
 
-/// What was read of the devices of a session behind syncs, if the volumes of the duplex pairs are long enough. Nothing is written.
+/// What was read of the devices of a session after syncs, if the volumes of the duplex pairs are long enough. Nothing is written.
 pub(crate) fn read_recoverable<P: Plant>(
     alloc: Global,
     plant: &mut P,

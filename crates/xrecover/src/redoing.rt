@@ -13,7 +13,7 @@ ghost use Rattle.site_means.specs.Answers.{FaultsAreCounted, HasSpot, ReadsAll};
 ghost use Rattle.site_means.specs.Sight.{walked};
 ghost use Rattle.site_means.specs.Steps.{HoldsEveryBody};
 ghost use Rattle.xrecover.specs.Answers.{HasWalk, TellsFaults};
-ghost use Rattle.xrecover.specs.Rereading.{FoundAgain, IsBehind, IsWalkFault};
+ghost use Rattle.xrecover.specs.Rereading.{FoundAgain, IsAfter, IsWalkFault};
 ghost use Rattle.xrecover.specs.RedoneVolumes.{Draws};
 ghost use Rattle.xrecover.specs.SideVolumes.{AppliesSides, AreHome, AreSet, is_left};
 
@@ -26,7 +26,7 @@ use std::thread::Threads;
 use tod_stamp::Stamp;
 use xrc_journal::{Body, WalkError, Walked, walk};
 
-/// Reads the record at a spot once more, and gives its time and the spot behind it. None where there is none.
+/// Reads the record at a spot once more, and gives its time and the spot after it. None where there is none.
 fn read_again<P: Plant>(
     plant: &mut P,
     at: Spot,
@@ -39,7 +39,7 @@ fn read_again<P: Plant>(
     requires long { (j : ℕ) → j < (P.state plant.old).journals → 1 ≤ (P.state plant.old).lengths (Journal j) }
     requires room { min ((P.state plant.old).lengths (Journal at.set)) most_body ≤ body.old.room }
     ensures finds { P.tells → FoundAgain at.set (walk_one (form_of (P.state plant.old)) (P.state plant.old).journals ((P.state plant.old).bytes (Journal at.set)) at last.0) body.new.items result }
-    ensures behind { IfOk result (λ next. IfSome next (λ n. IsBehind (P.state plant.old) at n.1)) }
+    ensures further { IfOk result (λ next. IfSome next (λ n. IsAfter (P.state plant.old) at n.1)) }
     ensures number { at.number < 2 ^ 64 }
     ensures keep { AreItems (form_of (P.state plant.old)) body.new.items }
     ensures room { body.new.room ≡ body.old.room }

@@ -21,7 +21,7 @@ returns-clause-none c = λ nowhere x from. elim (cases_lt x (64 * (c.args.from /
   | inl here ↦
       let word = get_or c.args.words.now (c.args.from / 64) 0 in
       none_in_word c.args.words.now word c.args.from refl (c.type_inv.words (c.args.from / 64)).fits c.if-rest-ne0.false x from (omega arith)
-  | inr behind ↦ c.first_bit.ensures.none nowhere x behind
+  | inr after ↦ c.first_bit.ensures.none nowhere x after
 ]
 
 pub returns-clause-some : goal.returns-clause-some

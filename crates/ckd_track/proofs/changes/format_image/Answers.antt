@@ -5,7 +5,7 @@ use Rattle.ckd_track.specs.Tracks.{IsTrack}
 use Rattle.ckd_track.specs.Images.{record_spelling}
 use Rattle.ckd_track.specs.Slots.{track_of_image, with_bytes}
 use Rattle.ckd_track.proofs.RowLaws.{above_is_track, above_rises}
-use Rattle.ckd_track.proofs.Formatting.{behind, format_holds, formatted_lost}
+use Rattle.ckd_track.proofs.Formatting.{fits_after_kept, format_holds, formatted_lost}
 use Rattle.ckd_track.proofs.changes.format_image.Goals as goal
 
 pub returns-then-front-after-clause-seen : goal.returns-then-front-after-clause-seen
@@ -18,22 +18,22 @@ fitting_records-taken-requires c =
 
 pub put_records-end-requires-clause-track : goal.put_records-end-requires-clause-track
 put_records-end-requires-clause-track c =
-    let b = behind c.args.after c.args.used c.args.given.now c.args.buffer.now c.kept-front.result c.requires.holds (above_rises c.args.after c.args.given.now c.requires.above) c.kept-front.ensures in
+    let b = fits_after_kept c.args.after c.args.used c.args.given.now c.args.buffer.now c.kept-front.result c.requires.holds (above_rises c.args.after c.args.given.now c.requires.above) c.kept-front.ensures in
     subst (λ (t : List Rec). IsTrack t) (sym c.fitting_records-taken.ensures) b.is_track
 
 pub put_records-end-requires-clause-room : goal.put_records-end-requires-clause-room
 put_records-end-requires-clause-room c =
-    let b = behind c.args.after c.args.used c.args.given.now c.args.buffer.now c.kept-front.result c.requires.holds (above_rises c.args.after c.args.given.now c.requires.above) c.kept-front.ensures in
+    let b = fits_after_kept c.args.after c.args.used c.args.given.now c.args.buffer.now c.kept-front.result c.requires.holds (above_rises c.args.after c.args.given.now c.requires.above) c.kept-front.ensures in
     omega (arith, b.short, ap (λ (t : List Rec). length (flat_map record_spelling t)) c.fitting_records-taken.ensures, c.requires.holds.sized)
 
 pub overflow_cast-taken : goal.overflow_cast-taken
 overflow_cast-taken c =
-    let b = behind c.args.after c.args.used c.args.given.now c.args.buffer.now c.kept-front.result c.requires.holds (above_rises c.args.after c.args.given.now c.requires.above) c.kept-front.ensures in
+    let b = fits_after_kept c.args.after c.args.used c.args.given.now c.args.buffer.now c.kept-front.result c.requires.holds (above_rises c.args.after c.args.given.now c.requires.above) c.kept-front.ensures in
     omega (arith, b.few, ap (λ (t : List Rec). length t) c.fitting_records-taken.ensures)
 
 pub overflow_add-front : goal.overflow_add-front
 overflow_add-front c =
-    let b = behind c.args.after c.args.used c.args.given.now c.args.buffer.now c.kept-front.result c.requires.holds (above_rises c.args.after c.args.given.now c.requires.above) c.kept-front.ensures in
+    let b = fits_after_kept c.args.after c.args.used c.args.given.now c.args.buffer.now c.kept-front.result c.requires.holds (above_rises c.args.after c.args.given.now c.requires.above) c.kept-front.ensures in
     omega (arith, b.few, ap (λ (t : List Rec). length t) c.fitting_records-taken.ensures)
 
 pub returns-clause-holds : goal.returns-clause-holds

@@ -1,6 +1,6 @@
 use Rattle.std.proofs.Common.{◌∙◌, ◌+◌, ap, sym, arith, take, length, List, ℕ}
 use Rattle.ckd_track.specs.Slots.{track_of_image, with_bytes, spelled_records}
-use Rattle.ckd_track.proofs.Formatting.{behind, taken_is, format_holds, formatted_lost}
+use Rattle.ckd_track.proofs.Formatting.{fits_after_kept, taken_is, format_holds, formatted_lost}
 use Rattle.ckd_track.proofs.changes.format_image_spelled.Goals as goal
 
 pub returns-then-front-after-clause-seen : goal.returns-then-front-after-clause-seen
@@ -15,13 +15,13 @@ slice_bounds-put_bytes-end c =
 pub put_bytes-end-requires : goal.put_bytes-end-requires
 put_bytes-end-requires c =
     let t = taken_is (spelled_records c.args.count c.args.given.now) c.args.given.now c.kept-front.result.room c.fitting_front-taken.result c.requires.spelled.spelled c.fitting_front-taken.ensures in
-    let b = behind c.args.after c.args.used (spelled_records c.args.count c.args.given.now) c.args.buffer.now c.kept-front.result c.requires.holds c.requires.above c.kept-front.ensures in
+    let b = fits_after_kept c.args.after c.args.used (spelled_records c.args.count c.args.given.now) c.args.buffer.now c.kept-front.result c.requires.holds c.requires.above c.kept-front.ensures in
     omega (arith, b.short, ap length t.bytes, c.requires.holds.sized)
 
 pub overflow_add-front : goal.overflow_add-front
 overflow_add-front c =
     let t = taken_is (spelled_records c.args.count c.args.given.now) c.args.given.now c.kept-front.result.room c.fitting_front-taken.result c.requires.spelled.spelled c.fitting_front-taken.ensures in
-    let b = behind c.args.after c.args.used (spelled_records c.args.count c.args.given.now) c.args.buffer.now c.kept-front.result c.requires.holds c.requires.above c.kept-front.ensures in
+    let b = fits_after_kept c.args.after c.args.used (spelled_records c.args.count c.args.given.now) c.args.buffer.now c.kept-front.result c.requires.holds c.requires.above c.kept-front.ensures in
     omega (arith, b.few, t.count)
 
 pub returns-clause-holds : goal.returns-clause-holds

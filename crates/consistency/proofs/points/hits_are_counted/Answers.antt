@@ -7,6 +7,6 @@ returns c = record {
   more = marked_hits_counted;
   leg = λ run s l leg has. leg_is_counted run s l leg has;
   mark = λ run s l q number marked leg has. mark_is_counted run s l leg q number marked has;
-  command = λ run s l q number behind leg has. command_is_counted run s l leg q number behind has;
-  ending = λ run s l q r number behind more leg has. end_is_counted run s l leg q r number behind more has;
+  command = λ run s l q number after leg has. command_is_counted run s l leg q number after has;
+  ending = λ run s l q r number after more leg has. end_is_counted run s l leg q r number after more has;
 }

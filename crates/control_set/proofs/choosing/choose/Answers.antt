@@ -4,7 +4,7 @@ use Rattle.xrc_edge.specs.Causes.{Rose}
 use Rattle.crash_plant.specs.declared.device.Device.TheVariants.{Control}
 use Rattle.crash_plant.specs.Moments.{on, Same}
 use Rattle.crash_plant.proofs.Steps.{works_on_trans}
-use Rattle.crash_plant.proofs.Behind.{same_after}
+use Rattle.crash_plant.proofs.BehindGates.{same_after}
 use Rattle.control_set.specs.declared.value.Mark.{Mark}
 use Rattle.control_set.specs.Marks.{IsMark}
 use Rattle.control_set.specs.Slots.{HoldsMark, chosen_mark, chosen_of, lengths_of, slot_of}

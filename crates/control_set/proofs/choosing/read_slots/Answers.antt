@@ -2,7 +2,7 @@ use Rattle.std.proofs.Common.{ℕ, List, drop, ◌∙◌, ap}
 use Rattle.crash_plant.specs.declared.device.Device.TheVariants.{Control}
 use Rattle.crash_plant.specs.Moments.{on, Same}
 use Rattle.crash_plant.proofs.Steps.{works_on_trans}
-use Rattle.crash_plant.proofs.Behind.{same_after}
+use Rattle.crash_plant.proofs.BehindGates.{same_after}
 use Rattle.control_set.specs.Slots.{lengths_of, slot_of}
 use Rattle.control_set.proofs.Lengths.{same_lengths}
 use Rattle.control_set.proofs.choosing.read_slots.Goals as goal

@@ -12,7 +12,7 @@ join-requires-clause-legal g c =
     let state = c.args.state.now in
     let ready = c.requires.ready in
     subst (λ k. MayJoin (control_at state k) b) (sym c.longest_updates.ensures.control)
-    (may_join c.args.before c.args.at (control_at state 0) b ready.telling ready.told c.requires.later ready.within (ap (λ (t : Stamp). t.0) c.longest_updates.ensures.upto) c.longest_updates.ensures.first)
+    (may_join c.args.before c.args.at (control_at state 0) b ready.reporting ready.told c.requires.later ready.within (ap (λ (t : Stamp). t.0) c.longest_updates.ensures.upto) c.longest_updates.ensures.first)
 
 pub returns-in-Joined : goal.returns-in-Joined
 returns-in-Joined g c =

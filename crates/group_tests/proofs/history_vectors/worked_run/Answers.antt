@@ -11,24 +11,24 @@ returns-clause-runs c =
     run_of first_state worked_calls (
       (omega arith, record { unknown = refl; fresh = refl }),
       (
-        record { control = omega arith; rules = refl; legal = record { tells = record { telling = refl; up = omega arith }; within = refl; order = refl; tracks = refl } },
+        record { control = omega arith; rules = refl; legal = record { tells = record { reporting = refl; up = omega arith }; within = refl; order = refl; tracks = refl } },
         (
-          (omega arith, record { telling = refl; floor = refl; track = refl }),
+          (omega arith, record { reporting = refl; floor = refl; track = refl }),
           (
-            (omega arith, record { telling = refl; up = omega arith }),
+            (omega arith, record { reporting = refl; up = omega arith }),
             (
               omega arith,
               (
                 omega arith,
                 (
-                  record { control = omega arith; rules = refl; legal = record { tells = record { telling = refl; up = omega arith }; within = refl; order = refl; tracks = refl } },
+                  record { control = omega arith; rules = refl; legal = record { tells = record { reporting = refl; up = omega arith }; within = refl; order = refl; tracks = refl } },
                   (
                     (omega arith, refl),
                     (
                       omega arith,
                       (
-                        (omega arith, record { telling = refl; floor = refl; track = refl }),
-                        ((omega arith, record { telling = refl; up = omega arith }), tt),
+                        (omega arith, record { reporting = refl; floor = refl; track = refl }),
+                        ((omega arith, record { reporting = refl; up = omega arith }), tt),
                       ),
                     ),
                   ),

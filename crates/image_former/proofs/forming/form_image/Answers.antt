@@ -11,7 +11,7 @@ use Rattle.image_former.proofs.OneEntry.{row_there, job_there, slot_there, passe
 use Rattle.image_former.proofs.forming.form_image.Goals as goal
 use Rattle.image_former.proofs.forming.form_image.Goals.{then-jobs-job-via-then-jobs-job, then-jobs-job-via-else-jobs-job+then-has_earlier}
 
--- the job that was looked at, whatever stands for one behind the end
+-- the job that was looked at, whatever stands for one after the end
 failed_here : {D : Type 0} (jobs : List (VolumeJob D)) (i : ℕ) (one other : VolumeJob D) (b : Bool) → i < length jobs → (get_or jobs i one).failed ≡ b → (get_or jobs i other).failed ≡ b
 failed_here jobs i one other b lt bad = ap (λ (j : VolumeJob _). j.failed) (get_or_default jobs i other one lt) ∙ bad
 

@@ -4,5 +4,5 @@ use Rattle.image_former.proofs.Linking.{LinkedForth}
 use Rattle.image_former.proofs.links.link_forth.Given as goal
 
 -- the last entries are linked
-abbrev pub invariant-loop-behind : goal.invariant-loop-behind
-invariant-loop-behind l = LinkedForth (heads l.formed) (l.count - l.behind) l.forth l.next
+abbrev pub invariant-loop-after : goal.invariant-loop-after
+invariant-loop-after l = LinkedForth (heads l.formed) (l.count - l.after) l.forth l.next

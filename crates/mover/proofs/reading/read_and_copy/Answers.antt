@@ -5,12 +5,12 @@ use Rattle.mover.proofs.reading.read_and_copy.Goals as goal
 pub returns-in-AtLimit-clause-reads : goal.returns-in-AtLimit-clause-reads
 returns-in-AtLimit-clause-reads g c =
     let call = c.read_on-reading in
-    reads_and_copies g.B.Sitting.volumes _ _ _ _ c.args.teller.now.seat call.new.teller.seat c.copy_all.new.teller.seat call.ensures.reads c.copy_all.ensures.copies
+    reads_and_copies g.B.Sitting.volumes _ _ _ _ c.args.reporter.now.seat call.new.reporter.seat c.copy_all.new.reporter.seat call.ensures.reads c.copy_all.ensures.copies
 
 pub returns-in-AtLimit-clause-takes : goal.returns-in-AtLimit-clause-takes
 returns-in-AtLimit-clause-takes g c =
     let call = c.read_on-reading in
-    takes_and_copies g.B.Sitting.volumes c.args.limit.0 _ (g.S.Source.left call.new.source) _ _ c.args.teller.now.seat call.new.teller.seat c.copy_all.new.teller.seat call.ensures.reads call.ensures.takes c.copy_all.ensures.copies
+    takes_and_copies g.B.Sitting.volumes c.args.limit.0 _ (g.S.Source.left call.new.source) _ _ c.args.reporter.now.seat call.new.reporter.seat c.copy_all.new.reporter.seat call.ensures.reads call.ensures.takes c.copy_all.ensures.copies
 
 pub returns-in_default : goal.returns-in_default
 returns-in_default g c =
@@ -23,5 +23,5 @@ returns-in_default g c =
       within = call.within;
       stands = call.stands;
       fault = call.fault;
-      ends = ends_reading c.read_on-reading.result feed.side.control feed (answers_at c.args.teller.now.seat) call.reads.gained (answers_at c.read_on-reading.new.teller.seat) call.reads.answers call.ends c.in_default.not-AtLimit call.refused;
+      ends = ends_reading c.read_on-reading.result feed.side.control feed (answers_at c.args.reporter.now.seat) call.reads.gained (answers_at c.read_on-reading.new.reporter.seat) call.reads.answers call.ends c.in_default.not-AtLimit call.refused;
     }

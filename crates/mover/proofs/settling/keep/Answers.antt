@@ -1,18 +1,18 @@
 use Rattle.std.proofs.Common.{rules, ◌≡◌, ◌∙◌, Ok, false, refl, sym, ap}
 use Rattle.site_store.specs.Sites.{SiteState}
 use Rattle.site_store.specs.Marking.{rows_at_mark}
-use Rattle.site_store.specs.Records.{behind_mark}
+use Rattle.site_store.specs.Records.{after_mark}
 use Rattle.mover.proofs.LiveRows.{none_since}
 use Rattle.mover.proofs.MoverCalls.{on_err}
 use Rattle.mover.proofs.MovedOn.{on_ok}
 use Rattle.mover.proofs.Numbers.{marked_use, tell_uses, told_use}
-use Rattle.mover.proofs.Resting.{marked_at_rest, may_tell, may_then, rests_as, told_by_record, told_then}
+use Rattle.mover.proofs.Resting.{marked_at_rest, may_report, may_then, rests_as, told_by_record, told_then}
 use Rattle.mover.proofs.SiteCalls.{may_mark}
 use Rattle.mover.proofs.settling.keep.Goals as goal
 
 pub suspend-requires-clause-ready : goal.suspend-requires-clause-ready
 suspend-requires-clause-ready g c κs within =
-    may_tell g.P.Plant.tells g.P.Plant.state c.args.site.now c.apply.new.self c.args.plant.now c.apply.new.plant c.requires.fast c.requires.level c.requires.apart c.apply.ensures.ok c.apply.ensures.leaves c.apply.ensures.moments c.apply.ensures.others
+    may_report g.P.Plant.tells g.P.Plant.state c.args.site.now c.apply.new.self c.args.plant.now c.apply.new.plant c.requires.fast c.requires.level c.requires.apart c.apply.ensures.ok c.apply.ensures.leaves c.apply.ensures.moments c.apply.ensures.others
 
 pub returns-in_err-suspend : goal.returns-in_err-suspend
 returns-in_err-suspend g c =
@@ -73,6 +73,6 @@ returns g c =
     let b = rests_as tells site mid old between c.suspend.result (Ok tt) c.in_ok-suspend.was by in
     let all = marked_at_rest tells g.P.Plant.state site mid next c.args.plant.now c.suspend.new.plant c.mark.new.plant b false refl c.mark.result m.ok m.leaves m.moments m.others m.cause m.failed in
     let used = tell_uses tells c.time-time.result.0 site c.apply.new.self mid old (g.P.Plant.state c.apply.new.plant) c.apply.new.plant c.suspend.new.plant c.suspend.result c.apply.ensures.ok s.ok in
-    let marked = on_ok c.mark.result (λ (e : next ≡ behind_mark false (rows_at_mark mid.level mid next.failed) next.failed mid). ap (λ (s : SiteState). s.since) e) m.ok.next_is in
+    let marked = on_ok c.mark.result (λ (e : next ≡ after_mark false (rows_at_mark mid.level mid next.failed) next.failed mid). ap (λ (s : SiteState). s.since) e) m.ok.next_is in
     let numbers = marked_use site mid next false c.suspend.new.plant c.mark.new.plant c.suspend.result c.in_ok-suspend.was used c.mark.result m.ok in
     record { told = told_then tells site next old new c.mark.result all; rests = may_then tells site next old new c.mark.result all; marked = marked; moved = all.moved; works = all.works; numbers = numbers }

@@ -6,7 +6,7 @@ use Rattle.site_store.specs.declared.store_error.StoreError.{StoreError}
 use Rattle.mover.specs.declared.lane.Lane.{Lane}
 use Rattle.xrc_session.specs.Taking.{MayTake}
 use Rattle.mover_tests.specs.Courses.{AreUnbroken}
-use Rattle.mover_tests.proofs.Commanding.{goes_behind, may_log, may_take, there_behind}
+use Rattle.mover_tests.proofs.Commanding.{goes_after, may_log, may_take, there_after}
 use Rattle.mover_tests.proofs.Homes.{then_ok}
 use Rattle.mover_tests.proofs.commands.commanded.Goals as goal
 
@@ -38,7 +38,7 @@ returns-clause-there g c =
     let next = c.log_change.new.self in
     let old = g.P.Plant.state c.args.plant.now in
     let logs : LogsChange c.args.at.0 change changed next old c.args.plant.now c.log_change.new.plant (Ok tt) = subst (λ (r : Result (Unit {0}) StoreError). LogsChange c.args.at.0 change changed next old c.args.plant.now c.log_change.new.plant r) c.expect.ensures c.log_change.ensures.ok in
-    there_behind g.P.Plant.tells course.names c.args.command.now change c.args.at.0 course.lanes.items course.group course.site old c.requires.there c.requires.may (g.P.Plant.state c.log_change.new.plant) changed next c.args.plant.now c.log_change.new.plant c.answered-change.ensures logs
+    there_after g.P.Plant.tells course.names c.args.command.now change c.args.at.0 course.lanes.items course.group course.site old c.requires.there c.requires.may (g.P.Plant.state c.log_change.new.plant) changed next c.args.plant.now c.log_change.new.plant c.answered-change.ensures logs
     c.take_change-taken.new.group c.as_slice-rows.result.now c.table-2.result.now.rows (c.as_slice-rows.ensures.value ∙ c.rows_of-before.ensures ∙ ap (λ (t : Table). t.rows) c.table.ensures.table) (ap (λ (t : Table). t.rows) c.table-2.ensures.table)
     (then_ok c.log_change.result c.expect.ensures c.log_change.ensures.leaves) c.log_change.ensures.failed.size c.log_change.ensures.others.site (then_ok c.take_change-taken.result c.expect-2.ensures c.take_change-taken.ensures.calls) (then_ok c.take_change-taken.result c.expect-2.ensures c.take_change-taken.ensures.kept)
 
@@ -50,6 +50,6 @@ returns-clause-may g c =
     let next = c.log_change.new.self in
     let old = g.P.Plant.state c.args.plant.now in
     let logs : LogsChange c.args.at.0 change changed next old c.args.plant.now c.log_change.new.plant (Ok tt) = subst (λ (r : Result (Unit {0}) StoreError). LogsChange c.args.at.0 change changed next old c.args.plant.now c.log_change.new.plant r) c.expect.ensures c.log_change.ensures.ok in
-    goes_behind g.P.Plant.tells course.names c.args.command.now change c.args.at.0 course.lanes.items course.group course.site old c.requires.there c.requires.may (g.P.Plant.state c.log_change.new.plant) changed next c.args.plant.now c.log_change.new.plant c.answered-change.ensures logs
+    goes_after g.P.Plant.tells course.names c.args.command.now change c.args.at.0 course.lanes.items course.group course.site old c.requires.there c.requires.may (g.P.Plant.state c.log_change.new.plant) changed next c.args.plant.now c.log_change.new.plant c.answered-change.ensures logs
     c.take_change-taken.new.group c.as_slice-rows.result.now c.table-2.result.now.rows (c.as_slice-rows.ensures.value ∙ c.rows_of-before.ensures ∙ ap (λ (t : Table). t.rows) c.table.ensures.table) (ap (λ (t : Table). t.rows) c.table-2.ensures.table)
     (then_ok c.log_change.result c.expect.ensures c.log_change.ensures.leaves) c.log_change.ensures.failed.size c.log_change.ensures.others.site (then_ok c.take_change-taken.result c.expect-2.ensures c.take_change-taken.ensures.calls) (then_ok c.take_change-taken.result c.expect-2.ensures c.take_change-taken.ensures.kept)

@@ -14,8 +14,8 @@ returns-in-Some-clause-before c =
     let point = IsPartitionPoint-from_clause (λ (other : Placed). not (head_before c.args.head other.head)) _ _ c.partition_point.ensures.partitioned (parted placed_before placed_order p c.args.entries.now c.requires) (λ a r q k. search rules) in
     λ k other lt. not-true _ (point.0 k other (omega arith) lt)
 
-pub returns-in-Some-clause-behind : goal.returns-in-Some-clause-behind
-returns-in-Some-clause-behind c =
+pub returns-in-Some-clause-after : goal.returns-in-Some-clause-after
+returns-in-Some-clause-after c =
     let p : Placed = record c.in-Some.last.now { head = c.args.head } in
     let point = IsPartitionPoint-from_clause (λ (other : Placed). not (head_before c.args.head other.head)) _ _ c.partition_point.ensures.partitioned (parted placed_before placed_order p c.args.entries.now c.requires) (λ a r q k. search rules) in
     λ other lt. not-false _ (point.1 c.partition_point.result other (omega arith) lt)

@@ -16,5 +16,5 @@ returns-clause-put c =
     let found = c.place_of-place.ensures in
     let put = order_put_at placed_before placed_order p items place c.requires.ordered (omega (arith, found.within, ap length value))
     (λ k lt. ap (λ (t : List Placed). placed_before p (get_or t k p)) (sym value) ∙ found.before k p lt)
-    (λ lt. ap (λ (t : List Placed). placed_before p (get_or t place p)) (sym value) ∙ found.behind p (omega (arith, lt, ap length value))) in
+    (λ lt. ap (λ (t : List Placed). placed_before p (get_or t place p)) (sym value) ∙ found.after p (omega (arith, lt, ap length value))) in
     c.insert.ensures.items ∙ cond-true _ _ _ (ap is_ok c.unwrap.ensures) ∙ sym put

@@ -13,8 +13,8 @@ loop-job-preserved g c slot k d low less =
     let job = c.job-item.result in
     elim (cases_lt k i) [
       | inl before ↦ c.loop-job.invariant slot k d low before
-      | inr behind ↦
-          let same : i ≡ k = omega (arith, behind, less) in
+      | inr after ↦
+          let same : i ≡ k = omega (arith, after, less) in
           subst (HasItsSlots g.D.Disk.state (Image 0 0 slot ∷ Image 2 0 slot ∷ [])) (c.job-item.is ∙ get_or_default jobs i job d c.loop-job-test.true ∙ ap (λ (n : ℕ). get_or jobs n d) same) (c.assert_room.ensures slot)
     ]
 

@@ -2,7 +2,7 @@ use Rattle.std.specs.Prelude.{◌≡◌, ℕ, ◌<◌, ◌≤◌, ◌&&◌, ◌|
 use Rattle.site_store.specs.Jobs.{has_job_failed}
 use Rattle.site_store.proofs.applying.note_written.Given as goal
 
--- the volumes before are noted, and those behind are as they were
+-- the volumes before are noted, and those after it are as they were
 abbrev pub invariant-loop-place : goal.invariant-loop-place
 invariant-loop-place g l = record {
   same : length l.written ≡ length l.fn.written;

@@ -14,8 +14,8 @@ use Rattle.site_store.proofs.FormedItems.{formed_keep, pairs_are, pairs_lead}
 use Rattle.site_store.proofs.RecordPairsFit.{formed_fit}
 use Rattle.site_store.proofs.logging.form_record.Goals as goal
 
-pub hits_behind_mark-hits-requires-clause-below : goal.hits_behind_mark-hits-requires-clause-below
-hits_behind_mark-hits-requires-clause-below g c =
+pub hits_after_mark-hits-requires-clause-below : goal.hits_after_mark-hits-requires-clause-below
+hits_after_mark-hits-requires-clause-below g c =
     let old = g.P.Plant.state c.args.plant.now in
     let same = c.form_group.ensures.fails.size in
     let many : old.volumes ≤ length c.form_group.new.jobs = omega (arith, c.requires.may.volumes, same, length-map c.form_group.new.jobs has_job_failed, length-map c.args.jobs.now has_job_failed) in
@@ -29,7 +29,7 @@ returns-clause-forms g c =
     let old = g.P.Plant.state c.args.plant.now in
     let rows = c.args.table.now.rows in
     let entries = c.args.formed.now.entries in
-    let next = with_group_and_hits c.args.formed.now c.hits_behind_mark-hits.result in
+    let next = with_group_and_hits c.args.formed.now c.hits_after_mark-hits.result in
     let images = c.form_group.new.body.items in
     let parts = ap (λ (h : BodyState). h.items) c.put_changed.ensures.put in
     record {
@@ -60,4 +60,4 @@ returns-clause-forms g c =
 
 pub returns-clause-hits : goal.returns-clause-hits
 returns-clause-hits g c = λ marked are.
-    subst (λ (time : Stamp). AreHits c.args.reach.level time (map has_job_failed c.form_group.new.jobs) marked c.args.table.now.rows c.hits_behind_mark-hits.result) c.cut.ensures (c.hits_behind_mark-hits.ensures.hits marked are)
+    subst (λ (time : Stamp). AreHits c.args.reach.level time (map has_job_failed c.form_group.new.jobs) marked c.args.table.now.rows c.hits_after_mark-hits.result) c.cut.ensures (c.hits_after_mark-hits.ensures.hits marked are)

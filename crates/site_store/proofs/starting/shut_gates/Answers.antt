@@ -1,7 +1,7 @@
 use Rattle.std.proofs.Common.{ℕ, List, ap, ◌∙◌}
 use Rattle.crash_plant.specs.declared.device.Device.TheVariants.{Control}
 use Rattle.crash_plant.proofs.Steps.{works_on_trans}
-use Rattle.site_store.proofs.Shutting.{on_ok_both, reads_durable, reads_follow, shut_behind_reads, zeroed_by}
+use Rattle.site_store.proofs.Shutting.{on_ok_both, reads_durable, reads_follow, shut_after_reads, zeroed_by}
 use Rattle.site_store.specs.Formats.{front_at}
 use Rattle.site_store.proofs.starting.shut_gates.Goals as goal
 
@@ -20,7 +20,7 @@ returns-then-first-second-clause-moments g c told durable =
     let two = g.P.Plant.state c.read_front-2.new.plant in
     let first = c.read_front.ensures in
     let second = c.read_front-2.ensures in
-    shut_behind_reads g.P.Plant.tells told old one two first.only second.only (first.moments told) (second.moments told) (g.P.Plant.state c.shut_both.new.plant) c.shut_both.ensures.only
+    shut_after_reads g.P.Plant.tells told old one two first.only second.only (first.moments told) (second.moments told) (g.P.Plant.state c.shut_both.new.plant) c.shut_both.ensures.only
     (c.shut_both.ensures.moments told (reads_durable g.P.Plant.tells told old one two first.only second.only (first.moments told) (second.moments told) (first.same told) (second.same told) durable))
 
 pub returns-then-first-second-clause-only : goal.returns-then-first-second-clause-only
@@ -34,7 +34,7 @@ returns-else-first-second-clause-moments g c told durable =
     let first = c.read_front.ensures in
     let second = c.read_front-2.ensures in
     let both = c.shut_both-else-first-second in
-    shut_behind_reads g.P.Plant.tells told old one two first.only second.only (first.moments told) (second.moments told) (g.P.Plant.state both.new.plant) both.ensures.only
+    shut_after_reads g.P.Plant.tells told old one two first.only second.only (first.moments told) (second.moments told) (g.P.Plant.state both.new.plant) both.ensures.only
     (both.ensures.moments told (reads_durable g.P.Plant.tells told old one two first.only second.only (first.moments told) (second.moments told) (first.same told) (second.same told) durable))
 
 pub returns-else-first-second-clause-only : goal.returns-else-first-second-clause-only

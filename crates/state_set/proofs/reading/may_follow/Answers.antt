@@ -1,6 +1,6 @@
 use Rattle.std.proofs.Common.{not, sym, ap, ◌∙◌, true≢false}
 use Rattle.std.proofs.lemmas.Bool.{le-ltb}
-use Rattle.state_set.proofs.Behind.{beyond, has_one, has_none}
+use Rattle.state_set.proofs.After.{beyond, has_one, has_none}
 use Rattle.state_set.proofs.reading.may_follow.Goals as goal
 use Rattle.state_set.proofs.reading.may_follow.Goals.{then-row-volumes, else-row-volumes}
 

@@ -1,7 +1,7 @@
 use Rattle.std.proofs.Common.{◌≡◌, ◌+◌, ◌++◌, ◌∷◌, [], false, true, Some, ap, sym, ◌∙◌, arith, option_map}
 use Rattle.pair_table.specs.Tables.{Table, with_rows}
 use Rattle.state_set.specs.Slots.{are_rows, started_table}
-use Rattle.state_set.proofs.Behind.{follows, goes_last}
+use Rattle.state_set.proofs.After.{follows, goes_last}
 use Rattle.state_set.proofs.RowsAt.{left_at, at_start, none_next, some_next, breaks_on, all_read}
 use Rattle.state_set.proofs.reading.read_rows.Goals as goal
 

@@ -1,6 +1,6 @@
 use Rattle.std.proofs.Common.{rules, ◌≡◌, ◌+◌, ◌*◌, ◌≤◌, ◌<◌, Ok, arith}
 use Rattle.crash_plant.specs.declared.device.Device.TheVariants.{Volume}
-use Rattle.site_store.specs.Commands.{behind_put}
+use Rattle.site_store.specs.Commands.{after_put}
 use Rattle.site_store.proofs.Between.{put_may}
 use Rattle.store_tests.proofs.Between.{then_ok}
 use Rattle.store_tests.proofs.calls.put.Goals as goal
@@ -10,7 +10,7 @@ returns g c =
     let site = c.args.site.now in
     let plant = g.P.Plant.state c.args.plant.now in
     let row = c.args.row in
-    let put : c.put_row.new.self ≡ behind_put row site = search rules in
+    let put : c.put_row.new.self ≡ after_put row site = search rules in
     let ok : c.put_row.result ≡ Ok tt = search rules in
     let below : row.device < plant.volumes = search rules in
     let long : 512 + row.cylinders * 860160 ≤ plant.lengths (Volume row.device) = omega (arith, c.length-size.ensures) in

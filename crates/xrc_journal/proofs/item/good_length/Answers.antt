@@ -1,5 +1,5 @@
 use Rattle.std.proofs.Common.{rules, ◌≡◌, ◌+◌, ◌≤◌, not, nat_eq, None, refl, List, ℕ, length, slice_index, sym, subst, ◌∙◌, arith}
-use Rattle.xrc_journal.specs.Items.{Earlier, behind, form_of}
+use Rattle.xrc_journal.specs.Items.{Earlier, earlier_after, form_of}
 use Rattle.xrc_journal.specs.Reading.{item_at, items_from}
 use Rattle.xrc_journal.specs.Bodies.{BeginsWith, IsBody, earlier_of}
 use Rattle.xrc_journal.specs.Drawn.{AreDrawn}
@@ -48,7 +48,7 @@ loop-good-preserved g c =
     record {
       reads = subst (λ (l : List ℕ). ReadsTo form c.args.bytes.now (c.loop-good.good + c.in-Some.length) (not (nat_eq (slice_index l 0) 1))) (sym c.split_at.ensures.back) more.reads;
       known = subst (λ (e : Earlier). AreDrawn c.item_length.new.drawn e.drawn) (sym more.earlier_is)
-          (subst (λ (l : List ℕ). AreDrawn c.item_length.new.drawn (behind more.item (earlier_of l)).drawn) c.split_at.ensures.front
+          (subst (λ (l : List ℕ). AreDrawn c.item_length.new.drawn (earlier_after more.item (earlier_of l)).drawn) c.split_at.ensures.front
           (c.in-Some.ensures.known more.item (subst (λ (l : List ℕ). BeginsWith l more.item) (sym c.split_at.ensures.back) more.begins)));
     }
 

@@ -4,7 +4,7 @@ use Rattle.xrc_journal.specs.Reading.{item_at}
 use Rattle.xrc_journal.specs.Bodies.{earlier_of}
 use Rattle.xrc_journal.specs.Answers.{length_of}
 use Rattle.xrc_journal.proofs.ItemSteps.{split_tag, tag_late, tag_image, tag_pair, tag_gone, tag_none}
-use Rattle.xrc_journal.proofs.DrawnSets.{behind_image, behind_other, then_there, there}
+use Rattle.xrc_journal.proofs.DrawnSets.{after_image, after_other, then_there, there}
 use Rattle.xrc_journal.proofs.item.item_length.Goals as goal
 
 pub returns-in-1-clause-length : goal.returns-in-1-clause-length
@@ -59,16 +59,16 @@ pub returns-in-1-2-clause-known : goal.returns-in-1-2-clause-known
 returns-in-1-2-clause-known g c =
     let fields = c.split_at.result.1.now in
     let whole = split_tag c.args.bytes.now c.split_at.result.0.now fields 1 c.requires.some c.split_at.ensures.front c.split_at.ensures.back c.in-1.is in
-    then_there c.image_length.result c.image_length.ensures.known (λ known item begins. behind_image c.args.bytes.now fields (earlier_of c.args.body.now) c.image_length.new.drawn item whole begins known)
+    then_there c.image_length.result c.image_length.ensures.known (λ known item begins. after_image c.args.bytes.now fields (earlier_of c.args.body.now) c.image_length.new.drawn item whole begins known)
 
 pub returns-in-3-clause-known : goal.returns-in-3-clause-known
 returns-in-3-clause-known g c =
     let fields = c.split_at.result.1.now in
     let whole = split_tag c.args.bytes.now c.split_at.result.0.now fields 3 c.requires.some c.split_at.ensures.front c.split_at.ensures.back c.in-3.is in
-    there c.pair_length.result (λ item begins. behind_other c.args.bytes.now fields 3 (earlier_of c.args.body.now) c.args.drawn.now item (λ e. absurd (omega (arith, e))) whole begins c.requires.known)
+    there c.pair_length.result (λ item begins. after_other c.args.bytes.now fields 3 (earlier_of c.args.body.now) c.args.drawn.now item (λ e. absurd (omega (arith, e))) whole begins c.requires.known)
 
 pub returns-in-4-clause-known : goal.returns-in-4-clause-known
 returns-in-4-clause-known g c =
     let fields = c.split_at.result.1.now in
     let whole = split_tag c.args.bytes.now c.split_at.result.0.now fields 4 c.requires.some c.split_at.ensures.front c.split_at.ensures.back c.in-4.is in
-    there c.gone_length.result (λ item begins. behind_other c.args.bytes.now fields 4 (earlier_of c.args.body.now) c.args.drawn.now item (λ e. absurd (omega (arith, e))) whole begins c.requires.known)
+    there c.gone_length.result (λ item begins. after_other c.args.bytes.now fields 4 (earlier_of c.args.body.now) c.args.drawn.now item (λ e. absurd (omega (arith, e))) whole begins c.requires.known)

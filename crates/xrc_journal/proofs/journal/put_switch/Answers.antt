@@ -5,7 +5,7 @@ use Rattle.crash_plant.specs.declared.layout.TheConstants.{SWITCH}
 use Rattle.crash_plant.specs.Bytes.{patched, Torn}
 use Rattle.crash_plant.specs.Moments.{on, Follows}
 use Rattle.crash_plant.proofs.Steps.{works_on_trans}
-use Rattle.crash_plant.proofs.Behind.{torn_here, written as written_behind}
+use Rattle.crash_plant.proofs.BehindGates.{torn_here, written as written_after}
 use Rattle.xrc_journal.specs.Records.{switch_spelling}
 use Rattle.xrc_journal.proofs.Puts.{follows_opened, follows_staged}
 use Rattle.xrc_journal.proofs.journal.put_switch.Goals as goal
@@ -45,4 +45,4 @@ returns-clause-written g c told =
     let behind = switch_spelling c.args.at.number c.args.cut.0 c.args.set in
     let size = g.met.P.Plant.length_told c.args.plant.now device told c.requires.there in
     let put = c.in_ok-put_down.ensures.written told ∙ ap (λ (l : List ℕ). patched (p + 1) l (old.bytes device)) c.switch_bytes-behind.ensures.spelled in
-    on_ok_weaker c.put_down-2.result (λ e. written_behind p behind (old.bytes device) (old.bytes device) (mid.bytes device) (omega (arith, size, c.requires.room)) (torn_here p 1 (old.bytes device)) put _ e) (c.put_down-2.ensures.written told)
+    on_ok_weaker c.put_down-2.result (λ e. written_after p behind (old.bytes device) (old.bytes device) (mid.bytes device) (omega (arith, size, c.requires.room)) (torn_here p 1 (old.bytes device)) put _ e) (c.put_down-2.ensures.written told)

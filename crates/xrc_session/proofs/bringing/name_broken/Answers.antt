@@ -1,4 +1,4 @@
--- The controls are named one lane after another.
+-- The controllers are named one lane after another.
 use Rattle.std.proofs.Common.{◌∙◌, true, false, refl, sym, ap}
 use Rattle.std.specs.Prelude.{is_some}
 use Rattle.std.proofs.lemmas.List.{take_all}

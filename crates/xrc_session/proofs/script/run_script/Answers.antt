@@ -7,7 +7,7 @@ use Rattle.xrc_session.specs.Runs.{RunsLines, RunsTold}
 use Rattle.xrc_session.specs.Starting.{BeginsRun}
 use Rattle.xrc_session.specs.Starting.BeginsRun.{Unstarted}
 use Rattle.xrc_session.specs.Stops.{HasRunCause, StopsByCount}
-use Rattle.xrc_session.proofs.InTurn.{counts_behind, counts_fell, done_raises_none, fell_here, keeps_here, keeps_then, none_risen_here, none_stop}
+use Rattle.xrc_session.proofs.InTurn.{counts_after, counts_fell, done_raises_none, fell_here, keeps_here, keeps_then, none_risen_here, none_stop}
 use Rattle.xrc_session.proofs.Numbered.{given_on}
 use Rattle.xrc_session.proofs.SafeStarts.{leaves_here}
 use Rattle.xrc_session.proofs.ScriptOpens.{comes_late, early_cause, err_from, err_of, finish_cause, finish_late, never_due, none_early, opens_done, opens_so}
@@ -190,7 +190,7 @@ returns-clause-runs g c = λ told.
     (lines_finish tells left faults session c.as_bytes.ensures.valid storage before opened last old mid new c.in_ok-run.ensures.turn_out c.run_lines.ensures.went s (counts_fell old mid c.run_lines.result c.run_lines.ensures.counts) (counts_fell mid new result c.finish.ensures.counts) tt result
     (subst (λ (n : List ℕ). RunsLines tells left n s opened last old mid (Ok tt)) c.in_ok-run.ensures.fresh.session_is
     (subst (λ r. RunsLines tells left c.in_ok-run.run'.session s opened last old mid r) c.in_ok-run_lines.was (c.run_lines.ensures.lines told)))
-    (c.finish.ensures.ends told c.make.new.plant) c.finish.ensures.cause c.in_ok-run_lines.ensures.between (λ ended. let left = c.finish.ensures.behind_end ended in (ap g.P.Plant.state left.0, left.1)))
+    (c.finish.ensures.ends told c.make.new.plant) c.finish.ensures.cause c.in_ok-run_lines.ensures.between (λ ended. let left = c.finish.ensures.after_end ended in (ap g.P.Plant.state left.0, left.1)))
 
 pub returns-clause-begins : goal.returns-clause-begins
 returns-clause-begins g c = λ told.
@@ -215,4 +215,4 @@ returns-clause-counts g c =
     let mid = g.P.Plant.state c.run_lines.new.plant in
     let new = g.P.Plant.state c.finish.new.plant in
     subst (λ p. StopsByCount (g.P.Plant.state p) new c.finish.result) c.make.ensures.plant
-    (counts_behind old mid new c.finish.result (done_raises_none old mid tt (subst (StopsByCount old mid) c.in_ok-run_lines.was c.run_lines.ensures.counts)) c.finish.ensures.counts)
+    (counts_after old mid new c.finish.result (done_raises_none old mid tt (subst (StopsByCount old mid) c.in_ok-run_lines.was c.run_lines.ensures.counts)) c.finish.ensures.counts)

@@ -75,14 +75,14 @@ returns-in-Err-Fault-clause-finds g c = λ told.
     let cause = c.in-Err-Fault.ensures.cause.fault c.in-Err-Fault.set (ap Err c.in-Err-Fault.field-0-is) in
     ap Journal cause.0
 
-pub returns-in-Ok-Group-clause-behind : goal.returns-in-Ok-Group-clause-behind
-returns-in-Ok-Group-clause-behind g c =
+pub returns-in-Ok-Group-clause-further : goal.returns-in-Ok-Group-clause-further
+returns-in-Ok-Group-clause-further g c =
     let old = g.P.Plant.state c.args.plant.now in
     let on = subst (λ (w : Walked). WalkGoesOn old c.args.at w) c.in-Ok-Group.field-0-is c.in-Ok-Group.ensures.goes_on in
     record { set = omega (arith, on.0, c.requires.there); place = omega (arith, on.1, ap (λ (k : ℕ). old.lengths (Journal k)) on.0); number = on.2 }
 
-pub returns-in-Ok-Switch-clause-behind : goal.returns-in-Ok-Switch-clause-behind
-returns-in-Ok-Switch-clause-behind g c =
+pub returns-in-Ok-Switch-clause-further : goal.returns-in-Ok-Switch-clause-further
+returns-in-Ok-Switch-clause-further g c =
     let old = g.P.Plant.state c.args.plant.now in
     let on = subst (λ (w : Walked). WalkGoesOn old c.args.at w) c.in-Ok-Switch.field-0-is c.in-Ok-Switch.ensures.goes_on in
     record { set = on.0; place = omega (arith, on.1, c.requires.long c.in-Ok-Switch.after.set on.0); number = on.2 }

@@ -12,7 +12,7 @@ use Rattle.site_means.specs.declared.site_error.SiteError.TheVariants.{Fault}
 use Rattle.site_means.specs.Images.{shape_of}
 use Rattle.site_means.specs.Sight.{walked}
 use Rattle.xrecover.specs.Answers.{TellsFaults}
-use Rattle.xrecover.specs.Rereading.{FoundAgain, IsBehind}
+use Rattle.xrecover.specs.Rereading.{FoundAgain, IsAfter}
 use Rattle.xrecover.specs.RedoneVolumes.{Draws}
 use Rattle.xrecover.specs.SideVolumes.{is_left}
 use Rattle.xrecover.proofs.Again.{Next, all_again, fault_again, found_same, of_walk, reads_again, reads_first, reads_next}
@@ -117,7 +117,7 @@ loop-time-preserved g c =
     let live : ℕ → Type 0 = λ v. is_left c.loop-time.jobs v ≡ false in
     let after = c.in-Some.after in
     let time = c.in-Some.time in
-    let behind = subst (λ (o : Option (Stamp × Spot)). IfSome o (λ n. IsBehind cur at n.1)) c.in-Some.is c.in_ok-time.ensures.behind in
+    let further = subst (λ (o : Option (Stamp × Spot)). IfSome o (λ n. IsAfter cur at n.1)) c.in-Some.is c.in_ok-time.ensures.further in
     let reading = c.read_again.ensures.reads.only.site in
     let applying = c.apply_record.ensures.applies.works.site in
     let next : (told : g.P.Plant.tells) → Next (shape_of old) old.bytes (inv.reads told).s time.0 its after = λ told.
@@ -141,8 +141,8 @@ loop-time-preserved g c =
       applies = sides_then items (is_left c.args.jobs.now) g.P.Plant.tells (is_left c.loop-time.jobs) old mid new unread its (is_left c.apply_record.new.jobs) c.apply_record.ensures.applies wider;
       counts = λ d here. c.apply_record.ensures.counts d here ∙ none_rose cur.faults mid.faults _ c.in_ok-time.ensures.fails d ∙ inv.counts d here;
       jobs = c.apply_record.ensures.jobs;
-      set = omega (arith, behind.set, reading.journals, applying.journals);
-      place = omega (arith, behind.place, reading.lengths (Journal after.set), applying.lengths (Journal after.set));
+      set = omega (arith, further.set, reading.journals, applying.journals);
+      place = omega (arith, further.place, reading.lengths (Journal after.set), applying.lengths (Journal after.set));
       room = c.read_again.ensures.room ∙ inv.room;
       reads = λ told. reads_next (shape_of old) old.bytes items its live first now at after last time.0 (inv.reads told) (next told) (λ (v : ℕ). is_left c.apply_record.new.jobs v ≡ false) (λ (v : ℕ). new.bytes (Volume v)) (done told);
     }

@@ -36,35 +36,35 @@ fill-self-inside-requires-clause-run c =
 
 pub index_mut-requires : goal.index_mut-requires
 index_mut-requires c =
-    let taken = took c.self.inside c.args.self.now c.args.bytes.now c.as_mut_slice.result.now c.as_slice.result.now c.fill-self-inside.new.blocks c.blocks_of-needed.result c.fill-self-inside.result c.self.invariant c.self.view_is c.as_mut_slice.ensures.value c.as_slice.ensures.value c.fill-self-inside.ensures.len c.fill-self-inside.ensures.filled c.fill-self-inside.ensures.others c.fill-self-inside.ensures.behind c.blocks_of-needed.ensures (omega arith) (omega arith) in
+    let taken = took c.self.inside c.args.self.now c.args.bytes.now c.as_mut_slice.result.now c.as_slice.result.now c.fill-self-inside.new.blocks c.blocks_of-needed.result c.fill-self-inside.result c.self.invariant c.self.view_is c.as_mut_slice.ensures.value c.as_slice.ensures.value c.fill-self-inside.ensures.len c.fill-self-inside.ensures.filled c.fill-self-inside.ensures.others c.fill-self-inside.ensures.after c.blocks_of-needed.ensures (omega arith) (omega arith) in
     omega (arith, taken.first_inside, c.self.inside.lens.ok.0)
 
 pub invariant_of-self : goal.invariant_of-self
 invariant_of-self c =
-    (took c.self.inside c.args.self.now c.args.bytes.now c.as_mut_slice.result.now c.as_slice.result.now c.fill-self-inside.new.blocks c.blocks_of-needed.result c.fill-self-inside.result c.self.invariant c.self.view_is c.as_mut_slice.ensures.value c.as_slice.ensures.value c.fill-self-inside.ensures.len c.fill-self-inside.ensures.filled c.fill-self-inside.ensures.others c.fill-self-inside.ensures.behind c.blocks_of-needed.ensures (omega arith) (omega arith)).keeps
+    (took c.self.inside c.args.self.now c.args.bytes.now c.as_mut_slice.result.now c.as_slice.result.now c.fill-self-inside.new.blocks c.blocks_of-needed.result c.fill-self-inside.result c.self.invariant c.self.view_is c.as_mut_slice.ensures.value c.as_slice.ensures.value c.fill-self-inside.ensures.len c.fill-self-inside.ensures.filled c.fill-self-inside.ensures.others c.fill-self-inside.ensures.after c.blocks_of-needed.ensures (omega arith) (omega arith)).keeps
 
 pub returns-clause-fresh : goal.returns-clause-fresh
 returns-clause-fresh c =
-    (took c.self.inside c.args.self.now c.args.bytes.now c.as_mut_slice.result.now c.as_slice.result.now c.fill-self-inside.new.blocks c.blocks_of-needed.result c.fill-self-inside.result c.self.invariant c.self.view_is c.as_mut_slice.ensures.value c.as_slice.ensures.value c.fill-self-inside.ensures.len c.fill-self-inside.ensures.filled c.fill-self-inside.ensures.others c.fill-self-inside.ensures.behind c.blocks_of-needed.ensures (omega arith) (omega arith)).fresh
+    (took c.self.inside c.args.self.now c.args.bytes.now c.as_mut_slice.result.now c.as_slice.result.now c.fill-self-inside.new.blocks c.blocks_of-needed.result c.fill-self-inside.result c.self.invariant c.self.view_is c.as_mut_slice.ensures.value c.as_slice.ensures.value c.fill-self-inside.ensures.len c.fill-self-inside.ensures.filled c.fill-self-inside.ensures.others c.fill-self-inside.ensures.after c.blocks_of-needed.ensures (omega arith) (omega arith)).fresh
 
 pub returns-clause-taken : goal.returns-clause-taken
 returns-clause-taken c =
-    (took c.self.inside c.args.self.now c.args.bytes.now c.as_mut_slice.result.now c.as_slice.result.now c.fill-self-inside.new.blocks c.blocks_of-needed.result c.fill-self-inside.result c.self.invariant c.self.view_is c.as_mut_slice.ensures.value c.as_slice.ensures.value c.fill-self-inside.ensures.len c.fill-self-inside.ensures.filled c.fill-self-inside.ensures.others c.fill-self-inside.ensures.behind c.blocks_of-needed.ensures (omega arith) (omega arith)).taken
+    (took c.self.inside c.args.self.now c.args.bytes.now c.as_mut_slice.result.now c.as_slice.result.now c.fill-self-inside.new.blocks c.blocks_of-needed.result c.fill-self-inside.result c.self.invariant c.self.view_is c.as_mut_slice.ensures.value c.as_slice.ensures.value c.fill-self-inside.ensures.len c.fill-self-inside.ensures.filled c.fill-self-inside.ensures.others c.fill-self-inside.ensures.after c.blocks_of-needed.ensures (omega arith) (omega arith)).taken
 
 pub returns-clause-held : goal.returns-clause-held
 returns-clause-held c =
-    let taken = took c.self.inside c.args.self.now c.args.bytes.now c.as_mut_slice.result.now c.as_slice.result.now c.fill-self-inside.new.blocks c.blocks_of-needed.result c.fill-self-inside.result c.self.invariant c.self.view_is c.as_mut_slice.ensures.value c.as_slice.ensures.value c.fill-self-inside.ensures.len c.fill-self-inside.ensures.filled c.fill-self-inside.ensures.others c.fill-self-inside.ensures.behind c.blocks_of-needed.ensures (omega arith) (omega arith) in
+    let taken = took c.self.inside c.args.self.now c.args.bytes.now c.as_mut_slice.result.now c.as_slice.result.now c.fill-self-inside.new.blocks c.blocks_of-needed.result c.fill-self-inside.result c.self.invariant c.self.view_is c.as_mut_slice.ensures.value c.as_slice.ensures.value c.fill-self-inside.ensures.len c.fill-self-inside.ensures.filled c.fill-self-inside.ensures.others c.fill-self-inside.ensures.after c.blocks_of-needed.ensures (omega arith) (omega arith) in
     λ some. ap (λ (r : RegionState). length (chain_bytes_at r c.self.inside.first_free)) taken.taken ∙ ap length taken.begins
 
 pub returns-clause-bytes : goal.returns-clause-bytes
 returns-clause-bytes c =
-    let taken = took c.self.inside c.args.self.now c.args.bytes.now c.as_mut_slice.result.now c.as_slice.result.now c.fill-self-inside.new.blocks c.blocks_of-needed.result c.fill-self-inside.result c.self.invariant c.self.view_is c.as_mut_slice.ensures.value c.as_slice.ensures.value c.fill-self-inside.ensures.len c.fill-self-inside.ensures.filled c.fill-self-inside.ensures.others c.fill-self-inside.ensures.behind c.blocks_of-needed.ensures (omega arith) (omega arith) in
+    let taken = took c.self.inside c.args.self.now c.args.bytes.now c.as_mut_slice.result.now c.as_slice.result.now c.fill-self-inside.new.blocks c.blocks_of-needed.result c.fill-self-inside.result c.self.invariant c.self.view_is c.as_mut_slice.ensures.value c.as_slice.ensures.value c.fill-self-inside.ensures.len c.fill-self-inside.ensures.filled c.fill-self-inside.ensures.others c.fill-self-inside.ensures.after c.blocks_of-needed.ensures (omega arith) (omega arith) in
     let given = c.args.bytes.now in
     ap (λ (r : RegionState). take (length given) (chain_bytes_at r c.self.inside.first_free)) taken.taken ∙ ap (take (length given)) taken.begins ∙ take_all (length given) given (omega arith)
 
 pub returns-clause-room : goal.returns-clause-room
 returns-clause-room c =
-    let taken = took c.self.inside c.args.self.now c.args.bytes.now c.as_mut_slice.result.now c.as_slice.result.now c.fill-self-inside.new.blocks c.blocks_of-needed.result c.fill-self-inside.result c.self.invariant c.self.view_is c.as_mut_slice.ensures.value c.as_slice.ensures.value c.fill-self-inside.ensures.len c.fill-self-inside.ensures.filled c.fill-self-inside.ensures.others c.fill-self-inside.ensures.behind c.blocks_of-needed.ensures (omega arith) (omega arith) in
+    let taken = took c.self.inside c.args.self.now c.args.bytes.now c.as_mut_slice.result.now c.as_slice.result.now c.fill-self-inside.new.blocks c.blocks_of-needed.result c.fill-self-inside.result c.self.invariant c.self.view_is c.as_mut_slice.ensures.value c.as_slice.ensures.value c.fill-self-inside.ensures.len c.fill-self-inside.ensures.filled c.fill-self-inside.ensures.others c.fill-self-inside.ensures.after c.blocks_of-needed.ensures (omega arith) (omega arith) in
     ap (λ (r : RegionState). free_blocks r + blocks_of (length c.args.bytes.now)) taken.taken ∙ taken.room
 
 pub returns-clause-full : goal.returns-clause-full

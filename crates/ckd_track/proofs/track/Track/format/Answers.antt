@@ -59,8 +59,8 @@ invariant_of-self-2 c =
     ap (take c.count_up_to-kept.result) (c.recs-2.ensures.recs ∙ sym c.recs.ensures.recs) ∙ c.count_up_to-kept.ensures.taken ∙ ap (up_to c.args.after) c.recs.ensures.recs in
     let l = listed c.args.after c.args.given.now c.args.self.now front c.recs.ensures.track c.requires front_is in
     let taken_is : c.fitting_records-taken.result.now ≡ fitting (capacity - track_size front) c.args.given.now = c.fitting_records-taken.ensures ∙ ap (λ n. fitting (capacity - n) c.args.given.now) c.track_size-front_size.ensures in
-    let whole : c.replace_behind.new.recs.items ≡ front ++ fitting (capacity - track_size front) c.args.given.now =
-    c.in_ok-replace_behind.ensures.ok ∙ ap (λ (t : List Rec). take c.count_up_to-kept.result t ++ c.in_ok-copied_records.field-0.items) (c.self.view_is ∙ sym c.recs-2.ensures.recs) ∙ ap (λ (t : List Rec). front ++ t) (c.in_ok-copied_records.ensures ∙ taken_is) in
+    let whole : c.replace_after.new.recs.items ≡ front ++ fitting (capacity - track_size front) c.args.given.now =
+    c.in_ok-replace_after.ensures.ok ∙ ap (λ (t : List Rec). take c.count_up_to-kept.result t ++ c.in_ok-copied_records.field-0.items) (c.self.view_is ∙ sym c.recs-2.ensures.recs) ∙ ap (λ (t : List Rec). front ++ t) (c.in_ok-copied_records.ensures ∙ taken_is) in
     (subst (λ (t : List Rec). IsTrack t) (sym whole) l.is_track, omega (arith, ap track_size whole, l.sizes, c.track_size-front_size.ensures, c.track_size.ensures, ap track_size taken_is))
 
 pub returns-clause-ok : goal.returns-clause-ok
@@ -69,6 +69,6 @@ returns-clause-ok c =
     let front_is : front ≡ up_to c.args.after c.args.self.now =
     ap (take c.count_up_to-kept.result) (c.recs-2.ensures.recs ∙ sym c.recs.ensures.recs) ∙ c.count_up_to-kept.ensures.taken ∙ ap (up_to c.args.after) c.recs.ensures.recs in
     let taken_is : c.fitting_records-taken.result.now ≡ fitting (capacity - track_size front) c.args.given.now = c.fitting_records-taken.ensures ∙ ap (λ n. fitting (capacity - n) c.args.given.now) c.track_size-front_size.ensures in
-    let whole : c.replace_behind.new.recs.items ≡ front ++ fitting (capacity - track_size front) c.args.given.now =
-    c.in_ok-replace_behind.ensures.ok ∙ ap (λ (t : List Rec). take c.count_up_to-kept.result t ++ c.in_ok-copied_records.field-0.items) (c.self.view_is ∙ sym c.recs-2.ensures.recs) ∙ ap (λ (t : List Rec). front ++ t) (c.in_ok-copied_records.ensures ∙ taken_is) in
+    let whole : c.replace_after.new.recs.items ≡ front ++ fitting (capacity - track_size front) c.args.given.now =
+    c.in_ok-replace_after.ensures.ok ∙ ap (λ (t : List Rec). take c.count_up_to-kept.result t ++ c.in_ok-copied_records.field-0.items) (c.self.view_is ∙ sym c.recs-2.ensures.recs) ∙ ap (λ (t : List Rec). front ++ t) (c.in_ok-copied_records.ensures ∙ taken_is) in
     whole ∙ listed_found c.args.after c.last_number.result c.args.given.now c.args.self.now front c.recs.ensures.track front_is c.last_number.ensures c.if-last_number-after.false

@@ -16,7 +16,7 @@ invariant_of-self-else-ticks-lent c =
     let now = c.back-now.result in
     let lent = c.lent_at-lent.result in
     let put = c.put-else-ticks-lent in
-    let moments : clock_of lent + 1 < clock_of now = omega (arith, c.back-now.ensures.behind) in
+    let moments : clock_of lent + 1 < clock_of now = omega (arith, c.back-now.ensures.after) in
     let moves : Moves (clock_of lent) (clock_of now) c.args.disk c.moved.result = search rules in
     let last : last_till 0 (past_of c.moved.result) ≤ clock_of now = subst (λ (l : List Note). last_till 0 l ≤ clock_of now) (sym moves.past) (last_moved (clock_of lent) (clock_of now) moments 0 (past_of c.args.disk) (omega arith)) in
     record {
@@ -37,4 +37,4 @@ returns-else-ticks-lent-clause-here c =
     let lent = c.lent_at-lent.result in
     let moves : Moves (clock_of lent) (clock_of now) c.args.disk c.moved.result = search rules in
     let rises : lent < c.args.ticks = search rules in
-    shelves_moved c.args.ticks lent (lent_at (view m.disks (Volume c.args.device))) m.ticks now c.args.disk c.moved.result _ c.lent_at-lent.ensures rises c.requires.own c.back-now.ensures.behind moves c.put-else-ticks-lent.ensures.here
+    shelves_moved c.args.ticks lent (lent_at (view m.disks (Volume c.args.device))) m.ticks now c.args.disk c.moved.result _ c.lent_at-lent.ensures rises c.requires.own c.back-now.ensures.after moves c.put-else-ticks-lent.ensures.here

@@ -1,7 +1,7 @@
 use Rattle.std.proofs.Common.{◌<◌, length, get_or, rules}
 use Rattle.std.proofs.lemmas.List.{get_or_default}
 use Rattle.std.proofs.lemmas.List.Edits.{map_over_more}
-use Rattle.cut_core.specs.Floors.{told_after_form}
+use Rattle.cut_core.specs.Floors.{reported_after_form}
 use Rattle.cut_core.proofs.floors.Floors.form.Goals as goal
 
 pub loop-k-preserved : goal.loop-k-preserved
@@ -11,5 +11,5 @@ loop-k-preserved c =
     let now : c.loop-k.k < length c.loop-k.self-inside.told = search rules in
     record {
       controls = i.controls;
-      told = rw c.after_form.ensures (map_over_more (told_after_form c.args.cut.0) c.args.self.now.told c.loop-k.self-inside.told c.loop-k.k (get_or c.loop-k.self-inside.told c.loop-k.k _) old i.told (get_or_default c.loop-k.self-inside.told c.loop-k.k _ _ now));
+      told = rw c.after_form.ensures (map_over_more (reported_after_form c.args.cut.0) c.args.self.now.told c.loop-k.self-inside.told c.loop-k.k (get_or c.loop-k.self-inside.told c.loop-k.k _) old i.told (get_or_default c.loop-k.self-inside.told c.loop-k.k _ _ now));
     }

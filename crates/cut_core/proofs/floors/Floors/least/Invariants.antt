@@ -1,4 +1,4 @@
--- The cut so far is the least of the limit and the floors of the live controls before.
+-- The cut so far is the least of the limit and the floors of the live controllers before.
 use Rattle.std.proofs.Common.{◌≡◌, List}
 use Rattle.cut_core.specs.Events.{Event}
 use Rattle.cut_core.specs.LegalHistories.{least_floor}

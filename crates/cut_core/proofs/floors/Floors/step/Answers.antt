@@ -2,7 +2,7 @@
 use Rattle.std.proofs.Common.{false, true, refl, ap}
 use Rattle.cut_core.specs.Events.Event.{Join, Copied, Break, Raise, Drop}
 use Rattle.cut_core.proofs.Legality.{joins, told}
-use Rattle.cut_core.proofs.Stands.{stands_told, stands_quiet, stands_formed, join_tells, raise_tells, break_tells}
+use Rattle.cut_core.proofs.Stands.{stands_told, stands_quiet, stands_formed, join_reports, raise_reports, break_reports}
 use Rattle.cut_core.proofs.floors.Floors.step.Goals as goal
 
 pub returns-in-Join-clause-stands : goal.returns-in-Join-clause-stands
@@ -10,7 +10,7 @@ returns-in-Join-clause-stands c past s legal =
     let b = c.in-Join.batch in
     let next = rw c.in-Join.is at legal in
     let says = (joins c.args.self.now.controls past b next).tells in
-    rw c.in-Join.is (stands_told c.args.self.now c.tell.new.self past (Join b) b.control b.upto.0 false (join_tells b) s next says c.tell.ensures.controls c.tell.ensures.last c.tell.ensures.told)
+    rw c.in-Join.is (stands_told c.args.self.now c.tell.new.self past (Join b) b.control b.upto.0 false (join_reports b) s next says c.tell.ensures.controls c.tell.ensures.last c.tell.ensures.told)
 
 pub returns-in-Raise-clause-stands : goal.returns-in-Raise-clause-stands
 returns-in-Raise-clause-stands c past s legal =
@@ -18,7 +18,7 @@ returns-in-Raise-clause-stands c past s legal =
     let u = c.in-Raise.upto.0 in
     let next = rw c.in-Raise.is at legal in
     let says = told c.args.self.now.controls j u past next in
-    rw c.in-Raise.is (stands_told c.args.self.now c.tell-in-Raise.new.self past (Raise j u) j u false (raise_tells j u) s next says c.tell-in-Raise.ensures.controls c.tell-in-Raise.ensures.last c.tell-in-Raise.ensures.told)
+    rw c.in-Raise.is (stands_told c.args.self.now c.tell-in-Raise.new.self past (Raise j u) j u false (raise_reports j u) s next says c.tell-in-Raise.ensures.controls c.tell-in-Raise.ensures.last c.tell-in-Raise.ensures.told)
 
 pub returns-in-Break-clause-stands : goal.returns-in-Break-clause-stands
 returns-in-Break-clause-stands c past s legal =
@@ -26,7 +26,7 @@ returns-in-Break-clause-stands c past s legal =
     let u = c.in-Break.upto.0 in
     let next = rw c.in-Break.is at legal in
     let says = told c.args.self.now.controls j u past next in
-    rw c.in-Break.is (stands_told c.args.self.now c.tell-in-Break.new.self past (Break j u) j u true (break_tells j u) s next says c.tell-in-Break.ensures.controls c.tell-in-Break.ensures.last c.tell-in-Break.ensures.told)
+    rw c.in-Break.is (stands_told c.args.self.now c.tell-in-Break.new.self past (Break j u) j u true (break_reports j u) s next says c.tell-in-Break.ensures.controls c.tell-in-Break.ensures.last c.tell-in-Break.ensures.told)
 
 pub returns-in-Form-clause-stands : goal.returns-in-Form-clause-stands
 returns-in-Form-clause-stands c past s legal =

@@ -1,8 +1,8 @@
 use Rattle.std.proofs.Common.{sym, subst}
 use Rattle.group_state.specs.Controls.{ControlState}
-use Rattle.group_state.specs.SoundStates.{MayTell}
+use Rattle.group_state.specs.SoundStates.{MayReport}
 use Rattle.group_state.proofs.Numbers.{volumes_broke}
 use Rattle.group_state.proofs.control.Control.broken.Goals as goal
 
 pub invariant_of-self : goal.invariant_of-self
-invariant_of-self c = volumes_broke c.args.upto c.args.cause _ c.self.invariant (subst (λ (s : ControlState). MayTell s c.args.upto) (sym c.self.view_is) c.requires.legal)
+invariant_of-self c = volumes_broke c.args.upto c.args.cause _ c.self.invariant (subst (λ (s : ControlState). MayReport s c.args.upto) (sym c.self.view_is) c.requires.legal)

@@ -13,7 +13,7 @@ push_track-requires c =
     let s = c.self.inside in
     record { last = omega (arith, last_up_to s.floor 0 s.queue.state.waiting (omega arith) c.self.invariant.sound.stamps, ap (λ (t : Stamp). t.0) c.requires.floor, ap (λ (v : ControlState). v.floor.0) c.self.view_is) }
 
--- what is closed is the control with the track joined
+-- what is closed is the controller with the track joined
 closed : (c : goal.After-self-1) → (let s = c.self.inside in
     let view : ControlState = record { queue = s.queue.state; floor = s.floor; phase = s.phase; volumes = s.volumes.items } in
     let new = c.join_copy.new.volumes in

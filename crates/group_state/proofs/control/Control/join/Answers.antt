@@ -22,7 +22,7 @@ push_carried-requires-clause-stamps c =
     carried_never_fall (λ w. is_carried volumes w) (last_stamp s.queue.state.waiting) c.args.batch.now.writes
     (batch_rises c.args.batch.now view c.self.invariant.sound (subst (λ (v : ControlState). MayJoin v c.args.batch.now) (sym c.self.view_is) c.requires.legal))
 
--- whether it is refused, said of the control's value
+-- whether it is refused, said of the controller's value
 same_full : (refused : Bool) (view now : ControlState) (volumes : List Volume) (b : Batch) → volumes ≡ view.volumes → view ≡ now
     → ((refused ≡ true) ↔ (has_room (free_room view.queue) (filter (λ w. is_carried volumes w) b.writes) ≡ false)) → (refused ≡ true) ↔ (fits now b ≡ false)
 same_full refused view now volumes b same is full =

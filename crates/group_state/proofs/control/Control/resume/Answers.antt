@@ -7,7 +7,7 @@ use Rattle.group_state.proofs.Numbers.{volumes_resumed}
 use Rattle.group_state.proofs.SoundLaws.{written_back}
 use Rattle.group_state.proofs.control.Control.resume.Goals as goal
 
--- what is closed is the control with the volume resumed
+-- what is closed is the controller with the volume resumed
 closed : (c : goal.After-self-1) → (let s = c.self.inside in
     let view : ControlState = record { queue = s.queue.state; floor = s.floor; phase = s.phase; volumes = s.volumes.items } in
     let now : ControlState = record { queue = s.queue.state; floor = s.floor; phase = s.phase; volumes = take s.volumes.len (c.resume.new.volumes ++ drop (length c.resume.new.volumes) s.volumes.items) } in

@@ -1,9 +1,9 @@
 use Rattle.std.specs.Prelude.{◌≡◌, length}
-use Rattle.mover_tests.specs.Steps.{HaveControlsTold}
+use Rattle.mover_tests.specs.Steps.{HaveControlsReported}
 use Rattle.mover_tests.proofs.steps.Shared.copy.Given as goal
 
 abbrev pub invariant-loop-copied : goal.invariant-loop-copied
 invariant-loop-copied g l = record {
-  told : HaveControlsTold l.self.told.items l.self.last l.self.group;
+  told : HaveControlsReported l.self.told.items l.self.last l.self.group;
   same : length l.self.group.controls ≡ length l.initial.self.group.controls;
 }

@@ -1,7 +1,7 @@
 use Rattle.std.proofs.Common.{rules, ◌≡◌, ◌≤◌, ◌<◌, ℕ, length, slice_index_or, slice_set, subst, sym, ap, ◌∙◌}
 use Rattle.group_state.specs.Answers.{run_reply}
 use Rattle.group_state.specs.declared.joining.RunJoin.TheVariants as runnings
-use Rattle.mover_tests.specs.Steps.{AreToJoin, HaveControlsTold}
+use Rattle.mover_tests.specs.Steps.{AreToJoin, HaveControlsReported}
 use Rattle.std.proofs.lemmas.Grind.{get_or_default_zero}
 use Rattle.mover_tests.proofs.Stepping.{may_join, told_joined}
 use Rattle.mover_tests.proofs.steps.Shared.join.Goals as goal
@@ -26,6 +26,6 @@ returns-clause-told g c =
     let low : k < length c.args.self.now.group.controls = search rules in
     let up : slice_index_or told k 0 ≤ c.args.upto = search rules in
     let joined : c.join_ref-joined.result ≡ runnings.Joined = search rules in
-    subst (λ n. HaveControlsTold (slice_set told n c.args.upto) c.args.self.now.last c.join_ref-joined.new.self) (sym place)
+    subst (λ n. HaveControlsReported (slice_set told n c.args.upto) c.args.self.now.last c.join_ref-joined.new.self) (sym place)
     (told_joined told c.args.self.now.last c.args.self.now.group c.join_ref-joined.new.self k c.args.upto c.writes_of-writes.result (run_reply c.join_ref-joined.result) c.requires low up
     (subst (λ n. AreToJoin n c.args.upto c.writes_of-writes.result) before c.writes_of-writes.ensures) c.join_ref-joined.ensures.step (ap run_reply joined))

@@ -18,7 +18,7 @@ passes_as tells old mid now new r reads told p =
     let shape = shape_same old mid reads.only.site in
     subst (λ (s : WalkStep). AnswersStep s now new r) (λ i. step (shape i) (λ d. reads.same told d i) (standing_of now)) p
 
--- the plant behind the sync is as at first
+-- the plant after the sync is as at first
 pub returns-in_err-settled-clause-reads : goal.returns-in_err-settled-clause-reads
 returns-in_err-settled-clause-reads g c = reads_then g.P.Plant.tells _ _ _ c.loop-settled.invariant.reads c.settle_here.ensures.reads
 

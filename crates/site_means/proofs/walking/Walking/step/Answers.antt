@@ -16,7 +16,7 @@ use Rattle.site_means.specs.Walk.{WalkStep, body_place, first_unfit, group_step,
 use Rattle.site_means.specs.Walk.WalkStep.{Breaks}
 use Rattle.site_means.specs.Steps.{HavePlaces, AnswersStep, standing_of}
 use Rattle.std.proofs.lemmas.Result.{on_ok_weaker}
-use Rattle.site_means.proofs.Finishing.{on_ok_two, stands_behind, stands_later}
+use Rattle.site_means.proofs.Finishing.{on_ok_two, stands_after, stands_later}
 use Rattle.site_means.proofs.ReadAll.{reads_journal, fails_one}
 use Rattle.site_means.proofs.Found.{told_group, told_switch, told_damaged, found_places}
 use Rattle.site_means.proofs.walking.Walking.step.Goals as goal
@@ -119,8 +119,8 @@ returns-in-Ok-Group-clause-stands g c =
     let place : c.in-Ok-Group.after.place < old.lengths (Journal c.in-Ok-Group.after.set) = omega (arith, on.1, ap (λ (k : ℕ). old.lengths (Journal k)) on.0) in
     let number : c.in-Ok-Group.after.number < 2 ^ 64 = search rules in
     on_ok_two c.pass_group.result
-    (λ behind below. stands_later old new next c.walk.ensures.only.only.site (stands_behind old now next c.in-Ok-Group.after next.table.rows stands behind set place number (ap (λ (n : ℕ). are_below n next.table.rows) (sym c.volumes-volumes.ensures) ∙ below)))
-    c.pass_group.ensures.behind c.pass_group.ensures.below
+    (λ after below. stands_later old new next c.walk.ensures.only.only.site (stands_after old now next c.in-Ok-Group.after next.table.rows stands after set place number (ap (λ (n : ℕ). are_below n next.table.rows) (sym c.volumes-volumes.ensures) ∙ below)))
+    c.pass_group.ensures.at_spot c.pass_group.ensures.below
 
 pub returns-in-Ok-Switch-clause-stands : goal.returns-in-Ok-Switch-clause-stands
 returns-in-Ok-Switch-clause-stands g c =
@@ -132,7 +132,7 @@ returns-in-Ok-Switch-clause-stands g c =
     let stands = c.requires.stands in
     let place : c.in-Ok-Switch.after.place < old.lengths (Journal c.in-Ok-Switch.after.set) = omega (arith, on.1, stands.long c.in-Ok-Switch.after.set on.0) in
     let number : c.in-Ok-Switch.after.number < 2 ^ 64 = search rules in
-    on_ok_weaker c.enter.result (λ behind. stands_later old new next c.walk.ensures.only.only.site (stands_behind old now next c.in-Ok-Switch.after now.table.rows stands behind on.0 place number stands.below)) c.enter.ensures.behind
+    on_ok_weaker c.enter.result (λ after. stands_later old new next c.walk.ensures.only.only.site (stands_after old now next c.in-Ok-Switch.after now.table.rows stands after on.0 place number stands.below)) c.enter.ensures.at_spot
 
 pub returns-in-Ok-End-clause-stands : goal.returns-in-Ok-End-clause-stands
 returns-in-Ok-End-clause-stands g c = stands_later (g.P.Plant.state c.args.plant.now) (g.P.Plant.state c.walk.new.plant) c.args.self.now c.walk.ensures.only.only.site c.requires.stands

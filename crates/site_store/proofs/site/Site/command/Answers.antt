@@ -5,7 +5,7 @@ use Rattle.pair_table.specs.Tables.{AreRowsSound, Table}
 use Rattle.site_store.specs.Commands.{AddsBelow, IsToLog, MayDo, alters, with_change, without_flag}
 use Rattle.site_store.specs.Sites.{SiteState}
 use Rattle.site_store.proofs.Commanded.{change_to_log, may_again, session_after}
-use Rattle.site_store.proofs.CommandRows.{adds_below, answered, told_behind}
+use Rattle.site_store.proofs.CommandRows.{adds_below, answered, told_after}
 use Rattle.site_store.proofs.site.Site.command.Goals as goal
 
 pub returns-in_err-change-clause-refused : goal.returns-in_err-change-clause-refused
@@ -39,7 +39,7 @@ returns-clause-ok g c =
     let is_inside : answer names s.table session command ≡ Ok change = c.in_ok-change.ensures.change in
     let started_inside : s.table.is_started ≡ true = ap (λ (k : SiteState). k.table.is_started) c.self.view_is ∙ started in
     let told : cond c.either-self-inside.result c.keep_rows.new.told.rows c.command.new.self.rows ≡ site.told =
-    (λ i. cond ((c.either-self-inside.ensures ∙ (λ j. s.ahead || c.alters.ensures j)) i) (kept i) (c.in_ok-change.ensures.ok i).rows) ∙ told_behind names s.table session command at change is_inside started_inside s.ahead s.told.rows ∙ ap (λ (k : SiteState). k.told) c.self.view_is in
+    (λ i. cond ((c.either-self-inside.ensures ∙ (λ j. s.ahead || c.alters.ensures j)) i) (kept i) (c.in_ok-change.ensures.ok i).rows) ∙ told_after names s.table session command at change is_inside started_inside s.ahead s.told.rows ∙ ap (λ (k : SiteState). k.told) c.self.view_is in
     let next : c.take_added.new.self ≡ with_change (table_after names site.table session command at) change site =
     c.take_added.ensures ∙ (λ i. record (c.self.view_is i) { table = table i; is_ahead = ahead i; told = told i; failed = without_flag 0 change (c.self.view_is i).failed }) in
     next
@@ -74,7 +74,7 @@ returns-clause-again g c =
     let is_inside : answer names s.table session command ≡ Ok change = c.in_ok-change.ensures.change in
     let started_inside : s.table.is_started ≡ true = ap (λ (k : SiteState). k.table.is_started) c.self.view_is ∙ started in
     let told : cond c.either-self-inside.result c.keep_rows.new.told.rows c.command.new.self.rows ≡ site.told =
-    (λ i. cond ((c.either-self-inside.ensures ∙ (λ j. s.ahead || c.alters.ensures j)) i) (kept i) (c.in_ok-change.ensures.ok i).rows) ∙ told_behind names s.table session command at change is_inside started_inside s.ahead s.told.rows ∙ ap (λ (k : SiteState). k.told) c.self.view_is in
+    (λ i. cond ((c.either-self-inside.ensures ∙ (λ j. s.ahead || c.alters.ensures j)) i) (kept i) (c.in_ok-change.ensures.ok i).rows) ∙ told_after names s.table session command at change is_inside started_inside s.ahead s.told.rows ∙ ap (λ (k : SiteState). k.told) c.self.view_is in
     let next : c.take_added.new.self ≡ with_change (table_after names site.table session command at) change site =
     c.take_added.ensures ∙ (λ i. record (c.self.view_is i) { table = table i; is_ahead = ahead i; told = told i; failed = without_flag 0 change (c.self.view_is i).failed }) in
     let may = may_again names site session command at change is started c.requires.may (subst (λ (t : Table). MayCommand names t.rows) table c.in_ok-change.ensures.again) in
@@ -97,7 +97,7 @@ returns-clause-to_log g c level keeps =
     let is_inside : answer names s.table session command ≡ Ok change = c.in_ok-change.ensures.change in
     let started_inside : s.table.is_started ≡ true = ap (λ (k : SiteState). k.table.is_started) c.self.view_is ∙ started in
     let told : cond c.either-self-inside.result c.keep_rows.new.told.rows c.command.new.self.rows ≡ site.told =
-    (λ i. cond ((c.either-self-inside.ensures ∙ (λ j. s.ahead || c.alters.ensures j)) i) (kept i) (c.in_ok-change.ensures.ok i).rows) ∙ told_behind names s.table session command at change is_inside started_inside s.ahead s.told.rows ∙ ap (λ (k : SiteState). k.told) c.self.view_is in
+    (λ i. cond ((c.either-self-inside.ensures ∙ (λ j. s.ahead || c.alters.ensures j)) i) (kept i) (c.in_ok-change.ensures.ok i).rows) ∙ told_after names s.table session command at change is_inside started_inside s.ahead s.told.rows ∙ ap (λ (k : SiteState). k.told) c.self.view_is in
     let next : c.take_added.new.self ≡ with_change (table_after names site.table session command at) change site =
     c.take_added.ensures ∙ (λ i. record (c.self.view_is i) { table = table i; is_ahead = ahead i; told = told i; failed = without_flag 0 change (c.self.view_is i).failed }) in
     let told_is : site.told ≡ site.table.rows = subst (λ (k : SiteState). k.is_ahead ≡ false → k.told ≡ k.table.rows) c.self.view_is (λ e. ap (λ (b : Bool). cond b s.told.rows s.table.rows) e) level in

@@ -181,7 +181,7 @@ returns-then-record_needs_more g c =
       failed = exits.spent_failed tells group (site g f) (old g f) (mid g f) (failed g f) items placement (first g f) start (formed g f) is (failed_is g f);
     }
 
--- ---- behind a mark
+-- ---- after a mark
 
 pub invariant_of-self-in-Marked : goal.invariant_of-self-in-Marked
 invariant_of-self-in-Marked g c =
@@ -195,32 +195,32 @@ invariant_of-self-in-Marked g c =
       due_is = λ waits. absurd (cc waits);
     }
 
-pub log_group_behind_mark-requires-clause-ready : goal.log_group_behind_mark-requires-clause-ready
-log_group_behind_mark-requires-clause-ready g c κs within =
-    let f = (goal.at.log_group_behind_mark-requires-clause-ready g c).After-placement_from-placement in
+pub log_group_after_mark-requires-clause-ready : goal.log_group_after_mark-requires-clause-ready
+log_group_after_mark-requires-clause-ready g c κs within =
+    let f = (goal.at.log_group_after_mark-requires-clause-ready g c).After-placement_from-placement in
     let tells = g.P.Plant.tells in
     let group = c.args.formed.now in
     let items = c.form_record-hits.new.body.items in
     let placement = c.placement_from-placement.result in
     mark_ready tells group (site g f) (old g f) (mid g f) (failed g f) items placement (first g f) (formed g f) (formed_is g f)
 
-pub log_group_behind_mark-requires-clause-may : goal.log_group_behind_mark-requires-clause-may
-log_group_behind_mark-requires-clause-may g c κs within =
-    let f = (goal.at.log_group_behind_mark-requires-clause-may g c).After-placement_from-placement in
+pub log_group_after_mark-requires-clause-may : goal.log_group_after_mark-requires-clause-may
+log_group_after_mark-requires-clause-may g c κs within =
+    let f = (goal.at.log_group_after_mark-requires-clause-may g c).After-placement_from-placement in
     let tells = g.P.Plant.tells in
     let group = c.args.formed.now in
     let items = c.form_record-hits.new.body.items in
     let placement = c.placement_from-placement.result in
     mark_may tells group (site g f) (old g f) (mid g f) (failed g f) items placement (first g f) (formed g f) (formed_is g f)
 
-pub log_group_behind_mark-requires-clause-rows : goal.log_group_behind_mark-requires-clause-rows
-log_group_behind_mark-requires-clause-rows g c κs within =
-    let f = (goal.at.log_group_behind_mark-requires-clause-rows g c).After-placement_from-placement in
+pub log_group_after_mark-requires-clause-rows : goal.log_group_after_mark-requires-clause-rows
+log_group_after_mark-requires-clause-rows g c κs within =
+    let f = (goal.at.log_group_after_mark-requires-clause-rows g c).After-placement_from-placement in
     told_is g f
 
-pub log_group_behind_mark-requires-clause-mark : goal.log_group_behind_mark-requires-clause-mark
-log_group_behind_mark-requires-clause-mark g c κs within =
-    let f = (goal.at.log_group_behind_mark-requires-clause-mark g c).After-placement_from-placement in
+pub log_group_after_mark-requires-clause-mark : goal.log_group_after_mark-requires-clause-mark
+log_group_after_mark-requires-clause-mark g c κs within =
+    let f = (goal.at.log_group_after_mark-requires-clause-mark g c).After-placement_from-placement in
     let tells = g.P.Plant.tells in
     let group = c.args.formed.now in
     let items = c.form_record-hits.new.body.items in
@@ -229,9 +229,9 @@ log_group_behind_mark-requires-clause-mark g c κs within =
     let marked : placement ≡ MarkedFirst = c.in-Marked.is in
     mark_number tells group (site g f) (old g f) (mid g f) (failed g f) items placement (first g f) marked enough
 
-pub log_group_behind_mark-requires-clause-next : goal.log_group_behind_mark-requires-clause-next
-log_group_behind_mark-requires-clause-next g c κs within =
-    let f = (goal.at.log_group_behind_mark-requires-clause-next g c).After-placement_from-placement in
+pub log_group_after_mark-requires-clause-next : goal.log_group_after_mark-requires-clause-next
+log_group_after_mark-requires-clause-next g c κs within =
+    let f = (goal.at.log_group_after_mark-requires-clause-next g c).After-placement_from-placement in
     let tells = g.P.Plant.tells in
     let group = c.args.formed.now in
     let items = c.form_record-hits.new.body.items in
@@ -249,20 +249,20 @@ returns-in-Marked g c =
     let items = c.form_record-hits.new.body.items in
     let placement = c.placement_from-placement.result in
     let is : site g f ≡ c.args.self.now = c.self.view_is in
-    let new = g.P.Plant.state c.log_group_behind_mark.new.plant in
-    let next = c.log_group_behind_mark.new.self in
-    let k = c.log_group_behind_mark.ensures in
+    let new = g.P.Plant.state c.log_group_after_mark.new.plant in
+    let next = c.log_group_after_mark.new.self in
+    let k = c.log_group_after_mark.ensures in
     let enough : is_spent placement (site g f) ≡ false = sym c.record_needs_more.ensures ∙ c.if-record_needs_more.false in
     let marked : placement ≡ MarkedFirst = c.in-Marked.is in
     record {
-      ok = exits.behind_logged tells group (site g f) (old g f) (mid g f) (failed g f) items placement (first g f) start next (formed g f) new c.log_group_behind_mark.result is (formed_is g f) marked enough k.ok k.failed k.unspent;
-      leaves = exits.behind_leaves tells group (site g f) (old g f) (mid g f) (failed g f) items placement (first g f) start next (formed g f) new c.log_group_behind_mark.result is (formed_is g f) k.leaves;
-      others = exits.behind_others tells group (site g f) (old g f) (mid g f) (failed g f) items placement (first g f) start next (formed g f) new c.log_group_behind_mark.result is (formed_is g f) k.others;
+      ok = exits.logged_after_mark tells group (site g f) (old g f) (mid g f) (failed g f) items placement (first g f) start next (formed g f) new c.log_group_after_mark.result is (formed_is g f) marked enough k.ok k.failed k.unspent;
+      leaves = exits.after_leaves tells group (site g f) (old g f) (mid g f) (failed g f) items placement (first g f) start next (formed g f) new c.log_group_after_mark.result is (formed_is g f) k.leaves;
+      others = exits.after_others tells group (site g f) (old g f) (mid g f) (failed g f) items placement (first g f) start next (formed g f) new c.log_group_after_mark.result is (formed_is g f) k.others;
       volumes = stay_then tells (old g f) (mid g f) new c.form_record-hits.ensures.only.elapses k.others.elapses (stay_read tells (old g f) (mid g f) c.form_record-hits.ensures.reads) k.volumes;
       unwritten = λ spent. absurd (k.unspent spent);
-      heard_said = λ told. (exits.behind_others tells group (site g f) (old g f) (mid g f) (failed g f) items placement (first g f) start next (formed g f) new c.log_group_behind_mark.result is (formed_is g f) k.others).silent told;
-      cause = exits.behind_cause tells group (site g f) (old g f) (mid g f) (failed g f) items placement (first g f) start next (formed g f) new c.log_group_behind_mark.result is (formed_is g f) k.cause;
-      failed = exits.behind_failed tells group (site g f) (old g f) (mid g f) (failed g f) items placement (first g f) start next (formed g f) new c.log_group_behind_mark.result is (formed_is g f) k.failed;
+      heard_said = λ told. (exits.after_others tells group (site g f) (old g f) (mid g f) (failed g f) items placement (first g f) start next (formed g f) new c.log_group_after_mark.result is (formed_is g f) k.others).silent told;
+      cause = exits.after_cause tells group (site g f) (old g f) (mid g f) (failed g f) items placement (first g f) start next (formed g f) new c.log_group_after_mark.result is (formed_is g f) k.cause;
+      failed = exits.after_failed tells group (site g f) (old g f) (mid g f) (failed g f) items placement (first g f) start next (formed g f) new c.log_group_after_mark.result is (formed_is g f) k.failed;
     }
 
 -- ---- without a mark

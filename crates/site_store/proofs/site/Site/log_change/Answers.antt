@@ -11,15 +11,15 @@ use Rattle.site_store.specs.declared.store_error.StoreError.TheVariants.{Spent}
 use Rattle.site_store.specs.declared.placement.Placement.{Placement}
 use Rattle.site_store.specs.declared.placement.Placement.TheVariants.{Marked}
 use Rattle.site_store.specs.Causes.{FailByCounts}
-use Rattle.site_store.specs.Changing.{DoesRows, FormsChange, IsBehindChange, IsPlacementOfChange, changed_items}
+use Rattle.site_store.specs.Changing.{DoesRows, FormsChange, IsAfterChange, IsPlacementOfChange, changed_items}
 use Rattle.site_store.specs.Jobs.{has_job_failed}
-use Rattle.site_store.specs.Records.{IsJournal, IsOfRecord, behind_record}
+use Rattle.site_store.specs.Records.{IsJournal, IsOfRecord, after_record}
 use Rattle.site_store.specs.Sites.{SiteState}
 use Rattle.site_store.specs.Standing.{Leaves}
 use Rattle.site_store.specs.Placements.{record_needs_more, placement_from, placement_of}
 use Rattle.site_store.proofs.ChangeEnds.{change_placement, forms_there, level_view, mark_logs, marked_done, may_put, none_done, none_leaves, record_done, record_leaves, record_logs, spent_done, spent_logs, told_is}
 use Rattle.site_store.proofs.ChangeFirst.{fail_first, none_fail}
-use Rattle.site_store.proofs.RowEnds.{plain_behind}
+use Rattle.site_store.proofs.RowEnds.{plain_after}
 use Rattle.site_store.proofs.RowRoom.{reads_choice}
 use Rattle.site_store.proofs.Views.{at_error, ends_there, flags_below, idle_site, jobs_below, keeps_still, last_placement, may_put_there, rows_taken, shows_there, taken_view}
 use Rattle.site_store.proofs.VolumesStaying.{stay_here, stay_put}
@@ -35,8 +35,8 @@ form_change-requires-clause-below g c = jobs_below _ c.args.self.now (g.P.Plant.
 pub take_logged-requires-clause-below : goal.take_logged-requires-clause-below
 take_logged-requires-clause-below g c = flags_below _ c.args.self.now (g.P.Plant.state c.args.plant.now) c.self.view_is c.requires.may.fast.fits
 
-pub log_behind_mark-requires-clause-numbers : goal.log_behind_mark-requires-clause-numbers
-log_behind_mark-requires-clause-numbers g c κs within =
+pub log_after_mark-requires-clause-numbers : goal.log_after_mark-requires-clause-numbers
+log_after_mark-requires-clause-numbers g c κs within =
     let s = c.self.inside in
     let marked = last_placement c.placement_from-placement.result (λ is. let no = (rw is at c.eq.ensures) in let yes = c.if-eq.true in cc (no, yes)) (λ is. let no = (rw is at c.eq.ensures) in let yes = c.if-eq.true in cc (no, yes)) in
     sym (c.record_needs_more.ensures ∙ ap (λ (w : Placement). record_needs_more w s.journal.at.number s.mark.number) marked) ∙ c.if-record_needs_more.false
@@ -152,9 +152,9 @@ returns-then-eq-clause-ok g c =
     let placement = c.placement_from-placement.result in
     let enough = sym (c.record_needs_more.ensures ∙ (λ i. record_needs_more placement (c.self.view_is i).at.number (c.self.view_is i).mark.number)) ∙ c.if-record_needs_more.false in
     let marked = last_placement c.placement_from-placement.result (λ is. let no = (rw is at c.eq.ensures) in let yes = c.if-eq.true in cc (no, yes)) (λ is. let no = (rw is at c.eq.ensures) in let yes = c.if-eq.true in cc (no, yes)) in
-    let k = c.log_behind_mark in
+    let k = c.log_after_mark in
     mark_logs tells c.args.cut c.args.change.now site old may site.failed s.body now (forms g f) refl (some g f) placement (placement_is g f) enough c.args.plant.now k.new.plant k.new.self k.result marked k.ensures.unspent
-    (subst (λ (x : SiteState). OnOk k.result (IsBehindChange c.args.cut.0 c.args.change.now Marked x k.new.self old)) (idle_site _ site c.self.view_is may.idle) k.ensures.ok)
+    (subst (λ (x : SiteState). OnOk k.result (IsAfterChange c.args.cut.0 c.args.change.now Marked x k.new.self old)) (idle_site _ site c.self.view_is may.idle) k.ensures.ok)
 
 pub returns-then-eq-clause-moments : goal.returns-then-eq-clause-moments
 returns-then-eq-clause-moments g c =
@@ -166,7 +166,7 @@ returns-then-eq-clause-moments g c =
     let s = c.self.inside in
     let now = c.form_change.new.body in
     let placement = c.placement_from-placement.result in
-    let k = c.log_behind_mark in
+    let k = c.log_after_mark in
     let new = g.P.Plant.state k.new.plant in
     let marked = last_placement c.placement_from-placement.result (λ is. let no = (rw is at c.eq.ensures) in let yes = c.if-eq.true in cc (no, yes)) (λ is. let no = (rw is at c.eq.ensures) in let yes = c.if-eq.true in cc (no, yes)) in
     let is_placement = subst (λ (w : Placement). IsPlacementOfChange c.args.cut.0 c.args.change.now site old w) marked (change_placement tells c.args.cut c.args.change.now site old may site.failed s.body now (forms g f) refl (some g f) placement (placement_is g f)) in
@@ -178,8 +178,8 @@ returns-then-eq-clause-others g c =
     let site = c.args.self.now in
     let tells = g.P.Plant.tells in
     let old = g.P.Plant.state c.args.plant.now in
-    let new = g.P.Plant.state c.log_behind_mark.new.plant in
-    lent_of_works tells (IsOfRecord site) old new (subst (λ (x : SiteState). WorksOn tells (IsOfRecord x) old new) (idle_site _ site c.self.view_is c.requires.may.idle) c.log_behind_mark.ensures.only)
+    let new = g.P.Plant.state c.log_after_mark.new.plant in
+    lent_of_works tells (IsOfRecord site) old new (subst (λ (x : SiteState). WorksOn tells (IsOfRecord x) old new) (idle_site _ site c.self.view_is c.requires.may.idle) c.log_after_mark.ensures.only)
 
 -- ---- the record
 
@@ -266,8 +266,8 @@ returns-clause-ok g c =
     let still = ap (λ (x : SiteState). x.failed) c.take_logged.ensures ∙ ap (λ (x : SiteState). x.failed) c.self.view_is in
     let next_is = c.take_logged.ensures ∙ taken_view _ site old.journals placement c.args.cut.0 now.items now.items c.put_record.new.journal.at c.self.view_is may.idle c.in_ok-put_record.ensures.at refl in
     record_logs tells c.args.cut c.args.change.now site old may site.failed s.body now (forms g f) refl (some g f) placement (placement_is g f) enough plain c.args.plant.now c.put_record.new.plant c.take_logged.new.self (Ok tt) (λ e. cc e) still
-    (next_is ∙ plain_behind old.journals placement c.args.cut.0 now.items (rows_taken c.args.cut.0 site) site plain
-    ∙ ap (λ (failed : List Bool). behind_record old.journals placement c.args.cut.0 now.items (rows_with_hits site.level c.args.cut.0 failed site.table.rows) failed site) (sym still))
+    (next_is ∙ plain_after old.journals placement c.args.cut.0 now.items (rows_taken c.args.cut.0 site) site plain
+    ∙ ap (λ (failed : List Bool). after_record old.journals placement c.args.cut.0 now.items (rows_with_hits site.level c.args.cut.0 failed site.table.rows) failed site) (sym still))
 
 pub returns-clause-leaves : goal.returns-clause-leaves
 returns-clause-leaves g c =

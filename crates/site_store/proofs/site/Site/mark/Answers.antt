@@ -9,9 +9,9 @@ use Rattle.site_store.specs.Placements.{most}
 use Rattle.site_store.specs.Sites.{SiteState}
 use Rattle.site_store.specs.Standing.{none_excepted}
 use Rattle.site_store.proofs.MarkMade.{makes_none}
-use Rattle.site_store.proofs.NextMark.{behind_level}
+use Rattle.site_store.proofs.NextMark.{after_level}
 use Rattle.site_store.proofs.RecordPuts.{on_ok}
-use Rattle.site_store.proofs.SyncedSites.{IsSynced, cause_behind, durable_as, mark_works_lent, may_put, seen_fails, seen_leaves, seen_makes, seen_may, seen_next, synced_aside}
+use Rattle.site_store.proofs.SyncedSites.{IsSynced, cause_after, durable_as, mark_works_lent, may_put, seen_fails, seen_leaves, seen_makes, seen_may, seen_next, synced_aside}
 use Rattle.site_store.proofs.site.Site.mark.Given as given
 use Rattle.site_store.proofs.site.Site.mark.Goals as goal
 use Rattle.site_store.proofs.site.Site.mark.Goals.{After-sync_written}
@@ -76,7 +76,7 @@ pub returns-clause-ok : goal.returns-clause-ok
 returns-clause-ok g c =
     let f = (goal.at.returns-clause-ok g c).After-sync_written in
     record {
-      next_is = on_ok c.put_next_mark.result (λ is. seen_next g.P.Plant.tells c.args.self.now (flags g f) (g.P.Plant.state c.args.plant.now) (g.P.Plant.state c.sync_written.new.plant) (synced g f) _ c.put_next_mark.new.self (g.P.Plant.state c.put_next_mark.new.plant) c.args.ended c.args.ended _ c.args.self.now.level c.self.view_is refl (ap (λ (s : SiteState). s.level) c.self.view_is) c.put_next_mark.ensures.failed c.put_next_mark.ensures.only is ∙ behind_level c.args.ended (rows_at_mark c.args.self.now.level c.args.self.now c.put_next_mark.new.self.failed) c.put_next_mark.new.self.failed c.args.self.now c.requires.may.level) c.put_next_mark.ensures.ok;
+      next_is = on_ok c.put_next_mark.result (λ is. seen_next g.P.Plant.tells c.args.self.now (flags g f) (g.P.Plant.state c.args.plant.now) (g.P.Plant.state c.sync_written.new.plant) (synced g f) _ c.put_next_mark.new.self (g.P.Plant.state c.put_next_mark.new.plant) c.args.ended c.args.ended _ c.args.self.now.level c.self.view_is refl (ap (λ (s : SiteState). s.level) c.self.view_is) c.put_next_mark.ensures.failed c.put_next_mark.ensures.only is ∙ after_level c.args.ended (rows_at_mark c.args.self.now.level c.args.self.now c.put_next_mark.new.self.failed) c.put_next_mark.new.self.failed c.args.self.now c.requires.may.level) c.put_next_mark.ensures.ok;
       spent = (λ e. absurd (c.put_next_mark.ensures.unspent e), λ spent. let last = eqb-true c.args.self.now.mark.number most spent in let low = number g f in absurd (omega (arith, last, low)));
       nothing = λ e. absurd (c.put_next_mark.ensures.unspent e);
     }
@@ -106,7 +106,7 @@ returns-clause-heard_said g c =
 pub returns-clause-cause : goal.returns-clause-cause
 returns-clause-cause g c =
     let f = (goal.at.returns-clause-cause g c).After-sync_written in
-    cause_behind g.P.Plant.tells c.args.self.now (flags g f) (g.P.Plant.state c.args.plant.now) (g.P.Plant.state c.sync_written.new.plant) (synced g f) (g.P.Plant.state c.put_next_mark.new.plant) c.put_next_mark.result c.put_next_mark.ensures.cause
+    cause_after g.P.Plant.tells c.args.self.now (flags g f) (g.P.Plant.state c.args.plant.now) (g.P.Plant.state c.sync_written.new.plant) (synced g f) (g.P.Plant.state c.put_next_mark.new.plant) c.put_next_mark.result c.put_next_mark.ensures.cause
 
 pub returns-clause-failed : goal.returns-clause-failed
 returns-clause-failed g c =

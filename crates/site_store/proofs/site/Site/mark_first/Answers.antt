@@ -14,7 +14,7 @@ use Rattle.site_store.specs.Marking.{IsAmong, MakesMark, rows_at_mark, unit_of}
 use Rattle.site_store.specs.Sites.{SiteState}
 use Rattle.site_store.specs.Standing.{none_excepted, row_has_volume}
 use Rattle.site_store.proofs.Below.{below_volumes}
-use Rattle.site_store.proofs.SyncedSites.{IsSynced, cause_behind, durable_as, mark_works, may_put, none_waits, seen_fails, seen_leaves, seen_makes, seen_may, seen_next, synced_as}
+use Rattle.site_store.proofs.SyncedSites.{IsSynced, cause_after, durable_as, mark_works, may_put, none_waits, seen_fails, seen_leaves, seen_makes, seen_may, seen_next, synced_as}
 use Rattle.site_store.proofs.site.Site.mark_first.Given as given
 use Rattle.site_store.proofs.site.Site.mark_first.Goals as goal
 use Rattle.site_store.proofs.site.Site.mark_first.Goals.{After-sync_in_turn}
@@ -98,7 +98,7 @@ pub returns-in_err-put_next_mark-clause-cause : goal.returns-in_err-put_next_mar
 returns-in_err-put_next_mark-clause-cause g c =
     let f = (goal.at.returns-in_err-put_next_mark-clause-cause g c).After-sync_in_turn in
     let is : c.from_residual.result ≡ Err c.in_err-put_next_mark.field-0.0 = search rules in
-    subst (λ (r : Result (Unit {0}) StoreError). HasStoreCause (g.P.Plant.state c.args.plant.now).faults (g.P.Plant.state c.put_next_mark.new.plant).faults r) (sym (ap unit_of is ∙ sym c.in_err-put_next_mark.was)) (cause_behind g.P.Plant.tells c.args.self.now (flags g f) (g.P.Plant.state c.args.plant.now) (g.P.Plant.state c.sync_in_turn.new.plant) (synced g f) (g.P.Plant.state c.put_next_mark.new.plant) c.put_next_mark.result c.put_next_mark.ensures.cause)
+    subst (λ (r : Result (Unit {0}) StoreError). HasStoreCause (g.P.Plant.state c.args.plant.now).faults (g.P.Plant.state c.put_next_mark.new.plant).faults r) (sym (ap unit_of is ∙ sym c.in_err-put_next_mark.was)) (cause_after g.P.Plant.tells c.args.self.now (flags g f) (g.P.Plant.state c.args.plant.now) (g.P.Plant.state c.sync_in_turn.new.plant) (synced g f) (g.P.Plant.state c.put_next_mark.new.plant) c.put_next_mark.result c.put_next_mark.ensures.cause)
 
 pub returns-in_err-put_next_mark-clause-failed : goal.returns-in_err-put_next_mark-clause-failed
 returns-in_err-put_next_mark-clause-failed g c =
@@ -137,7 +137,7 @@ returns-clause-only g c =
 pub returns-clause-cause : goal.returns-clause-cause
 returns-clause-cause g c =
     let f = (goal.at.returns-clause-cause g c).After-sync_in_turn in
-    cause_behind g.P.Plant.tells c.args.self.now (flags g f) (g.P.Plant.state c.args.plant.now) (g.P.Plant.state c.sync_in_turn.new.plant) (synced g f) (g.P.Plant.state c.put_next_mark.new.plant) (Ok tt) c.in_ok-put_next_mark.ensures.cause
+    cause_after g.P.Plant.tells c.args.self.now (flags g f) (g.P.Plant.state c.args.plant.now) (g.P.Plant.state c.sync_in_turn.new.plant) (synced g f) (g.P.Plant.state c.put_next_mark.new.plant) (Ok tt) c.in_ok-put_next_mark.ensures.cause
 
 pub returns-clause-failed : goal.returns-clause-failed
 returns-clause-failed g c =

@@ -14,16 +14,16 @@ use Rattle.site_store.specs.declared.store_error.StoreError.TheVariants.{Spent}
 use Rattle.site_store.specs.declared.placement.Placement.TheVariants.{Marked}
 use Rattle.site_store.specs.Causes.{FailByCounts, HasStoreCause}
 use Rattle.site_store.specs.Hits.{pairs_with_next, with_hits}
-use Rattle.site_store.specs.Marking.{MakesMark, behind_next_mark}
-use Rattle.site_store.specs.Records.{IsOfMark, IsOfRecord, behind_mark}
+use Rattle.site_store.specs.Marking.{MakesMark, after_next_mark}
+use Rattle.site_store.specs.Records.{IsOfMark, IsOfRecord, after_mark}
 use Rattle.site_store.specs.Sites.{SiteState}
 use Rattle.site_store.specs.Standing.{Leaves, none_excepted}
 use Rattle.site_store.specs.Placements.{suspension_needs_more, placement_from, placement_of}
 use Rattle.site_store.proofs.ChangeFirst.{fail_first, none_fail}
 use Rattle.site_store.proofs.HitStates.{hits_make_rows}
-use Rattle.site_store.proofs.NextMark.{behind_level, unit_not, unit_ok}
+use Rattle.site_store.proofs.NextMark.{after_level, unit_not, unit_ok}
 use Rattle.site_store.proofs.RecordPuts.{on_ok}
-use Rattle.site_store.proofs.RowEnds.{plain_behind}
+use Rattle.site_store.proofs.RowEnds.{plain_after}
 use Rattle.site_store.proofs.RowRoom.{reads_choice}
 use Rattle.site_store.proofs.SuspensionEnds.{AreFormed, are_formed, mark_does, mark_leaves, mark_suspends, may_put, none_does, none_hit, none_suspends, record_does, record_leaves, record_suspends, spent_does, spent_suspends}
 use Rattle.site_store.proofs.Views.{at_error, ends_there, idle_site, jobs_below, keeps_still, last_placement, logged_view, may_put_there, rows_below, shows_there, told_there}
@@ -138,16 +138,16 @@ returns-then-suspension_needs_more-clause-uncalled g c = λ spent. (idle_site _ 
 unspent : (g : given.Over) (c : After-without_value g) → ¬ IsErrOf c.without_value.result Spent
 unspent g c = subst (λ (r : Result (Unit {0}) StoreError). ¬ IsErrOf r Spent) (sym c.without_value.ensures) (unit_not c.mark_first.result Spent c.mark_first.ensures.unspent)
 
-behind : (g : given.Over) (c : After-without_value g)
-    → OnOk c.without_value.result (c.mark_first.new.self ≡ behind_mark c.args.self.now.mark.ended (rows_with_hits c.args.self.now.level c.args.self.now.time c.mark_first.new.self.failed c.args.self.now.told) c.mark_first.new.self.failed c.args.self.now)
-behind g c =
+after : (g : given.Over) (c : After-without_value g)
+    → OnOk c.without_value.result (c.mark_first.new.self ≡ after_mark c.args.self.now.mark.ended (rows_with_hits c.args.self.now.level c.args.self.now.time c.mark_first.new.self.failed c.args.self.now.told) c.mark_first.new.self.failed c.args.self.now)
+after g c =
     let site = c.args.self.now in
     let k = c.mark_first in
     let failed = k.new.self.failed in
     let there = idle_site _ site c.self.view_is c.requires.ready.idle in
     let made = subst (λ (x : Type 0). x)
-    (λ i. OnOk (sym c.without_value.ensures i) (k.new.self ≡ behind_next_mark (there i).mark.ended (rows_with_hits (there i).level (there i).time failed (there i).told) failed (there i))) (unit_ok _ k.result k.ensures.ok) in
-    on_ok c.without_value.result (λ (is : k.new.self ≡ behind_next_mark site.mark.ended (rows_with_hits site.level site.time failed site.told) failed site). is ∙ behind_level site.mark.ended (rows_with_hits site.level site.time failed site.told) failed site c.requires.ready.level) made
+    (λ i. OnOk (sym c.without_value.ensures i) (k.new.self ≡ after_next_mark (there i).mark.ended (rows_with_hits (there i).level (there i).time failed (there i).told) failed (there i))) (unit_ok _ k.result k.ensures.ok) in
+    on_ok c.without_value.result (λ (is : k.new.self ≡ after_next_mark site.mark.ended (rows_with_hits site.level site.time failed site.told) failed site). is ∙ after_level site.mark.ended (rows_with_hits site.level site.time failed site.told) failed site c.requires.ready.level) made
 
 pub returns-then-eq-clause-ok : goal.returns-then-eq-clause-ok
 returns-then-eq-clause-ok g c =
@@ -159,7 +159,7 @@ returns-then-eq-clause-ok g c =
     let enough = sym (c.suspension_needs_more.ensures ∙ (λ i. suspension_needs_more c.placement_from-placement.result (c.self.view_is i).at.number (c.self.view_is i).mark.number)) ∙ c.if-suspension_needs_more.false in
     let k = c.mark_first in
     let marked = last_placement c.placement_from-placement.result (λ is. let no = (rw is at c.eq.ensures) in let yes = c.if-eq.true in cc (no, yes)) (λ is. let no = (rw is at c.eq.ensures) in let yes = c.if-eq.true in cc (no, yes)) in
-    mark_suspends tells c.args.cut site old hits (formed g f) c.args.plant.now k.new.plant k.new.self c.placement_from-placement.result (placement_is g f) enough c.without_value.result (unspent g (goal.at.returns-then-eq-clause-ok g c).After-without_value) marked (behind g (goal.at.returns-then-eq-clause-ok g c).After-without_value)
+    mark_suspends tells c.args.cut site old hits (formed g f) c.args.plant.now k.new.plant k.new.self c.placement_from-placement.result (placement_is g f) enough c.without_value.result (unspent g (goal.at.returns-then-eq-clause-ok g c).After-without_value) marked (after g (goal.at.returns-then-eq-clause-ok g c).After-without_value)
 
 pub returns-then-eq-clause-leaves : goal.returns-then-eq-clause-leaves
 returns-then-eq-clause-leaves g c =
@@ -185,7 +185,7 @@ returns-then-eq-clause-moments g c =
     let marked = last_placement c.placement_from-placement.result (λ is. let no = (rw is at c.eq.ensures) in let yes = c.if-eq.true in cc (no, yes)) (λ is. let no = (rw is at c.eq.ensures) in let yes = c.if-eq.true in cc (no, yes)) in
     mark_does tells c.args.cut site old hits (formed g f) c.placement_from-placement.result (placement_is g f) marked k.new.self new c.without_value.result
     (subst (λ (x : Type 0). x) (λ i. MakesMark tells (there i).mark.ended (rows_with_hits (there i).level (there i).time k.new.self.failed (there i).told) (there i) k.new.self old new (sym c.without_value.ensures i)) k.ensures.makes)
-    (behind g (goal.at.returns-then-eq-clause-moments g c).After-without_value)
+    (after g (goal.at.returns-then-eq-clause-moments g c).After-without_value)
 
 pub returns-then-eq-clause-others : goal.returns-then-eq-clause-others
 returns-then-eq-clause-others g c =
@@ -273,7 +273,7 @@ returns-clause-ok g c =
     let next_is = logged_view _ site old.journals c.placement_from-placement.result c.args.cut.0 c.form_hits.new.body.items (pairs_with_next (with_hits hits) site.told) made_rows s.told.rows c.take_hits.new.table s.ahead c.put_record.new.journal.at c.self.view_is c.requires.ready.idle
     (c.take_hits.ensures ∙ ap (with_rows s.table) made) (ap (λ (x : SiteState). x.is_ahead) c.self.view_is ∙ c.requires.ready.level) c.in_ok-put_record.ensures.at (items_are g f) in
     record_suspends tells c.args.cut site old hits (formed g f) c.args.plant.now c.put_record.new.plant _ c.placement_from-placement.result (placement_is g f) enough (Ok tt) (λ e. cc e) plain
-    (next_is ∙ plain_behind old.journals c.placement_from-placement.result c.args.cut.0 (pairs_with_next (with_hits hits) site.told) made_rows site plain)
+    (next_is ∙ plain_after old.journals c.placement_from-placement.result c.args.cut.0 (pairs_with_next (with_hits hits) site.told) made_rows site plain)
 
 pub returns-clause-leaves : goal.returns-clause-leaves
 returns-clause-leaves g c =
@@ -314,7 +314,7 @@ returns-clause-moments g c =
     let next_is = logged_view _ site old.journals c.placement_from-placement.result c.args.cut.0 c.form_hits.new.body.items (pairs_with_next (with_hits hits) site.told) made_rows s.told.rows c.take_hits.new.table s.ahead c.put_record.new.journal.at c.self.view_is c.requires.ready.idle
     (c.take_hits.ensures ∙ ap (with_rows s.table) made) (ap (λ (x : SiteState). x.is_ahead) c.self.view_is ∙ c.requires.ready.level) c.in_ok-put_record.ensures.at (items_are g f) in
     record_does tells c.args.cut site old hits (formed g f) c.placement_from-placement.result (placement_is g f) plain enough low new c.put_record.ensures.only (Ok tt) shows _ (ap (λ (x : SiteState). x.failed) c.self.view_is)
-    (next_is ∙ plain_behind old.journals c.placement_from-placement.result c.args.cut.0 (pairs_with_next (with_hits hits) site.told) made_rows site plain)
+    (next_is ∙ plain_after old.journals c.placement_from-placement.result c.args.cut.0 (pairs_with_next (with_hits hits) site.told) made_rows site plain)
 
 pub returns-clause-failed : goal.returns-clause-failed
 returns-clause-failed g c =

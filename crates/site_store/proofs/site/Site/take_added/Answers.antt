@@ -4,7 +4,7 @@ use Rattle.xrc_journal.specs.declared.job.VolumeJob.{VolumeJob}
 use Rattle.site_store.specs.Commands.{added_device, without_flag}
 use Rattle.site_store.specs.Jobs.{has_job_failed}
 use Rattle.site_store.specs.Sites.{SiteState}
-use Rattle.site_store.proofs.CommandRows.{added_below, flags_behind, flags_same, none_there}
+use Rattle.site_store.proofs.CommandRows.{added_below, flags_after, flags_same, none_there}
 use Rattle.site_store.proofs.HomeJobs.{home_set, job_at, map_set}
 use Rattle.site_store.proofs.site.Site.take_added.Goals as goal
 
@@ -43,6 +43,6 @@ returns-in-Some g c =
     let job = c.index_mut.result.now in
     let now : VolumeJob _ = record job { failed = false } in
     let flags : map has_job_failed (set jobs k now) ≡ without_flag 0 c.args.change.now c.args.self.now.failed =
-    map_set jobs k now ∙ ap (λ (n : ℕ). set (map has_job_failed jobs) n false) c.from.ensures ∙ sym (flags_behind c.args.change.now (map has_job_failed jobs) c.in-Some.device (sym c.in-Some.ensures))
+    map_set jobs k now ∙ ap (λ (n : ℕ). set (map has_job_failed jobs) n false) c.from.ensures ∙ sym (flags_after c.args.change.now (map has_job_failed jobs) c.in-Some.device (sym c.in-Some.ensures))
     ∙ ap (λ (s : SiteState). without_flag 0 c.args.change.now s.failed) c.self.view_is in
     λ i. record (c.self.view_is i) { failed = flags i }

@@ -19,10 +19,10 @@ returns-in_err-answered-clause-works g c =
     subst (λ (r : Result LineAnswer Stop). IsWorkOfStore g.P.Plant.tells c.args.site.now c.command.new.site (g.P.Plant.state c.args.plant.now) (g.P.Plant.state c.command.new.plant) r)
     (c.in_err-answered.was ∙ sym (given_on c.from_residual.result stop c.from_residual.ensures)) c.command.ensures.works
 
-pub returns-in_err-answered-clause-behind_end : goal.returns-in_err-answered-clause-behind_end
-returns-in_err-answered-clause-behind_end g c ended =
+pub returns-in_err-answered-clause-after_end : goal.returns-in_err-answered-clause-after_end
+returns-in_err-answered-clause-after_end g c ended =
     let stop = c.in_err-answered.field-0.0 in
-    let left = c.command.ensures.behind_end ended in
+    let left = c.command.ensures.after_end ended in
     (left.0, subst (λ (r : Result LineAnswer Stop). IfErr r (λ s. s ≡ NoMemory)) (c.in_err-answered.was ∙ sym (given_on c.from_residual.result stop c.from_residual.ensures)) left.1)
 
 pub returns-in_err-answered-clause-answers : goal.returns-in_err-answered-clause-answers
@@ -45,8 +45,8 @@ pub returns-then-not-is_end-clause-works : goal.returns-then-not-is_end-clause-w
 returns-then-not-is_end-clause-works g c =
     subst (λ (r : Result LineAnswer Stop). IsWorkOfStore g.P.Plant.tells c.args.site.now c.command.new.site (g.P.Plant.state c.args.plant.now) (g.P.Plant.state c.command.new.plant) r) c.in_ok-answered.was c.command.ensures.works
 
-pub returns-then-not-is_end-clause-behind_end : goal.returns-then-not-is_end-clause-behind_end
-returns-then-not-is_end-clause-behind_end g c ended = ((c.command.ensures.behind_end ended).0, tt)
+pub returns-then-not-is_end-clause-after_end : goal.returns-then-not-is_end-clause-after_end
+returns-then-not-is_end-clause-after_end g c ended = ((c.command.ensures.after_end ended).0, tt)
 
 pub returns-then-not-is_end-clause-answers : goal.returns-then-not-is_end-clause-answers
 returns-then-not-is_end-clause-answers g c told began =
@@ -75,8 +75,8 @@ returns-in_err-mark-clause-works g c =
     (subst (λ (r : Result LineAnswer Stop). IsWorkOfStore g.P.Plant.tells c.args.site.now c.command.new.site old mid r) c.in_ok-answered.was c.command.ensures.works)
     stop (subst (λ (r : Result (Unit {0}) Stop). IsWorkOfStore g.P.Plant.tells c.command.new.site c.mark.new.site mid new r) c.in_err-mark.was c.mark.ensures.works))
 
-pub returns-in_err-mark-clause-behind_end : goal.returns-in_err-mark-clause-behind_end
-returns-in_err-mark-clause-behind_end g c ended =
+pub returns-in_err-mark-clause-after_end : goal.returns-in_err-mark-clause-after_end
+returns-in_err-mark-clause-after_end g c ended =
     absurd (true≢false (sym ended ∙ was_on g.P.Plant.tells c.args.self.now.names c.args.line.now c.in_ok-answered.answered.answer c.args.site.now c.command.new.site (g.P.Plant.state c.command.new.plant) c.in_ok-answered.ensures.site c.requires.flag (sym c.is_end.ensures ∙ c.if-not-is_end.false)))
 
 pub returns-in_err-mark-clause-answers : goal.returns-in_err-mark-clause-answers
@@ -118,8 +118,8 @@ returns-clause-works g c =
     (subst (λ (r : Result LineAnswer Stop). IsWorkOfStore g.P.Plant.tells c.args.site.now c.command.new.site old mid r) c.in_ok-answered.was c.command.ensures.works)
     (subst (λ (r : Result (Unit {0}) Stop). IsWorkOfStore g.P.Plant.tells c.command.new.site c.mark.new.site mid new r) c.in_ok-mark.was c.mark.ensures.works)
 
-pub returns-clause-behind_end : goal.returns-clause-behind_end
-returns-clause-behind_end g c ended =
+pub returns-clause-after_end : goal.returns-clause-after_end
+returns-clause-after_end g c ended =
     absurd (true≢false (sym ended ∙ was_on g.P.Plant.tells c.args.self.now.names c.args.line.now c.in_ok-answered.answered.answer c.args.site.now c.command.new.site (g.P.Plant.state c.command.new.plant) c.in_ok-answered.ensures.site c.requires.flag (sym c.is_end.ensures ∙ c.if-not-is_end.false)))
 
 pub returns-clause-answers : goal.returns-clause-answers

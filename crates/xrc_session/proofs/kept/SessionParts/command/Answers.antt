@@ -28,8 +28,8 @@ returns-in_err-answer-clause-works g c =
     subst (λ (r : Result LineAnswer Stop). IsWorkOfStore g.P.Plant.tells c.args.site.now site plant plant r) (sym (given_on c.from_residual.result stop c.from_residual.ensures))
     (stops_work g.P.Plant.tells c.args.line.now c.args.self.now (record c.args.self.now { before = c.copy.new.self }) c.args.site.now site plant c.requires.may c.requires.flag left.0 refl stop left.1)
 
-pub returns-in_err-answer-clause-behind_end : goal.returns-in_err-answer-clause-behind_end
-returns-in_err-answer-clause-behind_end g c ended =
+pub returns-in_err-answer-clause-after_end : goal.returns-in_err-answer-clause-after_end
+returns-in_err-answer-clause-after_end g c ended =
     let stop = c.in_err-answer.field-0.0 in
     let left = without_memory (c.command-done.new.self ≡ c.args.site.now) c.command-done.result stop (sym c.answer_of.ensures ∙ c.in_err-answer.was) c.command-done.ensures.err in
     (refl, subst (λ (r : Result LineAnswer Stop). IfErr r (λ s. s ≡ NoMemory)) (sym (given_on c.from_residual.result stop c.from_residual.ensures)) (sym left.1))
@@ -82,8 +82,8 @@ returns-in_err-tracks-in-Ok-clause-works g c =
     (changed_work g.P.Plant.tells c.args.self.now.names c.args.line.now c.args.site.now c.command-done.new.self old c.requires.may c.in-Ok.change d.is d.done site new (Err stop)
     (subst (λ (r : Result ℕ Stop). IsWorkOfStore g.P.Plant.tells c.command-done.new.self site old new r) c.in_err-tracks-in-Ok.was c.log.ensures.works)))
 
-pub returns-in_err-tracks-in-Ok-clause-behind_end : goal.returns-in_err-tracks-in-Ok-clause-behind_end
-returns-in_err-tracks-in-Ok-clause-behind_end g c ended =
+pub returns-in_err-tracks-in-Ok-clause-after_end : goal.returns-in_err-tracks-in-Ok-clause-after_end
+returns-in_err-tracks-in-Ok-clause-after_end g c ended =
     let d = was_done c.args.self.now.names c.args.line.now c.args.site.now c.command-done.new.self c.command-done.result c.answer_of.result c.in_ok-answer.answer c.in-Ok.change c.answer_of.ensures c.in_ok-answer.was c.in-Ok.is c.command-done.ensures.ok c.command-done.ensures.answer c.command-done.ensures.to_log in
     let plant = g.P.Plant.state c.args.plant.now in
     let from = done_from g.P.Plant.tells c.args.self.now.names c.args.line.now c.args.site.now c.command-done.new.self plant c.requires.may c.in-Ok.change d.is d.done in
@@ -125,8 +125,8 @@ returns-in_ok-tracks-in-Ok-clause-works g c =
     (changed_work g.P.Plant.tells c.args.self.now.names c.args.line.now c.args.site.now c.command-done.new.self old c.requires.may c.in-Ok.change d.is d.done site new (Ok c.in_ok-tracks-in-Ok.tracks)
     (subst (λ (r : Result ℕ Stop). IsWorkOfStore g.P.Plant.tells c.command-done.new.self site old new r) c.in_ok-tracks-in-Ok.was c.log.ensures.works))
 
-pub returns-in_ok-tracks-in-Ok-clause-behind_end : goal.returns-in_ok-tracks-in-Ok-clause-behind_end
-returns-in_ok-tracks-in-Ok-clause-behind_end g c ended =
+pub returns-in_ok-tracks-in-Ok-clause-after_end : goal.returns-in_ok-tracks-in-Ok-clause-after_end
+returns-in_ok-tracks-in-Ok-clause-after_end g c ended =
     let d = was_done c.args.self.now.names c.args.line.now c.args.site.now c.command-done.new.self c.command-done.result c.answer_of.result c.in_ok-answer.answer c.in-Ok.change c.answer_of.ensures c.in_ok-answer.was c.in-Ok.is c.command-done.ensures.ok c.command-done.ensures.answer c.command-done.ensures.to_log in
     let plant = g.P.Plant.state c.args.plant.now in
     let from = done_from g.P.Plant.tells c.args.self.now.names c.args.line.now c.args.site.now c.command-done.new.self plant c.requires.may c.in-Ok.change d.is d.done in

@@ -11,7 +11,7 @@ use Rattle.xrc_session.specs.Answering.{ControlsCount, LogsCommands, change_resu
 use Rattle.xrc_session.specs.Bringing.{IsWorkOfStore}
 use Rattle.xrc_session.specs.Taking.{IsSoundForRows, MayTake}
 use Rattle.xrc_session.proofs.AnswerCalls.{log_stops, log_untaken, log_works}
-use Rattle.xrc_session.proofs.AnswerChanges.{may_change, may_take_logged, site_behind}
+use Rattle.xrc_session.proofs.AnswerChanges.{may_change, may_take_logged, site_after}
 use Rattle.xrc_session.proofs.AnswerLogging.{logging_stops, taking_ends, taking_stops}
 use Rattle.xrc_session.proofs.AnswerTaken.{keeps_given, none_missing, may_given, taken_over, that_is_there, tracks_of_group, tracks_taken}
 use Rattle.xrc_session.proofs.AnswerWorks.{store_fault}
@@ -62,11 +62,11 @@ take_change-requires-clause-may g c =
     let before = c.args.self.now.before.rows.items in
     let site = c.args.site.now in
     let next = c.log_change.new.self in
-    let behind = site_behind g.P.Plant.tells c.args.self.now.names c.args.line.now c.args.change.now before site next old new c.args.plant.now c.log_change.new.plant h c.in-Ok.ensures.leaves c.in-Ok.ensures.ok c.log_change.ensures.failed c.log_change.ensures.others.site in
+    let after = site_after g.P.Plant.tells c.args.self.now.names c.args.line.now c.args.change.now before site next old new c.args.plant.now c.log_change.new.plant h c.in-Ok.ensures.leaves c.in-Ok.ensures.ok c.log_change.ensures.failed c.log_change.ensures.others.site in
     let kept = that_is_there (λ group. IsSoundForRows group before) c.args.self.now.group c.in-Some.group c.in-Some.is c.requires.kept in
     let live = that_is_there (ControlsCount c.args.self.now.names) c.args.self.now.group c.in-Some.group c.in-Some.is c.requires.live in
-    may_given c.args.change.now c.in-Some.group c.args.self.now.group c.in-Some.is before c.as_slice.result.now c.table.result.now.rows next.told c.as_slice.ensures (ap (λ (t : Table). t.rows) c.table.ensures.table ∙ sym behind.may.idle.same)
-    (subst (λ (rows : List PairRow). MayTake c.in-Some.group c.args.change.now before rows) (sym behind.may.idle.same)
+    may_given c.args.change.now c.in-Some.group c.args.self.now.group c.in-Some.is before c.as_slice.result.now c.table.result.now.rows next.told c.as_slice.ensures (ap (λ (t : Table). t.rows) c.table.ensures.table ∙ sym after.may.idle.same)
+    (subst (λ (rows : List PairRow). MayTake c.in-Some.group c.args.change.now before rows) (sym after.may.idle.same)
     (may_take_logged g.P.Plant.tells c.args.self.now.names c.args.line.now c.args.change.now before site next old new c.args.plant.now c.log_change.new.plant h (subst (λ (rows : List PairRow). none_clash rows ≡ true) h.rows kept.apart) c.in-Some.group live c.in-Ok.ensures.ok c.in-Ok.ensures.leaves))
 
 -- ---- there is no memory for it
@@ -92,31 +92,31 @@ returns-in_err-take_change-clause-answers g c told began =
 
 pub returns-clause-site : goal.returns-clause-site
 returns-clause-site g c =
-    site_behind g.P.Plant.tells c.args.self.now.names c.args.line.now c.args.change.now c.args.self.now.before.rows.items c.args.site.now c.log_change.new.self (g.P.Plant.state c.args.plant.now) (g.P.Plant.state c.log_change.new.plant)
+    site_after g.P.Plant.tells c.args.self.now.names c.args.line.now c.args.change.now c.args.self.now.before.rows.items c.args.site.now c.log_change.new.self (g.P.Plant.state c.args.plant.now) (g.P.Plant.state c.log_change.new.plant)
     c.args.plant.now c.log_change.new.plant c.requires.may c.in-Ok.ensures.leaves c.in-Ok.ensures.ok c.log_change.ensures.failed c.log_change.ensures.others.site
 
 pub returns-clause-kept : goal.returns-clause-kept
 returns-clause-kept g c =
-    let behind = site_behind g.P.Plant.tells c.args.self.now.names c.args.line.now c.args.change.now c.args.self.now.before.rows.items c.args.site.now c.log_change.new.self (g.P.Plant.state c.args.plant.now) (g.P.Plant.state c.log_change.new.plant)
+    let after = site_after g.P.Plant.tells c.args.self.now.names c.args.line.now c.args.change.now c.args.self.now.before.rows.items c.args.site.now c.log_change.new.self (g.P.Plant.state c.args.plant.now) (g.P.Plant.state c.log_change.new.plant)
     c.args.plant.now c.log_change.new.plant c.requires.may c.in-Ok.ensures.leaves c.in-Ok.ensures.ok c.log_change.ensures.failed c.log_change.ensures.others.site in
-    subst (λ (rows : List PairRow). IsSoundForRows c.take_change.new.group rows) (ap (λ (t : Table). t.rows) c.table.ensures.table ∙ sym behind.may.idle.same) c.in_ok-take_change.ensures.kept
+    subst (λ (rows : List PairRow). IsSoundForRows c.take_change.new.group rows) (ap (λ (t : Table). t.rows) c.table.ensures.table ∙ sym after.may.idle.same) c.in_ok-take_change.ensures.kept
 
 pub returns-clause-quiet : goal.returns-clause-quiet
 returns-clause-quiet g c none = (c.in-Ok.ensures.ok.nothing none).1
 
 pub returns-clause-tracks : goal.returns-clause-tracks
 returns-clause-tracks g c =
-    let behind = site_behind g.P.Plant.tells c.args.self.now.names c.args.line.now c.args.change.now c.args.self.now.before.rows.items c.args.site.now c.log_change.new.self (g.P.Plant.state c.args.plant.now) (g.P.Plant.state c.log_change.new.plant)
+    let after = site_after g.P.Plant.tells c.args.self.now.names c.args.line.now c.args.change.now c.args.self.now.before.rows.items c.args.site.now c.log_change.new.self (g.P.Plant.state c.args.plant.now) (g.P.Plant.state c.log_change.new.plant)
     c.args.plant.now c.log_change.new.plant c.requires.may c.in-Ok.ensures.leaves c.in-Ok.ensures.ok c.log_change.ensures.failed c.log_change.ensures.others.site in
     tracks_of_group c.args.change.now c.in-Some.group c.args.self.now.group c.in-Some.is c.args.self.now.before.rows.items c.as_slice.result.now c.table.result.now.rows c.log_change.new.self.told c.as_slice.ensures
-    (ap (λ (t : Table). t.rows) c.table.ensures.table ∙ sym behind.may.idle.same) c.in_ok-take_change.field-0 c.in_ok-take_change.ensures.tracks
+    (ap (λ (t : Table). t.rows) c.table.ensures.table ∙ sym after.may.idle.same) c.in_ok-take_change.field-0 c.in_ok-take_change.ensures.tracks
 
 pub returns-clause-taken : goal.returns-clause-taken
 returns-clause-taken g c =
-    let behind = site_behind g.P.Plant.tells c.args.self.now.names c.args.line.now c.args.change.now c.args.self.now.before.rows.items c.args.site.now c.log_change.new.self (g.P.Plant.state c.args.plant.now) (g.P.Plant.state c.log_change.new.plant)
+    let after = site_after g.P.Plant.tells c.args.self.now.names c.args.line.now c.args.change.now c.args.self.now.before.rows.items c.args.site.now c.log_change.new.self (g.P.Plant.state c.args.plant.now) (g.P.Plant.state c.log_change.new.plant)
     c.args.plant.now c.log_change.new.plant c.requires.may c.in-Ok.ensures.leaves c.in-Ok.ensures.ok c.log_change.ensures.failed c.log_change.ensures.others.site in
     taken_over c.args.change.now c.in-Some.group c.args.self.now.group c.in-Some.is c.args.self.now.before.rows.items c.as_slice.result.now c.table.result.now.rows c.log_change.new.self.told c.as_slice.ensures
-    (ap (λ (t : Table). t.rows) c.table.ensures.table ∙ sym behind.may.idle.same) c.take_change.new.group c.in_ok-take_change.ensures.calls
+    (ap (λ (t : Table). t.rows) c.table.ensures.table ∙ sym after.may.idle.same) c.take_change.new.group c.in_ok-take_change.ensures.calls
 
 pub returns-clause-works : goal.returns-clause-works
 returns-clause-works g c =
@@ -130,10 +130,10 @@ returns-clause-answers g c told began was d run stage asked l first points may c
     let new = g.P.Plant.state c.log_change.new.plant in
     let before = c.args.self.now.before.rows.items in
     let next = c.log_change.new.self in
-    let behind = site_behind g.P.Plant.tells c.args.self.now.names c.args.line.now c.args.change.now c.args.self.now.before.rows.items c.args.site.now c.log_change.new.self (g.P.Plant.state c.args.plant.now) (g.P.Plant.state c.log_change.new.plant)
+    let after = site_after g.P.Plant.tells c.args.self.now.names c.args.line.now c.args.change.now c.args.self.now.before.rows.items c.args.site.now c.log_change.new.self (g.P.Plant.state c.args.plant.now) (g.P.Plant.state c.log_change.new.plant)
     c.args.plant.now c.log_change.new.plant c.requires.may c.in-Ok.ensures.leaves c.in-Ok.ensures.ok c.log_change.ensures.failed c.log_change.ensures.others.site in
-    let rows_are = ap (λ (t : Table). t.rows) c.table.ensures.table ∙ sym behind.may.idle.same in
-    let some : (c : Choice) × IsChoice new new.clock c = (new.bytes, reads_choice new behind.may.idle.may.fast.fits.home (λ x there. g.met.P.Plant.read_is_image c.log_change.new.plant x told there)) in
+    let rows_are = ap (λ (t : Table). t.rows) c.table.ensures.table ∙ sym after.may.idle.same in
+    let some : (c : Choice) × IsChoice new new.clock c = (new.bytes, reads_choice new after.may.idle.may.fast.fits.home (λ x there. g.met.P.Plant.read_is_image c.log_change.new.plant x told there)) in
     taking_ends g.P.Plant.tells told c.args.self.now.names c.args.line.now c.args.change.now before c.args.site.now next (g.P.Plant.state began) old new c.requires.may c.log_change.ensures.failed
     (λ d. c.log_change.ensures.others.faults (Volume d)) c.log_change.ensures.volumes c.args.plant.now c.log_change.new.plant c.in-Ok.ensures.ok c.in-Ok.ensures.moments c.in-Ok.ensures.leaves (λ same. ap g.P.Plant.state same)
     c.in-Some.group c.args.self.now.group c.in-Some.is c.requires.kept c.requires.live run stage asked l first points was d may cover some (Some c.take_change.new.group) c.in_ok-take_change.field-0

@@ -14,11 +14,11 @@ use Rattle.pair_table.specs.Tables.{Table}
 use Rattle.xrc_status.specs.declared.stop.Stop.{Stop}
 use Rattle.xrc_status.specs.declared.stop.Stop.TheVariants as stops
 use Rattle.xrc_session.specs.declared.answering.LineAnswer.{LineAnswer}
-use Rattle.xrc_session.specs.Answering.{answer_told}
+use Rattle.xrc_session.specs.Answering.{answer_said}
 use Rattle.xrc_session.specs.Frames.{SuspendsByCounts}
 use Rattle.xrc_session.specs.Lines.{IsSameSession, IsStartAnswered, IsStartedAt}
 use Rattle.xrc_session.specs.Replying.{level_in}
-use Rattle.xrc_session.specs.Starting.{BeginsByLine, FormatsFirst, IsSafeThroughout, IsWorkOfStart, MeansStart, StandsBehindStart, level_started}
+use Rattle.xrc_session.specs.Starting.{BeginsByLine, FormatsFirst, IsSafeThroughout, IsWorkOfStart, MeansStart, StandsAfterStart, level_started}
 use Rattle.xrc_session.specs.States.{SessionState, site_in, table_in}
 use Rattle.xrc_session.specs.Steps.{DoesLine}
 use Rattle.xrc_session.proofs.InTurn.{suspends_same, went_here}
@@ -94,15 +94,15 @@ table_is g c = sym (ap table_in c.in-Unstarted.is) ∙ ap (λ (x : SessionState)
 refused : (g : given.Over) (c : After-started_level g) → (why : Refusal) → c.command-done.result ≡ Err (errors.Refused why) → refusal c.self.inside.kept.names c.in-Unstarted.table c.args.line.now.session c.args.line.now.command ≡ Some why
 refused g c why is = (c.command-done.ensures.refused why).0 is
 
-same : (g : given.Over) (c : After-started_level g) → answer_told c.command-done.result ≡ Ok c.in_ok-answer.answer
+same : (g : given.Over) (c : After-started_level g) → answer_said c.command-done.result ≡ Ok c.in_ok-answer.answer
 same g c = sym c.answer_of.ensures ∙ c.in_ok-answer.was
 
 told : (g : given.Over) (c : After-started_level g) → c.in_ok-answer.answer ≡ answer c.self.inside.kept.names c.args.self.now.table c.args.line.now.session c.args.line.now.command
 told g c = answer_is c.self.inside.kept.names c.args.self.now c.in-Unstarted.table c.command-done.new.self c.args.line.now c.command-done.result c.in_ok-answer.answer (table_is g c) c.command-done.ensures.change (refused g c) (same g c)
 
--- the table behind it
-behind : (g : given.Over) (c : After-started_level g) → c.command-done.new.self ≡ table_after c.self.inside.kept.names c.args.self.now.table c.args.line.now.session c.args.line.now.command c.args.line.now.time.0
-behind g c = table_now c.self.inside.kept.names c.args.self.now c.in-Unstarted.table c.command-done.new.self c.args.line.now c.command-done.result c.in_ok-answer.answer (table_is g c) c.command-done.ensures.change (refused g c) (same g c) c.command-done.ensures.ok c.command-done.ensures.err
+-- the table after it
+after : (g : given.Over) (c : After-started_level g) → c.command-done.new.self ≡ table_after c.self.inside.kept.names c.args.self.now.table c.args.line.now.session c.args.line.now.command c.args.line.now.time.0
+after g c = table_now c.self.inside.kept.names c.args.self.now c.in-Unstarted.table c.command-done.new.self c.args.line.now c.command-done.result c.in_ok-answer.answer (table_is g c) c.command-done.ensures.change (refused g c) (same g c) c.command-done.ensures.ok c.command-done.ensures.err
 
 -- ---- the line starts nothing
 
@@ -111,7 +111,7 @@ abbrev now : (g : given.Over) (c : After-started_level g) → SessionState
 now g c = record { session = c.self.inside.session; controls = c.self.inside.controls; names = c.self.inside.kept.names; group = c.self.inside.kept.group; table = c.command-done.new.self; site = None; is_ended = c.self.inside.ended }
 
 now_is : (g : given.Over) (c : After-started_level g) → now g c ≡ record c.args.self.now { table = table_after c.self.inside.kept.names c.args.self.now.table c.args.line.now.session c.args.line.now.command c.args.line.now.time.0 }
-now_is g c = kept_but_table _ c.args.self.now c.command-done.new.self c.self.view_is c.requires.unstarted ∙ ap (λ (t : Table). record c.args.self.now { table = t }) (behind g c)
+now_is g c = kept_but_table _ c.args.self.now c.command-done.new.self c.self.view_is c.requires.unstarted ∙ ap (λ (t : Table). record c.args.self.now { table = t }) (after g c)
 
 none : (g : given.Over) (c : In_default-started_level g) → (answered : LineAnswer) → answered.answer ≡ c.in_ok-answer.answer → level_in answered.answer c.args.line.now.command ≡ None
 none g c answered is = ap (λ (r : Result Change Refusal). level_in r c.args.line.now.command) is ∙ sym c.started_level.ensures ∙ c.in_default-started_level.is
@@ -149,7 +149,7 @@ returns-in_default-started_level-clause-means g c tells =
     let f = at.After-started_level in
     let d = at.In_default-started_level in
     let old = g.P.Plant.state c.args.plant.now in
-    subst (λ (o : Option Level). IfSome o (λ level. StandsBehindStart c.args.self.now.session level c.args.line.now.time.0 old old)) (sym (none_starts g.P.Plant.tells g.S.Source.left c.args.self.now c.args.traces.now (g.P.Plant.state c.args.plant.now) c.requires.between c.requires.unstarted c.args.line.now c.self.inside.kept.names c.plain.result (c.plain.ensures.0 ∙ told g f) (none g d c.plain.result c.plain.ensures.0) (now g f) (now_is g f))) tt
+    subst (λ (o : Option Level). IfSome o (λ level. StandsAfterStart c.args.self.now.session level c.args.line.now.time.0 old old)) (sym (none_starts g.P.Plant.tells g.S.Source.left c.args.self.now c.args.traces.now (g.P.Plant.state c.args.plant.now) c.requires.between c.requires.unstarted c.args.line.now c.self.inside.kept.names c.plain.result (c.plain.ensures.0 ∙ told g f) (none g d c.plain.result c.plain.ensures.0) (now g f) (now_is g f))) tt
 
 pub returns-in_default-started_level-clause-starts : goal.returns-in_default-started_level-clause-starts
 returns-in_default-started_level-clause-starts g c =
@@ -284,7 +284,7 @@ returns-clause-means g c tells =
     let at = goal.at.returns-clause-means g c in
     let old = g.P.Plant.state c.args.plant.now in
     let new = g.P.Plant.state c.start.new.plant in
-    subst (λ (o : Option Level). IfSome o (λ l. StandsBehindStart c.args.self.now.session l c.args.line.now.time.0 old new)) (sym (level g at.In-Some (told g at.After-started_level)))
+    subst (λ (o : Option Level). IfSome o (λ l. StandsAfterStart c.args.self.now.session l c.args.line.now.time.0 old new)) (sym (level g at.In-Some (told g at.After-started_level)))
     (record {
       means = (means_begun g.P.Plant.tells c.args.self.now c.start.new.self c.start.new.traces c.in-Some.level c.args.line.now.time.0 (g.P.Plant.state c.args.plant.now) (g.P.Plant.state c.start.new.plant) c.in_ok-start.ensures.between (started g at.In_ok-start) tells c.start.ensures.works.site);
       formats = λ up durable.

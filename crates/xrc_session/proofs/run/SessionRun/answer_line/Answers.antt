@@ -33,8 +33,8 @@ answer_from_start-requires-clause-time g c κs within = c.requires.time
 pub returns-in-Unstarted-clause-done : goal.returns-in-Unstarted-clause-done
 returns-in-Unstarted-clause-done g c = c.answer_before_start.ensures.done
 
-pub returns-in-Unstarted-clause-behind_end : goal.returns-in-Unstarted-clause-behind_end
-returns-in-Unstarted-clause-behind_end g c ended =
+pub returns-in-Unstarted-clause-after_end : goal.returns-in-Unstarted-clause-after_end
+returns-in-Unstarted-clause-after_end g c ended =
     let none = unstarted_at c.self.inside.session c.self.inside.controls c.self.inside.kept c.self.inside.place c.self.inside.ended c.args.self.now c.in-Unstarted.field-0 c.in-Unstarted.is c.self.view_is in
     absurd (unstarted_goes_on g.P.Plant.tells c.args.self.now c.args.traces.now (g.P.Plant.state c.args.plant.now) c.requires.between none ended)
 
@@ -80,8 +80,8 @@ returns-in-Unstarted-clause-does g c = c.answer_before_start.ensures.does
 pub returns-in-Started-clause-done : goal.returns-in-Started-clause-done
 returns-in-Started-clause-done g c = c.answer_from_start.ensures.done
 
-pub returns-in-Started-clause-behind_end : goal.returns-in-Started-clause-behind_end
-returns-in-Started-clause-behind_end g c = c.answer_from_start.ensures.behind_end
+pub returns-in-Started-clause-after_end : goal.returns-in-Started-clause-after_end
+returns-in-Started-clause-after_end g c = c.answer_from_start.ensures.after_end
 
 pub returns-in-Started-clause-keeps : goal.returns-in-Started-clause-keeps
 returns-in-Started-clause-keeps g c = c.answer_from_start.ensures.keeps

@@ -20,8 +20,8 @@ mark-requires-clause-told g c κs within =
 
 -- ---- a mark
 
-pub returns-clause-behind_end : goal.returns-clause-behind_end
-returns-clause-behind_end g c ended =
+pub returns-clause-after_end : goal.returns-clause-after_end
+returns-clause-after_end g c ended =
     let same = session_at c.self.inside.session c.self.inside.controls c.self.inside.kept c.self.inside.place c.self.inside.ended c.args.self c.in-Started.site c.in-Started.is c.self.view_is in
     absurd (true≢false (sym ended ∙ ap (λ (s : SessionState). s.is_ended) (sym same) ∙ c.if-ended.false))
 
@@ -54,8 +54,8 @@ returns-clause-counts g c = c.mark.ensures.works.counts
 
 -- ---- nothing to do
 
-pub returns-in_default-clause-behind_end : goal.returns-in_default-clause-behind_end
-returns-in_default-clause-behind_end g c ended = (refl, refl)
+pub returns-in_default-clause-after_end : goal.returns-in_default-clause-after_end
+returns-in_default-clause-after_end g c ended = (refl, refl)
 
 pub returns-in_default-clause-keeps : goal.returns-in_default-clause-keeps
 returns-in_default-clause-keeps g c = still_keeps g.P.Plant.tells c.args.self (g.P.Plant.state c.args.plant.now) c.requires.may
@@ -78,8 +78,8 @@ returns-in_default-clause-unsaid g c is = cc
 pub returns-in_default-clause-counts : goal.returns-in_default-clause-counts
 returns-in_default-clause-counts g c = still_counts g.P.Plant.tells c.args.self (g.P.Plant.state c.args.plant.now) c.requires.may
 
-pub returns-then-ended-clause-behind_end : goal.returns-then-ended-clause-behind_end
-returns-then-ended-clause-behind_end g c ended = (refl, refl)
+pub returns-then-ended-clause-after_end : goal.returns-then-ended-clause-after_end
+returns-then-ended-clause-after_end g c ended = (refl, refl)
 
 pub returns-then-ended-clause-keeps : goal.returns-then-ended-clause-keeps
 returns-then-ended-clause-keeps g c = still_keeps g.P.Plant.tells c.args.self (g.P.Plant.state c.args.plant.now) c.requires.may

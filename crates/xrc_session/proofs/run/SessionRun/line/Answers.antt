@@ -44,7 +44,7 @@ pub returns-in_err-answered-clause-hits : goal.returns-in_err-answered-clause-hi
 returns-in_err-answered-clause-hits g c = on_none _ c.from_residual.result c.in_err-answered.field-0.0 (given_on c.from_residual.result c.in_err-answered.field-0.0 c.from_residual.ensures)
 
 pub returns-in_err-answered-clause-answers : goal.returns-in_err-answered-clause-answers
-returns-in_err-answered-clause-answers g c told began = answers_stopped g.P.Plant.tells g.S.Source.left _ c.args.self.now c.answer_line.new.self c.args.traces.now c.answer_line.new.traces (g.P.Plant.state began) (g.P.Plant.state c.args.plant.now) (g.P.Plant.state c.answer_line.new.plant) c.requires.between (λ ended. ap g.P.Plant.state (c.in_err-answered.ensures.behind_end ended).0) c.in_err-answered.field-0.0 (λ ended. (c.in_err-answered.ensures.behind_end ended).1) c.from_residual.result (given_on c.from_residual.result c.in_err-answered.field-0.0 c.from_residual.ensures) (c.in_err-answered.ensures.does told began)
+returns-in_err-answered-clause-answers g c told began = answers_stopped g.P.Plant.tells g.S.Source.left _ c.args.self.now c.answer_line.new.self c.args.traces.now c.answer_line.new.traces (g.P.Plant.state began) (g.P.Plant.state c.args.plant.now) (g.P.Plant.state c.answer_line.new.plant) c.requires.between (λ ended. ap g.P.Plant.state (c.in_err-answered.ensures.after_end ended).0) c.in_err-answered.field-0.0 (λ ended. (c.in_err-answered.ensures.after_end ended).1) c.from_residual.result (given_on c.from_residual.result c.in_err-answered.field-0.0 c.from_residual.ensures) (c.in_err-answered.ensures.does told began)
 
 pub returns-in_err-answered-clause-begins : goal.returns-in_err-answered-clause-begins
 returns-in_err-answered-clause-begins g c = c.in_err-answered.ensures.begins
@@ -91,7 +91,7 @@ pub returns-in_err-compose-clause-hits : goal.returns-in_err-compose-clause-hits
 returns-in_err-compose-clause-hits g c = on_none _ c.from_residual-in_err-compose.result NoMemory (given_on c.from_residual-in_err-compose.result NoMemory c.from_residual-in_err-compose.ensures)
 
 pub returns-in_err-compose-clause-answers : goal.returns-in_err-compose-clause-answers
-returns-in_err-compose-clause-answers g c told began = answers_unsaid g.P.Plant.tells g.S.Source.left _ c.args.self.now c.answer_line.new.self _ c.self.view_is c.args.traces.now c.answer_line.new.traces (g.P.Plant.state began) (g.P.Plant.state c.args.plant.now) (g.P.Plant.state c.answer_line.new.plant) c.requires.between (λ ended. ap g.P.Plant.state (c.in_ok-answered.ensures.behind_end ended).0) c.in_ok-answered.answered c.from_residual-in_err-compose.result (given_on c.from_residual-in_err-compose.result NoMemory c.from_residual-in_err-compose.ensures) (c.in_ok-answered.ensures.does told began)
+returns-in_err-compose-clause-answers g c told began = answers_unsaid g.P.Plant.tells g.S.Source.left _ c.args.self.now c.answer_line.new.self _ c.self.view_is c.args.traces.now c.answer_line.new.traces (g.P.Plant.state began) (g.P.Plant.state c.args.plant.now) (g.P.Plant.state c.answer_line.new.plant) c.requires.between (λ ended. ap g.P.Plant.state (c.in_ok-answered.ensures.after_end ended).0) c.in_ok-answered.answered c.from_residual-in_err-compose.result (given_on c.from_residual-in_err-compose.result NoMemory c.from_residual-in_err-compose.ensures) (c.in_ok-answered.ensures.does told began)
 
 pub returns-in_err-compose-clause-begins : goal.returns-in_err-compose-clause-begins
 returns-in_err-compose-clause-begins g c = c.in_ok-answered.ensures.begins
@@ -138,7 +138,7 @@ pub returns-in-Ok-clause-hits : goal.returns-in-Ok-clause-hits
 returns-in-Ok-clause-hits g c = reply_hits g.P.Plant.tells g.S.Source.left c.args.self.now c.answer_line.new.self _ c.self.view_is c.args.traces.now c.answer_line.new.traces c.args.line.now c.in_ok-answered.answered (g.P.Plant.state c.args.plant.now) (g.P.Plant.state c.answer_line.new.plant) c.in_ok-answered.ensures.done c.in_ok-answered.ensures.keeps c.in_ok-answered.ensures.silent c.in_ok-answered.ensures.counts c.as_bytes.result.now (c.as_bytes.ensures ∙ c.in_ok-compose.ensures) (g.P.Plant.state c.say_text.new.plant) c.say_text.result c.say_text.ensures c.in_ok-answered.ensures.hits
 
 pub returns-in-Ok-clause-answers : goal.returns-in-Ok-clause-answers
-returns-in-Ok-clause-answers g c told began = whole_answers g.P.Plant.tells g.S.Source.left c.args.self.now c.answer_line.new.self _ c.self.view_is c.args.traces.now c.answer_line.new.traces c.args.line.now c.in_ok-answered.answered (g.P.Plant.state c.args.plant.now) (g.P.Plant.state c.answer_line.new.plant) c.in_ok-answered.ensures.done c.in_ok-answered.ensures.keeps c.in_ok-answered.ensures.silent c.in_ok-answered.ensures.counts c.as_bytes.result.now (c.as_bytes.ensures ∙ c.in_ok-compose.ensures) (g.P.Plant.state c.say_text.new.plant) c.say_text.result c.say_text.ensures told (g.P.Plant.state began) c.in_ok-answered.ensures.went.many c.requires.between (λ ended. ap g.P.Plant.state (c.in_ok-answered.ensures.behind_end ended).0) (c.in_ok-answered.ensures.does told began) (c.in-Ok.ensures.whole told)
+returns-in-Ok-clause-answers g c told began = whole_answers g.P.Plant.tells g.S.Source.left c.args.self.now c.answer_line.new.self _ c.self.view_is c.args.traces.now c.answer_line.new.traces c.args.line.now c.in_ok-answered.answered (g.P.Plant.state c.args.plant.now) (g.P.Plant.state c.answer_line.new.plant) c.in_ok-answered.ensures.done c.in_ok-answered.ensures.keeps c.in_ok-answered.ensures.silent c.in_ok-answered.ensures.counts c.as_bytes.result.now (c.as_bytes.ensures ∙ c.in_ok-compose.ensures) (g.P.Plant.state c.say_text.new.plant) c.say_text.result c.say_text.ensures told (g.P.Plant.state began) c.in_ok-answered.ensures.went.many c.requires.between (λ ended. ap g.P.Plant.state (c.in_ok-answered.ensures.after_end ended).0) (c.in_ok-answered.ensures.does told began) (c.in-Ok.ensures.whole told)
 
 pub returns-in-Ok-clause-begins : goal.returns-in-Ok-clause-begins
 returns-in-Ok-clause-begins g c told none = reply_begins g.P.Plant.tells g.S.Source.left c.args.self.now c.answer_line.new.self _ c.self.view_is c.args.traces.now c.answer_line.new.traces c.args.line.now c.in_ok-answered.answered (g.P.Plant.state c.args.plant.now) (g.P.Plant.state c.answer_line.new.plant) c.in_ok-answered.ensures.done c.in_ok-answered.ensures.keeps c.in_ok-answered.ensures.silent c.in_ok-answered.ensures.counts c.as_bytes.result.now (c.as_bytes.ensures ∙ c.in_ok-compose.ensures) (g.P.Plant.state c.say_text.new.plant) c.say_text.result c.say_text.ensures told (c.in_ok-answered.ensures.begins told none) (c.in_ok-answered.ensures.means told none)
@@ -185,7 +185,7 @@ pub returns-clause-hits : goal.returns-clause-hits
 returns-clause-hits g c = tt
 
 pub returns-clause-answers : goal.returns-clause-answers
-returns-clause-answers g c told began = part_answers g.P.Plant.tells g.S.Source.left c.args.self.now c.answer_line.new.self _ c.self.view_is c.args.traces.now c.answer_line.new.traces c.args.line.now c.in_ok-answered.answered (g.P.Plant.state c.args.plant.now) (g.P.Plant.state c.answer_line.new.plant) c.in_ok-answered.ensures.done c.in_ok-answered.ensures.keeps c.in_ok-answered.ensures.silent c.in_ok-answered.ensures.counts c.as_bytes.result.now (c.as_bytes.ensures ∙ c.in_ok-compose.ensures) (g.P.Plant.state c.say_text.new.plant) c.say_text.result c.say_text.ensures told (g.P.Plant.state began) c.in_ok-answered.ensures.went.many c.requires.between (λ ended. ap g.P.Plant.state (c.in_ok-answered.ensures.behind_end ended).0) (c.in_ok-answered.ensures.does told began)
+returns-clause-answers g c told began = part_answers g.P.Plant.tells g.S.Source.left c.args.self.now c.answer_line.new.self _ c.self.view_is c.args.traces.now c.answer_line.new.traces c.args.line.now c.in_ok-answered.answered (g.P.Plant.state c.args.plant.now) (g.P.Plant.state c.answer_line.new.plant) c.in_ok-answered.ensures.done c.in_ok-answered.ensures.keeps c.in_ok-answered.ensures.silent c.in_ok-answered.ensures.counts c.as_bytes.result.now (c.as_bytes.ensures ∙ c.in_ok-compose.ensures) (g.P.Plant.state c.say_text.new.plant) c.say_text.result c.say_text.ensures told (g.P.Plant.state began) c.in_ok-answered.ensures.went.many c.requires.between (λ ended. ap g.P.Plant.state (c.in_ok-answered.ensures.after_end ended).0) (c.in_ok-answered.ensures.does told began)
 
 pub returns-clause-begins : goal.returns-clause-begins
 returns-clause-begins g c told none = reply_begins g.P.Plant.tells g.S.Source.left c.args.self.now c.answer_line.new.self _ c.self.view_is c.args.traces.now c.answer_line.new.traces c.args.line.now c.in_ok-answered.answered (g.P.Plant.state c.args.plant.now) (g.P.Plant.state c.answer_line.new.plant) c.in_ok-answered.ensures.done c.in_ok-answered.ensures.keeps c.in_ok-answered.ensures.silent c.in_ok-answered.ensures.counts c.as_bytes.result.now (c.as_bytes.ensures ∙ c.in_ok-compose.ensures) (g.P.Plant.state c.say_text.new.plant) c.say_text.result c.say_text.ensures told (c.in_ok-answered.ensures.begins told none) (c.in_ok-answered.ensures.means told none)
