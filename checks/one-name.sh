@@ -1,7 +1,7 @@
 #!/bin/sh
 # Looks for names of definitions that stand in two crates: a `pub` item of a crate's specs/*.antt, with its fields and constructors
 # left out of account. A crate that passes on what another one defines (`pub use`) defines nothing. Prints each such name with its
-# places, and ends with status 1 if there is one that isn't known to clash.
+# places, and ends with status 1 if there is one.
 set -eu
 cd "$(dirname "$0")/.."
 exec python3 - <<'PYTHON'
@@ -23,12 +23,6 @@ def definitions(file):
                 yield item[1], line
 
 
-# Names that clash and are still to be changed, each with the next change of its crate: a change of a low crate proves all above it anew.
-TO_BE_CHANGED = {
-    "AreDrawn", "AreDurable", "AreLinked", "GoesForth", "HasRoom", "IsLast", "IsNext", "IsOfControl", "IsOfMark", "IsTold", "track_in",
-}
-
-
 def main():
     places = {}
     for file in sorted(glob.glob("crates/*/specs/**/*.antt", recursive=True)):
@@ -38,10 +32,9 @@ def main():
     offenders = {name: crates for name, crates in sorted(places.items()) if len(crates) > 1}
     for name, crates in offenders.items():
         print(f"{name}: {' '.join(place for its in crates.values() for place in its)}")
-    new = offenders.keys() - TO_BE_CHANGED
-    if new:
-        print(f"one-name: {len(new)} more names stand in two crates or more: {' '.join(sorted(new))}", file=sys.stderr)
-    return 1 if new else 0
+    if offenders:
+        print(f"one-name: {len(offenders)} names stand in two crates or more: {' '.join(offenders)}", file=sys.stderr)
+    return 1 if offenders else 0
 
 
 sys.exit(main())

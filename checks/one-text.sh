@@ -1,7 +1,7 @@
 #!/bin/sh
 # Looks for definitions that differ in nothing but their names: two `pub` definitions of crates/*/specs, or two exported functions, with one text
 # once their own names and those of their parameters are left out of account. Two names for one idea are read as two ideas. Prints each such group
-# with its places, and ends with status 1 if there is one that isn't known.
+# with its places, and ends with status 1 if there is one.
 #
 # A constructor's text is its type's, and a law's body is empty: neither counts. Nor do crates of tests.
 set -eu
@@ -16,15 +16,6 @@ TESTS = re.compile(r"^(?:.*_tests|test_fixtures|scenarios)$")
 ITEM = re.compile(r"^(?:[a-z]+ )*pub (?:(?:abbrev|unfoldable|record|data|open) )*([^\s():]+)")
 FUNCTION = re.compile(r"^ *pub (?:const )?fn (\w+)")
 WORD = re.compile(r"[^\W\d][\w'-]*|\d+|\S")
-
-# Names that are still to become one, each with the next change of its crates: a change of a low crate proves all above it anew.
-TO_BE_CHANGED = [
-    {"IsExamined", "IsStore"},
-    {"command_part", "command_word"},
-    {"has_job_failed", "is_left_alone"},
-    {"u64_at", "u64_in"},
-]
-
 
 def renamed(text, names):
     """Returns the words of a text, with each of these names by its number."""
@@ -105,7 +96,7 @@ def main():
         if len(found) < 2:
             continue
         names = {name for name, _ in found}
-        new += names not in TO_BE_CHANGED
+        new += 1
         print(f"{' '.join(sorted(names))}: {' '.join(place for _, place in found)}")
     if new:
         print(f"one-text: {new} texts have more than one definition", file=sys.stderr)

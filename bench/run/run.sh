@@ -204,7 +204,7 @@ plain() {
     done
 }
 
-ours() { "$xrc" run ABC "$controls" script replies; }
+ours() { "$xrc" run ABC "$controls" <script >replies; }
 
 # All was said and all pairs were duplex at each query, and the volumes hold what was copied or written last.
 check() {

@@ -39,7 +39,7 @@ echo "The program is killed after the reply to XADDPAIR, while it waits for the 
 new_devices 1 1
 front >trace.0
 mkfifo console
-"$program" run ABC 1 console replies &
+"$program" run ABC 1 <console >replies &
 running=$!
 exec 3>console
 head -n 2 script >&3
@@ -60,7 +60,7 @@ rm -f trace.0
 mkfifo trace.0
 (front; exec sleep 600) >trace.0 &
 writing=$!
-"$program" run ABC 1 script replies &
+"$program" run ABC 1 <script >replies &
 running=$!
 wait_until "no write came to the slot of track 3" is_written
 crash

@@ -35,7 +35,7 @@ copy() {
     check_said labelled wanted_label
     [ "$(volume_bytes 0 0 14)" = 58564f4c53454330303100000001 ] || fail "the label is another"
     status=0
-    "$program" run ABC 1 script replies || status=$?
+    "$program" run ABC 1 <script >replies || status=$?
     echo "xrc run ABC 1 says:"
     check_said replies wanted
     [ "$status" -eq 0 ] || fail "the status is $status and not 0"

@@ -27,7 +27,7 @@ echo "A session waits for its next line. Beside it, in the same folder:"
 new_devices 1 1
 bytes '58 54 52 31 00 01 50 52 49 4D 30 31 00 01 00 00 00 00 01 00 00 00 00 00 00 00 90' >trace.0
 mkfifo console
-"$program" run ABC 1 console replies &
+"$program" run ABC 1 <console >replies &
 running=$!
 exec 3>console
 printf '0000000000000050 XSTART ABC\n' >&3
@@ -58,7 +58,7 @@ echo
 
 echo "A session that is killed leaves no lock:"
 mkfifo console
-"$program" run ABC 1 console replies &
+"$program" run ABC 1 <console >replies &
 running=$!
 exec 3>console
 printf '0000000000000050 XSTART ABC\n' >&3

@@ -91,7 +91,7 @@ new_devices 2 3
 mkfifo trace.1
 (front; exec sleep 600) >trace.1 &
 writing=$!
-"$program" run ABC 2 script replies &
+"$program" run ABC 2 <script >replies &
 running=$!
 wait_until "no write of 235 came to the secondary" is_updated
 crash

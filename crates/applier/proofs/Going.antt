@@ -10,7 +10,7 @@ use Rattle.xrc_journal.specs.Items.{Item, Earlier, none_earlier, anywhere, earli
 use Rattle.xrc_journal.specs.Views.{told, first_told}
 use Rattle.xrc_journal.proofs.ItemsAgain.{some_bytes}
 use Rattle.xrc_journal.specs.Contents.{HasItem}
-use Rattle.applier.specs.Writes.{IsTold}
+use Rattle.applier.specs.Writes.{IsItemTold}
 use Rattle.applier.proofs.InSlots.{has_after, has_first}
 
 -- how far the items of a body were gone over
@@ -79,7 +79,7 @@ module _ (items : List Item) (bytes : List ℕ) (at : ℕ) (r : Reading items by
   }
 
   -- the item as its bytes tell it
-  pub next_told : (item : BodyItem) (size : ℕ) (n : Next item size) → IsTold item (slice_range bytes at (at + size)) n.i
+  pub next_told : (item : BodyItem) (size : ℕ) (n : Next item size) → IsItemTold item (slice_range bytes at (at + size)) n.i
   next_told item size n = record { earlier = r.earlier; keeps = n.is; told_is = n.told_is; spelled = n.spelled }
 
   -- It is one of the items.

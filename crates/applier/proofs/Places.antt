@@ -19,14 +19,14 @@ use Rattle.applier.specs.Disks.{AreRising, OnDisks}
 use Rattle.applier.specs.Jobs.{HasSlots}
 use Rattle.applier.specs.Sides.{AppliesToJob, HasItsSlots, HoldsOfEach}
 use Rattle.applier.specs.Slots.{DiffersInSlots}
-use Rattle.applier.specs.Writes.{written_by, EndsAs, HasRoom, IsTold, Writes, WritesInTurn, WritesOn, WritesToJob}
+use Rattle.applier.specs.Writes.{written_by, EndsAs, HasSlotRoom, IsItemTold, Writes, WritesInTurn, WritesOn, WritesToJob}
 use Rattle.applier.proofs.Going.{Reading}
 use Rattle.applier.proofs.InSlots.{differs_here}
 use Rattle.applier.proofs.InTurn.{in_turn_more, in_turn_none}
 use Rattle.applier.proofs.Volumes.{applies_in_turn}
 
 -- What is told of an item of a device's track is an image of this track.
-pub told_of : (item : BodyItem) (bytes : List ℕ) (i : Item) (device x : ℕ) → IsTold item bytes i → HasItem device x (i ∷ []) → item ≡ ImageTold device x
+pub told_of : (item : BodyItem) (bytes : List ℕ) (i : Item) (device x : ℕ) → IsItemTold item bytes i → HasItem device x (i ∷ []) → item ≡ ImageTold device x
 told_of item bytes i device x t has = go i t.keeps t.told_is has
   where
     go : (i : Item) → is_item anywhere t.earlier i ≡ true → item ≡ told i → HasItem device x (i ∷ []) → item ≡ ImageTold device x
@@ -41,7 +41,7 @@ told_of item bytes i device x t has = go i t.keeps t.told_is has
     go (Gone d) keeps e own = absurd cc
 
 -- An image of the device is an item of its track.
-pub told_own : (device x : ℕ) (bytes : List ℕ) (i : Item) → IsTold (ImageTold device x) bytes i → HasItem device x (i ∷ [])
+pub told_own : (device x : ℕ) (bytes : List ℕ) (i : Item) → IsItemTold (ImageTold device x) bytes i → HasItem device x (i ∷ [])
 told_own device x bytes i t = go i t.keeps t.told_is
   where
     go : (i : Item) → is_item anywhere t.earlier i ≡ true → ImageTold device x ≡ told i → HasItem device x (i ∷ [])
@@ -98,7 +98,7 @@ module _ {D : Type 0} (state : D → Standing) (tells : Type 0) where
     writes = λ same. subst (λ (o : Option D). OnDisks (WritesOn state tells job.device i failed) o (Some new)) (sym is) (record { result = result; failed_by = failed_by; writes = writes });
   }
 
-  module _ (item : BodyItem) (bytes : List ℕ) (i : Item) (t : IsTold item bytes i) (jobs : List (VolumeJob D)) where
+  module _ (item : BodyItem) (bytes : List ℕ) (i : Item) (t : IsItemTold item bytes i) (jobs : List (VolumeJob D)) where
     -- The item is of none of the jobs' devices.
     pub all_stay : ((k : ℕ) (d : VolumeJob D) (x : ℕ) → k < length jobs → item ≢ ImageTold (get_or jobs k d).device x) → HoldsOfEach (WritesToJob state tells i) jobs jobs
     all_stay none = record { same = refl; each = λ k d less. job_stays i (get_or jobs k d) (λ x has. none k d x less (told_of item bytes i (get_or jobs k d).device x t has)) }
@@ -126,13 +126,13 @@ module _ {D : Type 0} (state : D → Standing) (tells : Type 0) where
 
 -- ---- the slot of an item's track
 
-module _ {D : Type 0} (state : D → Standing) (tells : Type 0) (items : List Item) (item : BodyItem) (bytes : List ℕ) (i : Item) (t : IsTold item bytes i) (has_more : (device x : ℕ) → HasItem device x (i ∷ []) → HasItem device x items) where
+module _ {D : Type 0} (state : D → Standing) (tells : Type 0) (items : List Item) (item : BodyItem) (bytes : List ℕ) (i : Item) (t : IsItemTold item bytes i) (has_more : (device x : ℕ) → HasItem device x (i ∷ []) → HasItem device x items) where
   -- The slot of one of the items lies in the disk of its job, on which items before were written.
-  pub room_of_item : (done : List Item) (old now : VolumeJob D) → HasItsSlots state items old → WritesInTurn state tells done old now → HasRoom state item now
+  pub room_of_item : (done : List Item) (old now : VolumeJob D) → HasItsSlots state items old → WritesInTurn state tells done old now → HasSlotRoom state item now
   room_of_item done old now slots w x good is = go old.failed refl
     where
       own : HasItem old.device x items
-      own = has_more old.device x (told_own old.device x bytes i (subst (λ (b : BodyItem). IsTold b bytes i) (is ∙ ap (λ (d : ℕ). ImageTold d x) w.device) t))
+      own = has_more old.device x (told_own old.device x bytes i (subst (λ (b : BodyItem). IsItemTold b bytes i) (is ∙ ap (λ (d : ℕ). ImageTold d x) w.device) t))
 
       ends_length : (failed : Bool) (a b : D) → EndsAs state tells old.device done failed a b → (state b).length_is ≡ (state a).length_is
       ends_length true a b stop = stop.length_is
@@ -211,7 +211,7 @@ module _ {D : Type 0} (state : D → Standing) (tells : Type 0) where
       each = λ k d less. in_turn_more state tells done i (get_or old k d) (get_or now k d) (get_or new k d) (so_far.each k d less) (one.each k d (omega (arith, less, so_far.same)));
     }
 
-    pub each_room : (items : List Item) (item : BodyItem) (bytes : List ℕ) (i : Item) (t : IsTold item bytes i) → ((device x : ℕ) → HasItem device x (i ∷ []) → HasItem device x items) → All (HasItsSlots state items) old → All (HasRoom state item) now
+    pub each_room : (items : List Item) (item : BodyItem) (bytes : List ℕ) (i : Item) (t : IsItemTold item bytes i) → ((device x : ℕ) → HasItem device x (i ∷ []) → HasItem device x items) → All (HasItsSlots state items) old → All (HasSlotRoom state item) now
     each_room items item bytes i t has_more slots k d less =
         let there : k < length old = omega (arith, less, so_far.same) in
         room_of_item state tells items item bytes i t has_more done (get_or old k d) (get_or now k d) (slots k d there) (so_far.each k d there)

@@ -20,7 +20,7 @@ use Rattle.xrc_journal.specs.Views.{told}
 use Rattle.xrc_journal.specs.Contents.{HasItem}
 use Rattle.xrc_journal.proofs.ItemsAgain.{image_rules}
 use Rattle.applier.specs.Slots.{DiffersInSlots}
-use Rattle.applier.specs.Writes.{written_by, IsTold, Writes}
+use Rattle.applier.specs.Writes.{written_by, IsItemTold, Writes}
 use Rattle.applier.proofs.InSlots.{torn_differs}
 
 -- an image that is told
@@ -34,7 +34,7 @@ pub record IsImageOf (of track : ℕ) (bytes : List ℕ) (i : Item) : Type 0 whe
 image_after : (of track : ℕ) (recs : List Rec) → drop 7 (1 ∷ to_be_bytes w16 of ++ to_be_bytes w32 track ++ image recs) ≡ image recs
 image_after of track recs = refl
 
-pub told_image : (of track : ℕ) (bytes : List ℕ) (i : Item) → IsTold (BodyItem.Image of track) bytes i → IsImageOf of track bytes i
+pub told_image : (of track : ℕ) (bytes : List ℕ) (i : Item) → IsItemTold (BodyItem.Image of track) bytes i → IsImageOf of track bytes i
 told_image of track bytes i t = go i t.keeps t.told_is t.spelled
   where
     go : (i : Item) → is_item anywhere t.earlier i ≡ true → BodyItem.Image of track ≡ told i → bytes ≡ item_spelling i → IsImageOf of track bytes i

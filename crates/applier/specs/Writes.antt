@@ -18,15 +18,15 @@ use Rattle.applier.specs.Disks.{OnDisks}
 use Rattle.applier.specs.Slots.{DiffersInSlots}
 
 -- The bytes are those of an item that a body may have, and this is told of it.
-pub record IsTold (tells : BodyItem) (bytes : List ℕ) (i : Item) : Type 0 where
+pub record IsItemTold (tells : BodyItem) (bytes : List ℕ) (i : Item) : Type 0 where
   pub earlier : Earlier
   pub keeps : IsTrue (is_item anywhere earlier i)
   pub told_is : tells ≡ told i
   pub spelled : bytes ≡ item_spelling i
 
 -- The slot of the track of which an image is told lies in the disk that the device's job has.
-abbrev pub HasRoom : {D : Type 0} (state : D → Standing) → BodyItem → VolumeJob D → Type 0
-HasRoom state item job = (x : ℕ) → job.failed ≡ false → item ≡ ImageTold job.device x → IfSome job.disk (λ disk. slot_end x ≤ (state disk).length_is)
+abbrev pub HasSlotRoom : {D : Type 0} (state : D → Standing) → BodyItem → VolumeJob D → Type 0
+HasSlotRoom state item job = (x : ℕ) → job.failed ≡ false → item ≡ ImageTold job.device x → IfSome job.disk (λ disk. slot_end x ≤ (state disk).length_is)
 
 -- the bytes of a device after an item: an image stands at the front of its track's slot
 abbrev pub written_by : (device : ℕ) → List ℕ → Item → List ℕ

@@ -10,7 +10,7 @@ ghost use Rattle.xrc_journal.specs.Jobs.{FailsByCount, OnVolume};
 ghost use Rattle.applier.specs.Slots.{DiffersInSlots, HoldsContent};
 ghost use Rattle.applier.specs.Jobs.{HasSlots, StopsAtItem};
 ghost use Rattle.applier.specs.Sides.{AppliesToJob, HasItsSlots};
-ghost use Rattle.applier.specs.Writes.{HasRoom, IsTold, Writes, WritesToJob};
+ghost use Rattle.applier.specs.Writes.{HasSlotRoom, IsItemTold, Writes, WritesToJob};
 
 use ckd_track::slot_place;
 use crash_plant::Disk;
@@ -24,9 +24,9 @@ fn write_item<D: Disk>(
     item: BodyItem,
     bytes: &[u8],
 ) -> Result<(), Failed>
-    requires item { (i : Item) × IsTold item bytes.now i }
+    requires item { (i : Item) × IsItemTold item bytes.now i }
     requires room { (x : ℕ) → item ≡ ImageTold device x → slot_end x ≤ (D.state disk.old).length_is }
-    ensures { (i : Item) → IsTold item bytes.now i → Writes D.state D.tells device i disk.old disk.new result }
+    ensures { (i : Item) → IsItemTold item bytes.now i → Writes D.state D.tells device i disk.old disk.new result }
 {
     match item {
         BodyItem::Image { device: of, track } if of == device => {
@@ -38,9 +38,9 @@ fn write_item<D: Disk>(
 
 /// Does this on the job's volume. If the write fails, the job is marked failed. A failed job is left alone.
 pub(crate) fn apply_item<D: Disk>(job: &mut VolumeJob<D>, item: BodyItem, bytes: &[u8])
-    requires item { (i : Item) × IsTold item bytes.now i }
-    requires room { HasRoom D.state item job.old }
-    ensures { (i : Item) → IsTold item bytes.now i → WritesToJob D.state D.tells i job.old job.new }
+    requires item { (i : Item) × IsItemTold item bytes.now i }
+    requires room { HasSlotRoom D.state item job.old }
+    ensures { (i : Item) → IsItemTold item bytes.now i → WritesToJob D.state D.tells i job.old job.new }
 {
     if job.failed {
         return;

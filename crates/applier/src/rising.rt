@@ -5,7 +5,7 @@ ghost use Rattle.xrc_journal.specs.Items.{Item};
 ghost use Rattle.xrc_journal.specs.declared.job.VolumeJob.{VolumeJob};
 ghost use Rattle.applier.specs.Disks.{AreRising};
 ghost use Rattle.applier.specs.Sides.{AppliesToJob, HasItsSlots, HoldsOfEach};
-ghost use Rattle.applier.specs.Writes.{HasRoom, IsTold, WritesToJob};
+ghost use Rattle.applier.specs.Writes.{HasSlotRoom, IsItemTold, WritesToJob};
 
 use crate::applying::{apply_item, apply_one};
 use crash_plant::Disk;
@@ -56,9 +56,9 @@ fn place_of<D>(jobs: &[VolumeJob<D>], device: u16) -> Option<usize>
 /// Writes an item's image to the volume of the job of its device, if there is one.
 fn apply_item_to<D: Disk>(jobs: &mut [VolumeJob<D>], item: BodyItem, bytes: &[u8])
     requires rising { AreRising jobs.old }
-    requires item { (i : Item) × IsTold item bytes.now i }
-    requires room { All (HasRoom D.state item) jobs.old }
-    ensures { (i : Item) → IsTold item bytes.now i → HoldsOfEach (WritesToJob D.state D.tells i) jobs.old jobs.new }
+    requires item { (i : Item) × IsItemTold item bytes.now i }
+    requires room { All (HasSlotRoom D.state item) jobs.old }
+    ensures { (i : Item) → IsItemTold item bytes.now i → HoldsOfEach (WritesToJob D.state D.tells i) jobs.old jobs.new }
 {
     if let BodyItem::Image { device, track: _ } = item {
         if let Some(place) = place_of(jobs, device) {

@@ -17,7 +17,6 @@ use Rattle.pair_table.specs.declared.row.SuspendCause.TheVariants.{Command as By
 use Rattle.pair_table.specs.Commands.{accepted, add_to, is_chosen, is_to_suspend, new_row, new_row_for, rows_after, suspended_since}
 use Rattle.pair_table.specs.Naming.{label_in, lower, primary_of}
 use Rattle.pair_table.specs.Refusals.{is_of_primary, refusal, row_of_primary}
-use Rattle.pair_table.specs.Rows.{is_suspended}
 use Rattle.pair_table.specs.Tables.{Table, in_state, is_of}
 use Rattle.pair_table.proofs.FindLaws.{found_all}
 use Rattle.row_changes.specs.Changes.{Timed, after_change, after_changes, reach_of, row_after_change}

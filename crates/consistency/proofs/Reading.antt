@@ -12,11 +12,11 @@ use Rattle.pair_table.specs.declared.command.Command.{Command}
 use Rattle.pair_table.specs.declared.command.Command.TheVariants.{Start, AddPair, DelPair, Suspend, Query, End}
 use Rattle.pair_table.specs.declared.command.Refusal.{Refusal}
 use Rattle.pair_table.specs.declared.command.Refusal.TheVariants.{NoSession, SessionExists, NoPrimary, NoSecondary, SecondaryInUse, AlreadyPaired, TooSmall, OtherSecondary, NotPaired, Ended, ControlBroken}
-use Rattle.xquery_report.specs.Replies.{refusal_name, refusal_number}
+use Rattle.xquery_report.specs.Replies.{command_word, refusal_name, refusal_number}
 use Rattle.xrc_command.specs.declared.line.Line.{Line}
 use Rattle.consistency.specs.Stages.{ScriptRun, Stage}
 use Rattle.consistency.specs.Courses.{Answered}
-use Rattle.consistency.specs.Replies.{answer_word, command_word}
+use Rattle.consistency.specs.Replies.{answer_word}
 use Rattle.consistency.specs.Steps.{table_on_the_way}
 use Rattle.consistency.specs.Times.{times_of, whole_lines, words}
 use Rattle.consistency.proofs.Pieces.{line_ended}

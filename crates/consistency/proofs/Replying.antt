@@ -17,13 +17,13 @@ use Rattle.pair_table.specs.declared.level.Level.{Level}
 use Rattle.pair_table.specs.Tables.{Table}
 use Rattle.row_changes.specs.Changes.{Timed}
 use Rattle.row_changes.specs.Spans.{AreCounted}
-use Rattle.xquery_report.specs.Replies.{answer_part, command_part, refusal_name, refusal_number, refusal_part, reply_line, said_part, tracks_part, value_part}
+use Rattle.xquery_report.specs.Replies.{answer_part, command_part, command_word, refusal_name, refusal_number, refusal_part, reply_line, said_part, tracks_part, value_part}
 use Rattle.xquery_report.specs.Reports.{report_text}
 use Rattle.xrc_command.specs.declared.line.Line.{Line}
 use Rattle.consistency.specs.Stages.{ScriptRun, Stage, accepts}
 use Rattle.consistency.specs.Courses.{Answered, IsAnswered, replied_after}
 use Rattle.consistency.specs.Moments.{AreUpTo}
-use Rattle.consistency.specs.Replies.{IsReply, answer_word, command_word}
+use Rattle.consistency.specs.Replies.{IsReply, answer_word}
 use Rattle.consistency.specs.Steps.{is_active, table_on_the_way}
 use Rattle.consistency.specs.Times.{times_in_words, times_said}
 use Rattle.consistency.proofs.Pieces.{times_append}
@@ -42,14 +42,6 @@ use Rattle.consistency.proofs.Words.{AreQuiet, quiet_number, time_after_quiet, t
 use Rattle.consistency.proofs.Words.AreQuiet.{no_more, quiet_then}
 
 -- ---- the words of a reply
-
-command_spaced : (command : Command) → 32 ∷ command_word command ≡ command_part command
-command_spaced (Start level) = refl
-command_spaced (AddPair primary secondary) = refl
-command_spaced (DelPair choice) = refl
-command_spaced (Suspend choice) = refl
-command_spaced Query = refl
-command_spaced End = refl
 
 abbrev pub value_words : Refusal → List (List ℕ)
 value_words (TooSmall tracks) = decimal tracks ∷ []
@@ -164,7 +156,6 @@ module _ (time : ℕ) (command : Command) (answer : Result Change Refusal) (trac
   line_is =
       ap (λ (l : List ℕ). (stamp_text time ++ ((32 ∷ command_word command) ++ ((32 ∷ answer_word (is_ok answer)) ++ l))) ++ 10 ∷ []) (flat_map-append (λ w. 32 ∷ w) (answer_words command answer tracks) (said_words told))
       ∙ reply_is (stamp_text time) (32 ∷ command_word command) (32 ∷ answer_word (is_ok answer)) (spaced (answer_words command answer tracks)) (spaced (said_words told))
-      ∙ ap (λ (l : List ℕ). stamp_text time ++ l ++ ((32 ∷ answer_word (is_ok answer)) ++ spaced (answer_words command answer tracks)) ++ spaced (said_words told) ++ 10 ∷ []) (command_spaced command)
       ∙ ap (λ (l : List ℕ). stamp_text time ++ command_part command ++ l ++ spaced (said_words told) ++ 10 ∷ []) (answer_spaced command answer tracks)
       ∙ ap (λ (l : List ℕ). stamp_text time ++ command_part command ++ answer_part command answer tracks ++ l ++ 10 ∷ []) (told_spaced told)
 

@@ -8,7 +8,8 @@ use Rattle.pair_table.specs.declared.command.Command.{Command}
 use Rattle.pair_table.specs.declared.command.Command.TheVariants.{Start, AddPair, DelPair, Suspend, Query, End}
 use Rattle.tod_stamp.specs.Stamps.{hex_digit, hex_digits, stamp_text}
 use Rattle.xrc_command.specs.declared.line.Line.{Line}
-use Rattle.consistency.specs.Replies.{IsReply, answer_word, command_word, has_reply}
+use Rattle.xquery_report.specs.Replies.{command_word}
+use Rattle.consistency.specs.Replies.{IsReply, answer_word, has_reply}
 use Rattle.consistency.specs.Times.{AreWhole, ended_pieces, unended, words}
 use Rattle.consistency.proofs.Pieces.{no_pieces, pieces_append}
 

@@ -6,7 +6,8 @@ use Rattle.std.proofs.lemmas.Bool.Decides.{nat_tests}
 use Rattle.pair_table.specs.declared.command.Command.{Command}
 use Rattle.pair_table.specs.declared.command.Command.TheVariants.{Start, AddPair, DelPair, Suspend, Query, End}
 use Rattle.tod_stamp.specs.Stamps.{hex_digit, hex_digits, stamp_text}
-use Rattle.consistency.specs.Replies.{answer_word, command_word}
+use Rattle.xquery_report.specs.Replies.{command_word}
+use Rattle.consistency.specs.Replies.{answer_word}
 use Rattle.consistency.specs.Times.{time_after, time_in_word, times_in_line, times_in_words, times_said}
 use Rattle.consistency.proofs.Pieces.{line_ended}
 use Rattle.consistency.proofs.Spelled.{AreWords, HasNo, IsWord, has_no_both, no_feed_spelled, spelled, words_spelled}

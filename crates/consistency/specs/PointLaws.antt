@@ -16,7 +16,7 @@ use Rattle.pair_table.specs.Tables.{none_clash}
 use Rattle.row_changes.specs.Changes.{Timed, since}
 use Rattle.row_changes.specs.Changes.Due.{NoneDue}
 use Rattle.row_changes.specs.Spans.{AreCounted, Toward, hit_count}
-use Rattle.site_means.specs.Images.{Images, Shape, shape_of}
+use Rattle.site_means.specs.Images.{shape_of}
 use Rattle.tod_stamp.specs.declared.stamp.Stamp.{Stamp}
 use Rattle.xrc_command.specs.declared.line.Line.{Line}
 use Rattle.consistency.specs.Stages.{IsTime, ScriptRun, Stage, accepts, accepts_end, breaks_of, names_of, tracks_of_row}

@@ -2,9 +2,8 @@
 use Rattle.std.specs.Prelude.{◌≡◌, ℕ, ◌==◌, ◌&&◌, ◌||◌, List, [], ◌∷◌, ◌++◌, codes, bytes_eq, count_by, is_ok, Bool, false, if◌then◌else◌}
 use Rattle.std.specs.List.{list_any}
 use Rattle.tod_stamp.specs.Stamps.{stamp_of_digits, stamp_text}
-use Rattle.pair_table.specs.declared.command.Command.{Command}
-use Rattle.pair_table.specs.declared.command.Command.TheVariants.{Start, AddPair, DelPair, Suspend, Query, End}
 use Rattle.xrc_command.specs.declared.line.Line.{Line}
+use Rattle.xquery_report.specs.Replies.{command_word}
 use Rattle.consistency.specs.Times.{AreWhole, whole_lines, words}
 
 -- ---- lines that are replies
@@ -34,14 +33,6 @@ abbrev pub reply_count : (said : List ℕ) → ℕ
 reply_count said = count_by is_reply_line (whole_lines said)
 
 -- ---- the reply to a line
-
-abbrev pub command_word : Command → List ℕ
-command_word (Start level) = codes "XSTART"
-command_word (AddPair primary secondary) = codes "XADDPAIR"
-command_word (DelPair choice) = codes "XDELPAIR"
-command_word (Suspend choice) = codes "XSUSPEND"
-command_word Query = codes "XQUERY"
-command_word End = codes "XEND"
 
 abbrev pub answer_word : (is_accepted : Bool) → List ℕ
 answer_word is_accepted = if is_accepted then codes "OK" else codes "REFUSED"

@@ -11,12 +11,11 @@ use Rattle.pair_table.specs.declared.command.Refusal.{Refusal}
 use Rattle.pair_table.specs.declared.command.Refusal.TheVariants.{NoSession, SessionExists, NoPrimary, NoSecondary, SecondaryInUse, AlreadyPaired, TooSmall, OtherSecondary, NotPaired, Ended, ControlBroken}
 use Rattle.pair_table.specs.declared.row.PairRow.{PairRow}
 use Rattle.pair_table.specs.Tables.{Table}
-use Rattle.xquery_report.specs.Replies.{reply_line}
+use Rattle.xquery_report.specs.Replies.{command_word, reply_line}
 use Rattle.xquery_report.specs.Reports.{report_text}
 use Rattle.xrc_command.specs.declared.line.Line.{Line}
 use Rattle.consistency.specs.Stages.{ScriptRun, Stage, accepts, names_of}
 use Rattle.consistency.specs.Courses.{Answered, replied_after}
-use Rattle.consistency.specs.Replies.{command_word}
 use Rattle.consistency.specs.Steps.{table_on_the_way}
 use Rattle.consistency.specs.Answering.{ReplyContent, reply_content}
 use Rattle.consistency.specs.Leads.{Point}

@@ -11,7 +11,8 @@ use Rattle.tod_stamp.specs.Names.{is_field, name_in, before_spaces}
 use Rattle.control_set.specs.declared.value.Mark.{Mark}
 use Rattle.control_set.specs.declared.slot.Slot.TheVariants.{Closed, Holds, Damaged}
 use Rattle.control_set.specs.Marks.{mark_at, has_spot}
-use Rattle.control_set.specs.Places.{u16_at, session_at, mark_in, keeps}
+use Rattle.tod_stamp.specs.Fields.{u16_at}
+use Rattle.control_set.specs.Places.{session_at, mark_in, keeps}
 use Rattle.control_set.specs.Slots.{slot_read, slot_of, is_closed}
 
 -- a field at a place in bytes that are long enough

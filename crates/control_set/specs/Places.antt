@@ -1,16 +1,9 @@
 -- The fields of a slot at their places, the gate's first.
 use Rattle.std.specs.Prelude.{ℕ, ◌-◌, ◌^◌, ◌==◌, ◌&&◌, List, take, drop, length, slice_index, codes, Bool, nat_lt, nat_le, bytes_eq}
-use Rattle.std.specs.Int.{w16, w64, from_be_bytes}
-use Rattle.tod_stamp.specs.Fields.{within}
+use Rattle.tod_stamp.specs.Fields.{within, u16_at, u64_at}
 use Rattle.tod_stamp.specs.Names.{is_field, before_spaces}
 use Rattle.control_set.specs.declared.value.Mark.{Mark}
 use Rattle.control_set.specs.Marks.{has_spot}
-
-abbrev pub u16_at : List ℕ → ℕ → ℕ
-u16_at bytes place = from_be_bytes w16 (take 2 (drop place bytes))
-
-abbrev pub u64_at : List ℕ → ℕ → ℕ
-u64_at bytes place = from_be_bytes w64 (take 8 (drop place bytes))
 
 abbrev pub session_at : List ℕ → List ℕ
 session_at bytes = take 8 (drop 13 bytes)

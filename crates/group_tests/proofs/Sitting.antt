@@ -1,13 +1,12 @@
 -- What seats of a table of three controllers may do, and what they know afterwards.
-use Rattle.std.proofs.Common.{◌≡◌, ℕ, zero, suc, ◌+◌, ◌<◌, Bool, true, nat_lt, nat_le, ◌&&◌, List, [], ◌∷◌, length, get_or, set, Option, Some, None, refl, sym, ap, ◌∙◌, subst, arith}
+use Rattle.std.proofs.Common.{◌≡◌, ℕ, zero, suc, ◌+◌, ◌<◌, true, nat_lt, nat_le, ◌&&◌, List, [], ◌∷◌, length, get_or, set, Option, Some, None, refl, sym, ap, ◌∙◌, subst, arith}
 use Rattle.std.specs.Prelude.{All}
 use Rattle.std.specs.List.{slice_get}
 use Rattle.std.proofs.lemmas.Bool.Decides.{nat_tests}
 use Rattle.std.proofs.lemmas.List.FromFn.{length-map-range_with_len, get_or-map-range_with_len}
 use Rattle.ckd_track.specs.declared.write.Batch.{Batch}
 use Rattle.group_state.specs.Groups.{Group, control_at}
-use Rattle.group_state.specs.SoundStates.{is_track_within, are_within}
-use Rattle.cut_core.specs.LegalHistories.{are_in}
+use Rattle.group_state.specs.SoundStates.{are_within}
 use Rattle.turn_group.specs.Seats.{ReaderSeatState, SeatMayJoin, IsSeated, new_reader, new_readers}
 use Rattle.atomic_table.specs.Seated.{TableId}
 use Rattle.group_tests.specs.CutVectors.{whole_on}

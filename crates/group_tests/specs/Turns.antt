@@ -1,5 +1,5 @@
 -- What seats of a table of three controllers know while they read and form.
-use Rattle.std.specs.Prelude.{◌≡◌, ℕ, ◌<◌, ◌≤◌, List, [], ◌∷◌, length, true}
+use Rattle.std.specs.Prelude.{◌≡◌, ℕ, ◌<◌, ◌≤◌, [], ◌∷◌, length, true}
 use Rattle.ckd_track.specs.declared.layout.TheConstants.{BLOCKS_OF_QUEUE, WRITES_OF_RUN}
 use Rattle.atomic_table.specs.Seated.{TableId}
 use Rattle.group_state.specs.Groups.{Group, new_group}

@@ -9,7 +9,7 @@ use Rattle.std.proofs.lemmas.List.Folds.{list_any_at}
 use Rattle.ckd_track.specs.declared.rec.Rec.{Rec}
 use Rattle.pending_queue.specs.declared.head.EntryHead.{EntryHead}
 use Rattle.pending_queue.specs.Entries.{WaitingEntry}
-use Rattle.image_former.specs.Links.{bucket_of, bucket_at, linked_count, NoneIn, GoesForth}
+use Rattle.image_former.specs.Links.{bucket_of, bucket_at, linked_count, NoneIn, LeadsForth}
 use Rattle.image_former.specs.Steps.{is_beside, same_track}
 use Rattle.image_former.specs.declared.links.TheConstants.{BUCKETS}
 use Rattle.image_former.proofs.Changing.{Applying, apply_other}
@@ -82,7 +82,7 @@ apply_gap head place later (suc gap) to entries first now is so_far none within 
 ]
 
 -- The next place at which to look: nothing is left to do before it.
-pub apply_forth : (head : EntryHead) (place at next : ℕ) (entries : List WaitingEntry) (first now : List Rec) → Applying head place (at + 1) entries first now → GoesForth (map head_in entries) at next → next ≤ length entries
+pub apply_forth : (head : EntryHead) (place at next : ℕ) (entries : List WaitingEntry) (first now : List Rec) → Applying head place (at + 1) entries first now → LeadsForth (map head_in entries) at next → next ≤ length entries
     → (at < linked_count (map head_in entries) → bucket_at (map head_in entries) at ≡ bucket_of head) → Applying head place next entries first now
 apply_forth head place at next entries first now so_far goes within shares = elim (cases_lt at (linked_count (map head_in entries))) [
   | inl linked ↦

@@ -4,7 +4,7 @@ use Rattle.std.specs.Prelude.{slice_get}
 use Rattle.std.proofs.lemmas.Bool.{cases_eq}
 use Rattle.std.proofs.lemmas.List.{get_or-set_same, get_or-set_other, get_or-replicate, length-replicate}
 use Rattle.pending_queue.specs.declared.head.EntryHead.{EntryHead}
-use Rattle.image_former.specs.Links.{bucket_of, bucket_of_some, bucket_at, linked_count, IsNext, IsLast, AreLinkedBack, AreLinkedForth, GoesForth}
+use Rattle.image_former.specs.Links.{bucket_of, bucket_of_some, bucket_at, linked_count, IsNextOfBucket, IsLastOfBucket, AreLinkedBack, AreLinkedForth, LeadsForth}
 use Rattle.image_former.specs.declared.links.TheConstants.{BUCKETS, LINKED}
 
 pub bucket_there : (heads : List EntryHead) (place : ℕ) (head : EntryHead) → slice_get heads place ≡ Some head → bucket_at heads place ≡ bucket_of head
@@ -16,8 +16,8 @@ bucket_there heads place head is = ap bucket_of_some is
 pub record LinkedBack (heads : List EntryHead) (place : ℕ) (back last : List ℕ) : Type 0 where
   pub backs : length back ≡ LINKED
   pub lasts : length last ≡ BUCKETS
-  pub each : (p : ℕ) → p < place → IsLast heads p (bucket_at heads p) (get_or back p 0)
-  pub table : (b : ℕ) → b < BUCKETS → IsLast heads place b (get_or last b 0)
+  pub each : (p : ℕ) → p < place → IsLastOfBucket heads p (bucket_at heads p) (get_or back p 0)
+  pub table : (b : ℕ) → b < BUCKETS → IsLastOfBucket heads place b (get_or last b 0)
 
 pub none_back : (heads : List EntryHead) → LinkedBack heads 0 (replicate LINKED 0) (replicate BUCKETS 0)
 none_back heads = record {
@@ -31,7 +31,7 @@ none_back heads = record {
   };
 }
 
-last_more : (heads : List EntryHead) (place bucket last : ℕ) → IsLast heads place bucket last → bucket_at heads place ≢ bucket → IsLast heads (place + 1) bucket last
+last_more : (heads : List EntryHead) (place bucket last : ℕ) → IsLastOfBucket heads place bucket last → bucket_at heads place ≢ bucket → IsLastOfBucket heads (place + 1) bucket last
 last_more heads place bucket last is other = record {
   high = omega (arith, is.high);
   shares = is.shares;
@@ -41,7 +41,7 @@ last_more heads place bucket last is other = record {
   ];
 }
 
-last_here : (heads : List EntryHead) (place bucket : ℕ) → bucket_at heads place ≡ bucket → IsLast heads (place + 1) bucket (place + 1)
+last_here : (heads : List EntryHead) (place bucket : ℕ) → bucket_at heads place ≡ bucket → IsLastOfBucket heads (place + 1) bucket (place + 1)
 last_here heads place bucket is = record {
   high = omega arith;
   shares = λ e more. ap (bucket_at heads) (omega (arith, more)) ∙ is;
@@ -57,18 +57,18 @@ more_back heads place bucket back last l is within low = record {
   each = λ p lt. elim (cases_eq p place) [
     | inl here ↦
         let value = ap (λ n. get_or (set back place (get_or last bucket 0)) n 0) here ∙ get_or-set_same back place (get_or last bucket 0) 0 (omega (arith, low, l.backs)) in
-        let last_of : IsLast heads p (bucket_at heads p) (get_or last bucket 0) =
-        subst (λ (n : ℕ). IsLast heads n (bucket_at heads n) (get_or last bucket 0)) (sym here) (subst (λ (b : ℕ). IsLast heads place b (get_or last bucket 0)) (sym is) (l.table bucket within)) in
-        subst (λ (v : ℕ). IsLast heads p (bucket_at heads p) v) (sym value) last_of
+        let last_of : IsLastOfBucket heads p (bucket_at heads p) (get_or last bucket 0) =
+        subst (λ (n : ℕ). IsLastOfBucket heads n (bucket_at heads n) (get_or last bucket 0)) (sym here) (subst (λ (b : ℕ). IsLastOfBucket heads place b (get_or last bucket 0)) (sym is) (l.table bucket within)) in
+        subst (λ (v : ℕ). IsLastOfBucket heads p (bucket_at heads p) v) (sym value) last_of
     | inr away ↦
-        subst (λ (v : ℕ). IsLast heads p (bucket_at heads p) v) (sym (get_or-set_other back place p (get_or last bucket 0) 0 away)) (l.each p (omega (arith, lt, away)))
+        subst (λ (v : ℕ). IsLastOfBucket heads p (bucket_at heads p) v) (sym (get_or-set_other back place p (get_or last bucket 0) 0 away)) (l.each p (omega (arith, lt, away)))
   ];
   table = λ b lt. elim (cases_eq b bucket) [
     | inl here ↦
         let value = ap (λ n. get_or (set last bucket (place + 1)) n 0) here ∙ get_or-set_same last bucket (place + 1) 0 (omega (arith, within, l.lasts)) in
-        subst (λ (v : ℕ). IsLast heads (place + 1) b v) (sym value) (last_here heads place b (is ∙ sym here))
+        subst (λ (v : ℕ). IsLastOfBucket heads (place + 1) b v) (sym value) (last_here heads place b (is ∙ sym here))
     | inr away ↦
-        subst (λ (v : ℕ). IsLast heads (place + 1) b v) (sym (get_or-set_other last bucket b (place + 1) 0 away))
+        subst (λ (v : ℕ). IsLastOfBucket heads (place + 1) b v) (sym (get_or-set_other last bucket b (place + 1) 0 away))
         (last_more heads place b (get_or last b 0) (l.table b lt) (λ same. away (sym same ∙ is)))
   ];
 }
@@ -82,8 +82,8 @@ all_back heads place back last l end = record { size = l.backs; each = λ p lt. 
 pub record LinkedForth (heads : List EntryHead) (place : ℕ) (forth next : List ℕ) : Type 0 where
   pub forths : length forth ≡ LINKED
   pub nexts : length next ≡ BUCKETS
-  pub each : (p : ℕ) → place ≤ p → p < linked_count heads → IsNext heads (p + 1) (bucket_at heads p) (get_or forth p 0)
-  pub table : (b : ℕ) → b < BUCKETS → IsNext heads place b (get_or next b 0)
+  pub each : (p : ℕ) → place ≤ p → p < linked_count heads → IsNextOfBucket heads (p + 1) (bucket_at heads p) (get_or forth p 0)
+  pub table : (b : ℕ) → b < BUCKETS → IsNextOfBucket heads place b (get_or next b 0)
 
 pub none_forth : (heads : List EntryHead) (count place : ℕ) → count ≡ linked_count heads → place ≡ count → LinkedForth heads place (replicate LINKED count) (replicate BUCKETS count)
 none_forth heads count place is end = record {
@@ -98,7 +98,7 @@ none_forth heads count place is end = record {
   };
 }
 
-next_more : (heads : List EntryHead) (place bucket next : ℕ) → IsNext heads (place + 1) bucket next → bucket_at heads place ≢ bucket → IsNext heads place bucket next
+next_more : (heads : List EntryHead) (place bucket next : ℕ) → IsNextOfBucket heads (place + 1) bucket next → bucket_at heads place ≢ bucket → IsNextOfBucket heads place bucket next
 next_more heads place bucket next is other = record {
   low = omega (arith, is.low);
   high = is.high;
@@ -109,7 +109,7 @@ next_more heads place bucket next is other = record {
   ];
 }
 
-next_here : (heads : List EntryHead) (place bucket : ℕ) → bucket_at heads place ≡ bucket → place < linked_count heads → IsNext heads place bucket place
+next_here : (heads : List EntryHead) (place bucket : ℕ) → bucket_at heads place ≡ bucket → place < linked_count heads → IsNextOfBucket heads place bucket place
 next_here heads place bucket is within = record {
   low = omega arith;
   high = omega (arith, within);
@@ -126,18 +126,18 @@ more_forth heads place bucket forth next l is within lt low = record {
   each = λ p from below. elim (cases_eq p place) [
     | inl here ↦
         let value = ap (λ n. get_or (set forth place (get_or next bucket 0)) n 0) here ∙ get_or-set_same forth place (get_or next bucket 0) 0 (omega (arith, low, l.forths)) in
-        let next_of : IsNext heads (p + 1) (bucket_at heads p) (get_or next bucket 0) =
-        subst (λ (n : ℕ). IsNext heads (n + 1) (bucket_at heads n) (get_or next bucket 0)) (sym here) (subst (λ (b : ℕ). IsNext heads (place + 1) b (get_or next bucket 0)) (sym is) (l.table bucket within)) in
-        subst (λ (v : ℕ). IsNext heads (p + 1) (bucket_at heads p) v) (sym value) next_of
+        let next_of : IsNextOfBucket heads (p + 1) (bucket_at heads p) (get_or next bucket 0) =
+        subst (λ (n : ℕ). IsNextOfBucket heads (n + 1) (bucket_at heads n) (get_or next bucket 0)) (sym here) (subst (λ (b : ℕ). IsNextOfBucket heads (place + 1) b (get_or next bucket 0)) (sym is) (l.table bucket within)) in
+        subst (λ (v : ℕ). IsNextOfBucket heads (p + 1) (bucket_at heads p) v) (sym value) next_of
     | inr away ↦
-        subst (λ (v : ℕ). IsNext heads (p + 1) (bucket_at heads p) v) (sym (get_or-set_other forth place p (get_or next bucket 0) 0 away)) (l.each p (omega (arith, from, away)) below)
+        subst (λ (v : ℕ). IsNextOfBucket heads (p + 1) (bucket_at heads p) v) (sym (get_or-set_other forth place p (get_or next bucket 0) 0 away)) (l.each p (omega (arith, from, away)) below)
   ];
   table = λ b under. elim (cases_eq b bucket) [
     | inl here ↦
         let value = ap (λ n. get_or (set next bucket place) n 0) here ∙ get_or-set_same next bucket place 0 (omega (arith, within, l.nexts)) in
-        subst (λ (v : ℕ). IsNext heads place b v) (sym value) (next_here heads place b (is ∙ sym here) lt)
+        subst (λ (v : ℕ). IsNextOfBucket heads place b v) (sym value) (next_here heads place b (is ∙ sym here) lt)
     | inr away ↦
-        subst (λ (v : ℕ). IsNext heads place b v) (sym (get_or-set_other next bucket b place 0 away))
+        subst (λ (v : ℕ). IsNextOfBucket heads place b v) (sym (get_or-set_other next bucket b place 0 away))
         (next_more heads place b (get_or next b 0) (l.table b under) (λ same. away (sym same ∙ is)))
   ];
 }
@@ -153,15 +153,15 @@ all_forth heads place forth next l start = record { size = l.forths; each = λ p
 
 -- ---- where to look next
 
-goes_linked : (heads : List EntryHead) (forth : List ℕ) (place : ℕ) → AreLinkedForth heads forth → place < LINKED → place < length heads → GoesForth heads place (get_or forth place 0)
+goes_linked : (heads : List EntryHead) (forth : List ℕ) (place : ℕ) → AreLinkedForth heads forth → place < LINKED → place < length heads → LeadsForth heads place (get_or forth place 0)
 goes_linked heads forth place l low within =
     let n = l.each place (omega (arith, low, within)) in
     record { rises = omega (arith, n.low); within = omega (arith, n.high); none = n.none; shares = n.shares; one_on = λ high. absurd (omega (arith, high, low, within)) }
 
-pub goes_by_link : (heads : List EntryHead) (forth : List ℕ) (place next : ℕ) → next ≡ get_or forth place 0 → AreLinkedForth heads forth → place < LINKED → place < length heads → GoesForth heads place next
-goes_by_link heads forth place next is l low within = subst (λ (n : ℕ). GoesForth heads place n) (sym is) (goes_linked heads forth place l low within)
+pub goes_by_link : (heads : List EntryHead) (forth : List ℕ) (place next : ℕ) → next ≡ get_or forth place 0 → AreLinkedForth heads forth → place < LINKED → place < length heads → LeadsForth heads place next
+goes_by_link heads forth place next is l low within = subst (λ (n : ℕ). LeadsForth heads place n) (sym is) (goes_linked heads forth place l low within)
 
-pub goes_on : (heads : List EntryHead) (place next : ℕ) → next ≡ place + 1 → LINKED ≤ place → place < length heads → GoesForth heads place next
+pub goes_on : (heads : List EntryHead) (place next : ℕ) → next ≡ place + 1 → LINKED ≤ place → place < length heads → LeadsForth heads place next
 goes_on heads place next is high within = record {
   rises = omega (arith, is);
   within = omega (arith, is, within);

@@ -24,14 +24,14 @@ abbrev pub NoneIn : List EntryHead → (from to bucket : ℕ) → Type 0
 NoneIn heads from to bucket = (q : ℕ) → from ≤ q → q < to → bucket_at heads q ≢ bucket
 
 -- The next entry of a bucket from a place on; the end of the linked entries where there is none.
-pub record IsNext (heads : List EntryHead) (from bucket next : ℕ) : Type 0 where
+pub record IsNextOfBucket (heads : List EntryHead) (from bucket next : ℕ) : Type 0 where
   pub low : from ≤ next
   pub high : next ≤ linked_count heads
   pub shares : next < linked_count heads → bucket_at heads next ≡ bucket
   pub none : NoneIn heads from next bucket
 
 -- One more than the place of the last entry of a bucket before a place; 0 where there is none.
-pub record IsLast (heads : List EntryHead) (to bucket last : ℕ) : Type 0 where
+pub record IsLastOfBucket (heads : List EntryHead) (to bucket last : ℕ) : Type 0 where
   pub high : last ≤ to
   pub shares : (e : ℕ) → last ≡ e + 1 → bucket_at heads e ≡ bucket
   pub none : NoneIn heads last to bucket
@@ -39,16 +39,16 @@ pub record IsLast (heads : List EntryHead) (to bucket last : ℕ) : Type 0 where
 -- Each linked entry leads to the next one of its bucket.
 pub record AreLinkedForth (heads : List EntryHead) (forth : List ℕ) : Type 0 where
   pub size : length forth ≡ LINKED
-  pub each : (p : ℕ) → p < linked_count heads → IsNext heads (p + 1) (bucket_at heads p) (slice_index_or forth p 0)
+  pub each : (p : ℕ) → p < linked_count heads → IsNextOfBucket heads (p + 1) (bucket_at heads p) (slice_index_or forth p 0)
 
 -- Each linked entry leads to the last one of its bucket before it.
 pub record AreLinkedBack (heads : List EntryHead) (back : List ℕ) : Type 0 where
   pub size : length back ≡ LINKED
-  pub each : (p : ℕ) → p < linked_count heads → IsLast heads p (bucket_at heads p) (slice_index_or back p 0)
+  pub each : (p : ℕ) → p < linked_count heads → IsLastOfBucket heads p (bucket_at heads p) (slice_index_or back p 0)
 
 -- Where to look next for an entry of the track of the one at a place: among the linked entries at the next one of its bucket, after
 -- them at the next one.
-pub record GoesForth (heads : List EntryHead) (place next : ℕ) : Type 0 where
+pub record LeadsForth (heads : List EntryHead) (place next : ℕ) : Type 0 where
   pub rises : place < next
   pub within : next ≤ length heads
   pub none : NoneIn heads (place + 1) next (bucket_at heads place)
@@ -56,11 +56,11 @@ pub record GoesForth (heads : List EntryHead) (place next : ℕ) : Type 0 where
   pub one_on : linked_count heads ≤ place → next ≡ place + 1
 
 -- The same before it.
-abbrev pub GoesBack : List EntryHead → (place : ℕ) → Option ℕ → Type 0
-GoesBack heads place None = NoneIn heads 0 place (bucket_at heads place)
-GoesBack heads place (Some e) = (e < place) × (bucket_at heads e ≡ bucket_at heads place) × NoneIn heads (e + 1) place (bucket_at heads place)
+abbrev pub LeadsBack : List EntryHead → (place : ℕ) → Option ℕ → Type 0
+LeadsBack heads place None = NoneIn heads 0 place (bucket_at heads place)
+LeadsBack heads place (Some e) = (e < place) × (bucket_at heads e ≡ bucket_at heads place) × NoneIn heads (e + 1) place (bucket_at heads place)
 
 -- The links of a group are those of its heads.
-pub record AreLinked (heads : List EntryHead) (links : Links) : Type 0 where
+pub record AreEntriesLinked (heads : List EntryHead) (links : Links) : Type 0 where
   pub forth : AreLinkedForth heads links.forth
   pub back : AreLinkedBack heads links.back

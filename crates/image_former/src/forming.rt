@@ -12,7 +12,7 @@ ghost use Rattle.xrc_journal.specs.Jobs.{FailsByCount, OnVolume};
 ghost use Rattle.image_former.specs.Entries.{HasEntry};
 ghost use Rattle.image_former.specs.Jobs.{BeginsWhole, HasFailed, HasNoEntry, HasOneJob, HasSlotsOf, OnVolumes};
 ghost use Rattle.image_former.specs.Forms.{AreItemsWhereAllowed, StandFor, is_image};
-ghost use Rattle.image_former.specs.Links.{AreLinked};
+ghost use Rattle.image_former.specs.Links.{AreEntriesLinked};
 ghost use Rattle.image_former.specs.Steps.{AreFormed, AreReady, GoesBy, is_job_live};
 
 use crate::links::Links;
@@ -45,7 +45,7 @@ fn form_image<D: Disk>(
     body: &mut Body,
     place: u32,
 ) -> Result<(), Failed>
-    requires linked { AreLinked (heads formed.now) links.now }
+    requires linked { AreEntriesLinked (heads formed.now) links.now }
     requires within { place < length formed.now.entries }
     requires ready { AreReady D.state table.now.rows formed.now.entries jobs.old }
     requires formed { AreFormed D.state D.tells table.now.rows formed.now.entries (take place formed.now.entries) jobs.old body.old.items }
@@ -75,7 +75,7 @@ fn form_images<D: Disk>(
     jobs: &mut [VolumeJob<D>],
     body: &mut Body,
 ) -> Result<(), Failed>
-    requires linked { AreLinked (heads formed.now) links.now }
+    requires linked { AreEntriesLinked (heads formed.now) links.now }
     requires empty { body.old.items ≡ [] }
     requires ready { AreReady D.state table.now.rows formed.now.entries jobs.old }
     requires room { 56670 * length formed.now.entries ≤ body.old.room }
@@ -99,7 +99,7 @@ fn form_all<D: Disk>(
     jobs: &mut [VolumeJob<D>],
     body: &mut Body,
 )
-    requires linked { AreLinked (heads formed.now) links.now }
+    requires linked { AreEntriesLinked (heads formed.now) links.now }
     requires empty { body.old.items ≡ [] }
     requires ready { AreReady D.state table.now.rows formed.now.entries jobs.old }
     requires room { 56670 * length formed.now.entries ≤ body.old.room }

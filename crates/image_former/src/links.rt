@@ -2,7 +2,7 @@
 
 ghost use Rattle.std.specs.Prelude.{◌≡◌, ◌<◌, ◌≤◌, length};
 ghost use Rattle.pending_queue.specs.Groups.{heads};
-ghost use Rattle.image_former.specs.Links.{AreLinked, AreLinkedBack, AreLinkedForth, GoesBack, GoesForth, bucket_of, linked_count};
+ghost use Rattle.image_former.specs.Links.{AreEntriesLinked, AreLinkedBack, AreLinkedForth, LeadsBack, LeadsForth, bucket_of, linked_count};
 
 use pending_queue::{EntryHead, Formed};
 
@@ -70,7 +70,7 @@ fn link_forth(formed: &Formed) -> [u16; LINKED]
 impl Links {
     /// The links of a group.
     pub(crate) fn of(formed: &Formed) -> Links
-        ensures { AreLinked (heads formed.now) result }
+        ensures { AreEntriesLinked (heads formed.now) result }
     {
         Links {
             forth: link_forth(formed),
@@ -80,9 +80,9 @@ impl Links {
 
     /// Where to look next for an entry of the track of the one at a place.
     pub(crate) fn forth(&self, formed: &Formed, place: u32) -> u32
-        requires linked { AreLinked (heads formed.now) self.now }
+        requires linked { AreEntriesLinked (heads formed.now) self.now }
         requires within { place < length formed.now.entries }
-        ensures { GoesForth (heads formed.now) place result }
+        ensures { LeadsForth (heads formed.now) place result }
     {
         if place < LINKED as u32 {
             u32::from(self.forth[place as usize])
@@ -93,10 +93,10 @@ impl Links {
 
     /// Where to look before it. It is one of the linked entries.
     pub(crate) fn back(&self, formed: &Formed, place: u32) -> Option<u32>
-        requires linked { AreLinked (heads formed.now) self.now }
+        requires linked { AreEntriesLinked (heads formed.now) self.now }
         requires within { place < length formed.now.entries }
         requires low { place < LINKED }
-        ensures { GoesBack (heads formed.now) place result }
+        ensures { LeadsBack (heads formed.now) place result }
     {
         match self.back[place as usize] {
             0 => None,

@@ -6,7 +6,7 @@ ghost use Rattle.std.specs.List.{list_any};
 ghost use Rattle.pair_table.specs.Tables.{AreRowsSound};
 ghost use Rattle.image_former.specs.Entries.{is_row_of, row_device};
 ghost use Rattle.image_former.specs.Jobs.{is_job_of};
-ghost use Rattle.image_former.specs.Links.{AreLinked};
+ghost use Rattle.image_former.specs.Links.{AreEntriesLinked};
 ghost use Rattle.image_former.specs.Steps.{is_beside, same_track};
 ghost use Rattle.pending_queue.specs.Groups.{heads};
 
@@ -71,7 +71,7 @@ fn has_any_before(formed: &Formed, head: EntryHead, place: u32) -> bool
 
 /// The same by the links from the place of the head back.
 fn has_linked_before(formed: &Formed, links: &Links, head: EntryHead, place: u32) -> bool
-    requires linked { AreLinked (heads formed.now) links.now }
+    requires linked { AreEntriesLinked (heads formed.now) links.now }
     requires head { slice_get (heads formed.now) place ≡ Some head }
     requires within { place < length formed.now.entries }
     requires low { place < LINKED }
@@ -89,7 +89,7 @@ fn has_linked_before(formed: &Formed, links: &Links, head: EntryHead, place: u32
 
 /// Whether an entry before the place of a head is on its track.
 pub(crate) fn has_earlier(formed: &Formed, links: &Links, head: EntryHead, place: u32) -> bool
-    requires linked { AreLinked (heads formed.now) links.now }
+    requires linked { AreEntriesLinked (heads formed.now) links.now }
     requires head { slice_get (heads formed.now) place ≡ Some head }
     requires within { place < length formed.now.entries }
     ensures { result ≡ list_any (is_beside head) (take place formed.now.entries) }

@@ -4,7 +4,7 @@ ghost use Rattle.std.specs.Prelude.{◌≡◌, ◌<◌, ◌≤◌, ℕ, List, []
 ghost use Rattle.ckd_track.specs.declared.rec.Rec.{Rec};
 ghost use Rattle.ckd_track.specs.SlotPlaces.{slot_end, slot_track};
 ghost use Rattle.pending_queue.specs.Groups.{heads};
-ghost use Rattle.image_former.specs.Links.{AreLinked};
+ghost use Rattle.image_former.specs.Links.{AreEntriesLinked};
 ghost use Rattle.image_former.specs.Steps.{StartsFromTrack, DoesEntries, Goes, HoldsSlot, OfBytes, Reads};
 
 use crate::links::Links;
@@ -65,7 +65,7 @@ fn read_job<D: Disk>(job: &mut VolumeJob<D>, track: u32) -> Result<(), Failed>
 
 /// Does to a track what the entry of this head at this place does, and those after it on the same track.
 fn apply_entries(formed: &Formed, links: &Links, head: EntryHead, place: u32, slot: &mut Slot)
-    requires linked { AreLinked (heads formed.now) links.now }
+    requires linked { AreEntriesLinked (heads formed.now) links.now }
     requires within { place < length formed.now.entries }
     requires head { slice_get (heads formed.now) place ≡ Some head }
     ensures { (old : Option (List Rec)) → StartsFromTrack head old slot.old → DoesEntries head place formed.now.entries old slot.new }
@@ -89,7 +89,7 @@ pub(crate) fn form_track<D: Disk>(
     place: u32,
     job: &mut VolumeJob<D>,
 ) -> Result<(), Failed>
-    requires linked { AreLinked (heads formed.now) links.now }
+    requires linked { AreEntriesLinked (heads formed.now) links.now }
     requires within { place < length formed.now.entries }
     requires head { slice_get (heads formed.now) place ≡ Some head }
     requires sound { job.old.failed ≡ false }

@@ -1,7 +1,7 @@
 -- Breaks of controllers without a live row change no row. So each break whose time has passed may be named among the changes of the group
 -- that reported it.
 use Rattle.std.proofs.Common.{◌≡◌, ◌⊎◌, inl, inr, ℕ, zero, suc, ◌+◌, ◌<◌, ◌≤◌, Bool, true, false, cond, not, nat_eq, nat_lt, nat_le, ◌&&◌, ◌||◌, List, [], ◌∷◌, ◌++◌, map, Option, Some, None, refl, sym, ap, subst, ◌∙◌, arith, add-one, true≢false}
-use Rattle.std.specs.List.{list_all, list_any}
+use Rattle.std.specs.List.{list_any}
 use Rattle.std.proofs.lemmas.Bool.{and_parts, and_from, eq-eqb, eqb-true, leb-true, le-leb, ltb-true, lt-ltb, or_left, or_right}
 use Rattle.std.proofs.lemmas.List.Folds.{list_any-append}
 use Rattle.pair_table.specs.declared.level.Level.{Level}
@@ -15,13 +15,13 @@ use Rattle.row_changes.specs.Changes.Due.{NoneDue}
 use Rattle.row_changes.specs.Changes.RowChange.{Break}
 use Rattle.row_changes.specs.Spans.{all_broke, breaks_control, hit_count, lies_in}
 use Rattle.record_rows.specs.Deeds.{Deed, rows_by_deed}
-use Rattle.record_rows.specs.Deeds.Deed.{Logged, Changed, Marked}
+use Rattle.record_rows.specs.Deeds.Deed.{Logged}
 use Rattle.record_rows.specs.ToldRows.{due_after_changes}
 use Rattle.record_rows.proofs.Composing.{changes_in_a_row}
 use Rattle.site_store.specs.DeedChanges.{DeedOfChanges, changes_of, deeds_of}
 use Rattle.consistency.specs.Leads.{Comes}
 use Rattle.consistency.specs.Ways.{are_at_time}
-use Rattle.mover.specs.SilentBreaks.{all_silent, breaking_at, has_none_live, silent_at, silent_from, silent_of, with_silent}
+use Rattle.mover.specs.SilentBreaks.{all_silent, breaking_at, has_none_live, silent_at, silent_from, silent_of}
 use Rattle.fed_logs.specs.LogLaws.{ReportsBreak}
 use Rattle.fed_logs.specs.LogLaws.ReportsBreak.{Now, Later}
 use Rattle.fed_logs.specs.Moves.{HasRowIn, IsLive, MayFollow, is_break_of_control}

@@ -1,5 +1,5 @@
 -- After an epoch for a line that reached its limit, a session has again what an epoch begins with.
-use Rattle.std.proofs.Common.{◌≡◌, inl, inr, ℕ, suc, ◌+◌, ◌<◌, ◌≤◌, nat_eq, nat_lt, ◌&&◌, ◌||◌, not, Bool, true, false, List, [], ◌∷◌, ◌++◌, length, take, Option, None, refl, sym, ap, subst, ◌∙◌, arith, append-nil, append_assoc, true≢false}
+use Rattle.std.proofs.Common.{◌≡◌, inl, inr, ℕ, ◌+◌, ◌<◌, ◌≤◌, nat_eq, nat_lt, ◌&&◌, ◌||◌, not, Bool, true, false, List, [], ◌∷◌, ◌++◌, length, take, Option, None, refl, sym, ap, subst, ◌∙◌, arith, append-nil, append_assoc, true≢false}
 use Rattle.std.specs.Prelude.{fold}
 use Rattle.std.specs.List.{list_all}
 use Rattle.std.proofs.lemmas.Bool.{and_from, and_parts, cases_Bool, eqb-true, lt-ltb, ltb-true}
@@ -8,7 +8,7 @@ use Rattle.std.proofs.lemmas.List.Folds.{list_all-append}
 use Rattle.crash_plant.specs.declared.device.Device.{Device}
 use Rattle.crash_plant.specs.declared.device.Device.TheVariants.{Volume}
 use Rattle.crash_plant.specs.Calls.{IsThere}
-use Rattle.crash_plant.specs.Choices.{AtNow, Choice, IsChoice}
+use Rattle.crash_plant.specs.Choices.{AtNow}
 use Rattle.crash_plant.specs.Moments.{PlantState}
 use Rattle.pair_table.specs.declared.level.Level.{Level}
 use Rattle.pair_table.specs.declared.row.PairRow.{PairRow}
@@ -34,7 +34,7 @@ use Rattle.fed_logs.proofs.Bearing.{reached_holds}
 use Rattle.fed_logs.proofs.ShownBreaks.{logs_break_as_traces}
 use Rattle.consistency.specs.Bearing.{ShowsPoint}
 use Rattle.consistency.specs.Leads.{Point}
-use Rattle.consistency.specs.Ways.{IsLegOf, Leg, MayTakeEffect, PassedPoint, hits_of_leg, leg_after, leg_to}
+use Rattle.consistency.specs.Ways.{IsLegOf, Leg, hits_of_leg, leg_after, leg_to}
 use Rattle.mover.specs.Points.{point_after_deeds, point_by, points_by}
 use Rattle.mover.specs.SilentBreaks.{all_silent, with_silent}
 use Rattle.mover.specs.OwedTracks.{CarriedAsLive, FailedAreOwed, held_by_choice}

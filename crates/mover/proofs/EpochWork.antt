@@ -1,5 +1,5 @@
 -- An epoch for a line as work for the line: what a session has before it is what the work begins with, so each of its moments bears.
-use Rattle.std.proofs.Common.{◌≡◌, ◌⊎◌, inl, inr, ℕ, suc, ◌<◌, ◌≤◌, true, false, List, length, take, Option, Some, refl, sym, ap, subst, ◌∙◌, arith}
+use Rattle.std.proofs.Common.{◌≡◌, ◌⊎◌, inl, inr, ℕ, suc, ◌<◌, ◌≤◌, true, List, length, take, Option, Some, refl, sym, ap, subst, ◌∙◌, arith}
 use Rattle.std.proofs.lemmas.Bool.{cases_lt}
 use Rattle.std.proofs.lemmas.List.{take_all}
 use Rattle.crash_plant.specs.Choices.{Choice, IsChoice}
@@ -10,7 +10,7 @@ use Rattle.group_state.specs.Groups.{Group}
 use Rattle.group_state.specs.Runs.{Answer}
 use Rattle.record_rows.specs.Deeds.{Deed}
 use Rattle.record_rows.proofs.Counting.{counts_append}
-use Rattle.site_means.specs.Images.{Shape, shape_of}
+use Rattle.site_means.specs.Images.{Shape}
 use Rattle.site_means.proofs.Goes.{shape_same}
 use Rattle.xrc_command.specs.declared.line.Line.{Line}
 use Rattle.site_store.specs.DeedChanges.{DeedOfChanges, changes_of, deeds_of}
@@ -33,7 +33,7 @@ use Rattle.site_store.specs.Sites.{SiteState}
 use Rattle.mover.specs.declared.ends.EpochEnd.{EpochEnd}
 use Rattle.mover.specs.declared.lane.Lane.{Lane}
 use Rattle.mover.specs.Moves.{KnowsDuplex}
-use Rattle.mover.specs.Epochs.{AreStepsOf, point_of}
+use Rattle.mover.specs.Epochs.{AreStepsOf}
 use Rattle.mover.specs.Bearing.{BearsSome, BearsAtEachMoment, EpochsBear, IsEpochOf, RunSoFar}
 use Rattle.mover.proofs.LogParts.{up_to_limit}
 

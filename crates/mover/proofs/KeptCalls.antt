@@ -17,7 +17,7 @@ use Rattle.group_state.specs.Machine.Call.{Join, NextWanted, Copied, Raise, Brea
 use Rattle.group_state.specs.Runs.{Answer, shown_by}
 use Rattle.record_rows.specs.Deeds.{Deed}
 use Rattle.record_rows.specs.Deeds.Deed.{Logged, Changed, Marked}
-use Rattle.pair_table.specs.States.{is_by_device, is_device_suspended}
+use Rattle.pair_table.specs.States.{is_by_device}
 use Rattle.fed_logs.specs.Moves.{AreQuiet, HasRowIn, IsDuplex, Plans, plans_with_shown, plans_without, Following, KeepsShown, KeepsCall, MakesDeeds, MakesAllDeeds}
 use Rattle.mover.specs.Dropping.{VolumeDrop, are_states_of, answer_of_drop, drop_of, drops_from, owes_since}
 use Rattle.mover.specs.Moves.{KeepPairs, KeepsPair, KnowsDuplex}

@@ -1,5 +1,5 @@
 -- How many numbers the calls of a site use up, one by one and in turn.
-use Rattle.std.proofs.Common.{◌≡◌, ◌≢◌, ◌⊎◌, inl, inr, ℕ, ◌+◌, ◌*◌, ◌≤◌, ◌<◌, Bool, true, nat_eq, nat_le, not, List, [], ◌∷◌, ◌++◌, map, Result, Ok, Err, refl, sym, ap, subst, ◌∙◌, arith, true≢false, OnOk}
+use Rattle.std.proofs.Common.{◌≡◌, ◌≢◌, ◌⊎◌, inl, inr, ℕ, ◌+◌, ◌*◌, ◌≤◌, ◌<◌, Bool, true, nat_eq, nat_le, not, List, [], ◌∷◌, ◌++◌, map, Result, Ok, Err, refl, sym, ap, subst, ◌∙◌, arith, true≢false}
 use Rattle.std.specs.Prelude.{IsOk}
 use Rattle.std.specs.List.{list_all}
 use Rattle.std.proofs.lemmas.Bool.{eqb-true, leb-true, ltb-true, or_cases}
@@ -20,10 +20,10 @@ use Rattle.site_store.specs.Marking.{Marks, rows_at_mark}
 use Rattle.site_store.specs.Records.{after_mark}
 use Rattle.site_store.specs.Sites.{SiteState}
 use Rattle.site_store.specs.Placements.{is_spent, is_suspension_spent, most}
-use Rattle.site_store.proofs.ByPlacements.{RecordPlacement, by_placements, placement_here, placement_marked, placement_switched}
+use Rattle.site_store.proofs.ByPlacements.{RecordPlacement, by_placements}
 use Rattle.mover.specs.Dropping.{MakesDrops, VolumeDrop, answer_of_drop}
 use Rattle.mover.specs.Numbers.{FormsUse, UsesNumbers, UsesNumbersOf, UsesUpTo, forms_among, is_form}
-use Rattle.mover.proofs.MoverCalls.{FormsGroup, form_answer}
+use Rattle.mover.proofs.MoverCalls.{FormsGroup}
 use Rattle.mover.proofs.MovedOn.{answers_append, on_ok}
 
 -- ---- in turn

@@ -1,5 +1,5 @@
 -- After deeds whose rows come by changes each row's pair is that of the row in its place before.
-use Rattle.std.proofs.Common.{◌==◌, ℕ, Bool, true, false, cond, List, [], ◌∷◌, map, refl, sym, subst}
+use Rattle.std.proofs.Common.{◌==◌, ℕ, List, [], ◌∷◌, map, refl, sym, subst}
 use Rattle.pair_table.specs.declared.level.Level.{Level}
 use Rattle.pair_table.specs.declared.row.PairRow.{PairRow}
 use Rattle.row_changes.specs.Changes.{FaultReach, Timed, after_change, after_changes, reach_of, row_after_change}

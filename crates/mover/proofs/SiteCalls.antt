@@ -53,7 +53,7 @@ use Rattle.site_store.proofs.ByPlacements.{RecordPlacement, by_placements, place
 use Rattle.mover.specs.Steps.{AreMade}
 use Rattle.mover.specs.Moves.{Fades, SessionGoesOn, IsOfMover, KeepPairs, KeepsPair, MoverWorks, SiteMoved, is_device_of_row, is_mark_due, is_worked_on, most_faults, untold_hits}
 use Rattle.mover.proofs.InSlots.{slots_applied, slots_at_rest, slots_stay}
-use Rattle.mover.proofs.SamePairs.{apart_still, each_mapped, each_more, each_self, fade_pair, fade_self, fewer_of, gone_then, same_pair, still_self}
+use Rattle.mover.proofs.SamePairs.{apart_still, each_mapped, each_more, fade_pair, fade_self, fewer_of, gone_then, same_pair, still_self}
 use Rattle.mover.proofs.Making.{hits_made, mark_made}
 use Rattle.mover.proofs.MovedOn.{in_rows_alone, on_both, on_ok}
 use Rattle.mover.proofs.SpentSites.{mark_spent, suspend_spent}

@@ -17,7 +17,7 @@ use Rattle.mover.specs.Epochs.{EpochRun, IsAtTime, IsSamePair, ReachedBy}
 use Rattle.mover.specs.Moves.{MoverWorks}
 use Rattle.xrc_session.proofs.JoinsLanes.{named_volumes_stay}
 use Rattle.xrc_session.proofs.JoinsLogs.{epochs_rest}
-use Rattle.mover_tests.specs.Courses.{MayCommandCourse, MayGoTo}
+use Rattle.mover_tests.specs.Courses.{MayGoTo}
 use Rattle.mover_tests.proofs.Homes.{labels_still}
 
 -- What holds of a row in whatever state holds of the rows after an epoch.

@@ -1,11 +1,10 @@
 -- A command's change that is logged and taken over leaves that the session rests at the time at which it rested.
-use Rattle.std.proofs.Common.{◌≡◌, ℕ, zero, suc, ◌+◌, ◌<◌, ◌≤◌, nat_eq, Bool, true, false, ◌&&◌, List, [], ◌∷◌, ◌++◌, length, take, slice_get, Option, Some, None, Ok, refl, sym, ap, subst, ◌∙◌, arith}
+use Rattle.std.proofs.Common.{◌≡◌, ℕ, zero, suc, ◌+◌, ◌<◌, ◌≤◌, nat_eq, Bool, true, ◌&&◌, List, [], ◌∷◌, ◌++◌, length, take, slice_get, Option, Some, None, Ok, refl, sym, ap, subst, ◌∙◌, arith}
 use Rattle.std.specs.Prelude.{IsSomeAnd, bytes_eq, slice_index_or}
-use Rattle.std.specs.List.{Contains, list_all}
+use Rattle.std.specs.List.{list_all}
 use Rattle.std.proofs.lemmas.Bool.{and_parts, eqb-true}
 use Rattle.std.proofs.lemmas.List.Sums.{AllPass-from_list_all}
 use Rattle.std.proofs.lemmas.Option.{same_Some}
-use Rattle.tod_stamp.specs.declared.stamp.Stamp.{Stamp}
 use Rattle.crash_plant.specs.Calls.{SameSite}
 use Rattle.crash_plant.specs.Moments.{PlantState}
 use Rattle.sidefile.specs.declared.hand.Halt.{Halt}
@@ -13,7 +12,6 @@ use Rattle.sidefile.specs.declared.hand.Halt.TheVariants as halts
 use Rattle.sidefile.specs.Halts.{broken_in}
 use Rattle.pair_table.specs.declared.command.Change.{Change}
 use Rattle.pair_table.specs.declared.command.Command.{Command}
-use Rattle.pair_table.specs.declared.level.Level.{Level}
 use Rattle.pair_table.specs.declared.row.PairRow.{PairRow}
 use Rattle.pair_table.specs.Commands.{has_named_primary, is_volume_of}
 use Rattle.pair_table.specs.Naming.{Naming}
@@ -42,7 +40,7 @@ use Rattle.xrc_session.proofs.JoinsCommands.{rests_after}
 use Rattle.xrc_session.proofs.JoinsRows.{some_of}
 use Rattle.xrc_session.proofs.RestingSites.{commands_come_after_changes, commands_may_be_logged, idle_after_changes, told_after_changes, told_after_commands}
 use Rattle.mover_tests.specs.Commands.{IsCommandAnswered}
-use Rattle.mover_tests.specs.Courses.{AreAtLimit, AreUnbroken, MayCommandCourse, MayGoTo}
+use Rattle.mover_tests.specs.Courses.{AreAtLimit, AreUnbroken, MayGoTo}
 use Rattle.mover_tests.proofs.Homes.{labels_still}
 use Rattle.mover_tests.proofs.Opening.{named_within, some_lane}
 

@@ -1,5 +1,5 @@
 -- A new session may go to the time of its start, and what may go to a limit may go to a later one.
-use Rattle.std.proofs.Common.{◌≡◌, inl, inr, ◌+◌, ◌-◌, ◌*◌, ◌<◌, ◌≤◌, ℕ, zero, suc, Bool, true, false, nat_lt, nat_le, ◌&&◌, List, [], ◌∷◌, ◌++◌, drop, length, map, take, replicate, Option, Some, None, Result, Ok, refl, sym, ap, ◌∙◌, subst, arith, true≢false}
+use Rattle.std.proofs.Common.{◌≡◌, inl, ◌+◌, ◌-◌, ◌*◌, ◌<◌, ◌≤◌, ℕ, zero, suc, true, false, nat_lt, ◌&&◌, List, [], ◌∷◌, ◌++◌, drop, length, map, take, replicate, Option, Some, None, Result, Ok, refl, sym, ap, ◌∙◌, subst, arith, true≢false}
 use Rattle.std.specs.Prelude.{IfOk, IsSomeAnd, IsTrue, slice_index_or}
 use Rattle.std.specs.List.{Contains, list_all}
 use Rattle.std.proofs.Math.Seq.{take-append_seam}
@@ -10,7 +10,6 @@ use Rattle.crash_plant.specs.Calls.{SameSite}
 use Rattle.crash_plant.specs.Moments.{PlantState}
 use Rattle.pair_table.specs.declared.level.Level.{Level}
 use Rattle.pair_table.specs.declared.names.NamedDevice.{NamedDevice}
-use Rattle.pair_table.specs.declared.row.PairRow.{PairRow}
 use Rattle.pair_table.specs.Naming.{Naming}
 use Rattle.xrc_edge.specs.declared.limits.TheConstants.{MOST_CONTROLS}
 use Rattle.tod_stamp.specs.declared.stamp.Stamp.{Stamp}
@@ -38,7 +37,7 @@ use Rattle.mover.specs.Epochs.{MayBeginEpoch}
 use Rattle.mover.specs.OwedTracks.{is_volume_kept}
 use Rattle.mover.proofs.Copying.{kept_within}
 use Rattle.xrc_session.specs.Taking.{IsSoundForRows}
-use Rattle.mover_tests.specs.Courses.{AreNewLanes, AreOpened, IsNewReader, MayCommandCourse, MayGoTo}
+use Rattle.mover_tests.specs.Courses.{AreNewLanes, AreOpened, IsNewReader, MayGoTo}
 use Rattle.mover_tests.proofs.Homes.{labels_still}
 
 -- ---- new lanes

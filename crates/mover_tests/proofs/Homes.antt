@@ -1,5 +1,5 @@
 -- What calls leave of a plant for the next ones: no volume is lent, and a site stands after what is said.
-use Rattle.std.proofs.Common.{◌≡◌, ◌∙◌, ◌+◌, ◌*◌, ℕ, Bool, true, false, nat_lt, nat_le, ◌&&◌, List, [], ◌∷◌, length, Result, Ok, Err, refl, sym, ap, arith}
+use Rattle.std.proofs.Common.{◌≡◌, ◌∙◌, ◌+◌, ◌*◌, ℕ, nat_lt, nat_le, ◌&&◌, List, [], ◌∷◌, length, Result, Ok, Err, refl, ap, arith}
 use Rattle.std.specs.Prelude.{OnOk}
 use Rattle.std.specs.List.{list_all}
 use Rattle.crash_plant.specs.declared.device.Device.{Device}
@@ -11,13 +11,12 @@ use Rattle.pair_table.specs.Naming.{Naming}
 use Rattle.group_state.specs.Groups.{Group}
 use Rattle.site_store.specs.Commands.{LabelsFit, label_has_volume}
 use Rattle.site_store.specs.Sites.{SiteState}
-use Rattle.site_store.specs.Standing.{FitsPlant, MayRecord, SiteStands}
+use Rattle.site_store.specs.Standing.{MayRecord, SiteStands}
 use Rattle.site_store.specs.Exceptions.{Exceptions}
 use Rattle.site_store.proofs.LogReads.{fits_still, stands_read}
 use Rattle.mover.specs.declared.lane.Lane.{Lane}
-use Rattle.mover.specs.Epochs.{MayBeginEpoch}
 use Rattle.xrecover.specs.Works.{Works}
-use Rattle.mover_tests.specs.Courses.{MayCommandCourse, MayGoTo}
+use Rattle.mover_tests.specs.Courses.{MayGoTo}
 
 pub works_home : (tells : Type 0) (step : Device → List ℕ → List ℕ → Type 0) (old new : PlantState) → Works tells step old new → NoneLent old → NoneLent new
 works_home tells step old new works home = works.home home

@@ -1,7 +1,7 @@
 -- Each call of a reader, and each form, leaves what controllers have reported.
 use Rattle.std.proofs.Common.{◌≡◌, ℕ, ◌+◌, ◌-◌, ◌*◌, ◌≤◌, ◌<◌, Bool, true, false, cond, nat_lt, nat_le, ◌&&◌, List, [], ◌∷◌, length, map, Option, Some, None, refl, sym, ap, subst, ◌∙◌, arith, length-set}
 use Rattle.std.specs.Prelude.{IsSomeAnd, slice_index_or, slice_set, replicate}
-use Rattle.std.specs.List.{Contains, list_all}
+use Rattle.std.specs.List.{list_all}
 use Rattle.std.proofs.lemmas.Bool.{and_parts, eqb-false, eqb-true, leb-true, ltb-true, lt-ltb}
 use Rattle.std.proofs.lemmas.List.{get_or-replicate, get_or-set_same, get_or-set_other, get_or-map, length-map, length-replicate}
 use Rattle.std.proofs.lemmas.List.Sums.{AllPass-from_list_all}
@@ -22,7 +22,7 @@ use Rattle.group_state.specs.declared.phase.Phase.TheVariants.{Unbroken, Broken,
 use Rattle.group_state.specs.declared.volume.Volume.{Volume}
 use Rattle.group_state.specs.Calls.{is_by_seat}
 use Rattle.group_state.specs.Controls.{ControlState, copied, fits, fits_track, formed, is_reporting, joined, new_control, phase_after, room_of}
-use Rattle.group_state.specs.Groups.{Group, Shown, control_at, cut_of, formed_at, gives_nothing, shown_at, shown_in, with_control}
+use Rattle.group_state.specs.Groups.{Group, Shown, control_at, cut_of, gives_nothing, shown_at, shown_in, with_control}
 use Rattle.group_state.specs.Machine.{Call, Reply, group_after, reply_to, steps}
 use Rattle.group_state.specs.Machine.Call.{Copied, Form, Join}
 use Rattle.group_state.specs.Machine.Reply.{Formed, Held, Joined, Nothing}

@@ -1,5 +1,5 @@
 -- Sessions between two epochs, and the lanes with which they begin.
-use Rattle.std.specs.Prelude.{◌≡◌, ℕ, ◌<◌, List, length, Option, None, IsSomeAnd, slice_index_or}
+use Rattle.std.specs.Prelude.{◌≡◌, ℕ, ◌<◌, List, length, None, IsSomeAnd, slice_index_or}
 use Rattle.std.specs.List.{Contains}
 use Rattle.crash_plant.specs.Moments.{PlantState}
 use Rattle.write_trace.specs.declared.header.VolumeHead.{VolumeHead}

@@ -3,6 +3,7 @@
 ghost use Rattle.std.specs.Prelude.{◌≡◌, ◌≤◌, find, length, OnOk};
 ghost use Rattle.std.specs.List.{All};
 ghost use Rattle.crash_plant.specs.Calls.{NoneLent};
+ghost use Rattle.std.specs.Option.{option_copied};
 ghost use Rattle.image_former.specs.Entries.{is_row_of};
 ghost use Rattle.site_store.specs.IdleSites.{IsSiteIdle, IsSiteLogged};
 ghost use Rattle.site_store.specs.Logging.{IsOfSomeRow};
@@ -167,26 +168,11 @@ pub(crate) fn stepping<S: Drop, P: Plant>(
     (shared, site)
 }
 
-/// Whether a row is that of an entry.
-fn is_row_of(head: EntryHead, row: &PairRow) -> bool
-    ensures { result ≡ is_row_of head row.now }
-{
-    row.control == head.control && row.volume == head.volume
-}
-
 /// The row of an entry.
-fn row_of_entry(table: &PairTable, head: EntryHead) -> Option<PairRow>
-    ensures { result ≡ find (is_row_of head) table.now.rows }
+fn row_of_entry(table: &PairTable, head: EntryHead) -> Option<&PairRow>
+    ensures { option_copied result ≡ find (is_row_of head) table.now.rows }
 {
-    for place in 0..table.len() {
-        let Some(row) = table.row(place) else {
-            unreachable!()
-        };
-        if is_row_of(head, row) {
-            return Some(*row);
-        }
-    }
-    None
+    table.rows().iter().find(|row| row.control == head.control && row.volume == head.volume)
 }
 
 /// Each entry is of a row, on a track of its cylinders.

@@ -10,10 +10,10 @@ use Rattle.crash_plant.specs.Moments.{PlantState, on, Follows, IsDurable, Same}
 use Rattle.crash_plant.specs.Calls.{WorksOn}
 use Rattle.crash_plant.proofs.Choices.{device_cases}
 use Rattle.crash_plant.proofs.Steps.{follows_here, follows_then, works_on_here, works_on_more, works_on_trans}
-use Rattle.site_means.specs.Answers.{FaultsAreCounted, IsExamined, ReadsAll}
+use Rattle.site_means.specs.Answers.{FaultsAreCounted, IsStore, ReadsAll}
 
 -- a call on one device
-pub reads_one : (tells : Type 0) (d : Device) (old new : PlantState) → IsExamined d → (tells → new.bytes d ≡ old.bytes d) → (tells → Follows Same (on old d) (on new d)) → WorksOn tells (λ e. e ≡ d) old new → ReadsAll tells old new
+pub reads_one : (tells : Type 0) (d : Device) (old new : PlantState) → IsStore d → (tells → new.bytes d ≡ old.bytes d) → (tells → Follows Same (on old d) (on new d)) → WorksOn tells (λ e. e ≡ d) old new → ReadsAll tells old new
 reads_one tells d old new is same moments only = record {
   same = λ told e. elim (device_cases e d) [
     | inl here ↦ subst (λ (f : Device). new.bytes f ≡ old.bytes f) (sym here) (same told)
@@ -23,13 +23,13 @@ reads_one tells d old new is same moments only = record {
     | inl here ↦ subst (λ (f : Device). Follows Same (on old f) (on new f)) (sym here) (moments told)
     | inr other ↦ (only.others told e other).images
   ];
-  only = works_on_more tells (λ e. e ≡ d) IsExamined old new (λ e here. subst (λ (f : Device). IsExamined f) (sym here) is) only;
+  only = works_on_more tells (λ e. e ≡ d) IsStore old new (λ e here. subst (λ (f : Device). IsStore f) (sym here) is) only;
 }
 
 -- no call
 pub reads_none : (tells : Type 0) (a : PlantState) → ReadsAll tells a a
 reads_none tells a =
-    let here = works_on_here tells IsExamined a in
+    let here = works_on_here tells IsStore a in
     record { same = λ told d i. a.bytes d; moments = λ told d. follows_here (on a d) Same (λ b now i. b); only = here }
 
 -- two calls
@@ -37,7 +37,7 @@ pub reads_then : (tells : Type 0) (a b c : PlantState) → ReadsAll tells a b �
 reads_then tells a b c x y = record {
   same = λ told d. y.same told d ∙ x.same told d;
   moments = λ told d. follows_then (on a d) (on b d) (on c d) Same Same Same ((x.only.elapses told).kept d).later (x.moments told d) ((y.only.elapses told).kept d) (y.moments told d) (λ p q here e. e) (λ p q r here there e f. f ∙ e);
-  only = works_on_trans tells IsExamined a b c x.only y.only;
+  only = works_on_trans tells IsStore a b c x.only y.only;
 }
 
 -- What is durable stays so.

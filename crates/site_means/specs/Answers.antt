@@ -87,7 +87,7 @@ pub record IsRead (plant : PlantState) (r : SiteReading) : Type 0 where
   pub end : r.end ≡ walk.at
 
 -- whatever reads gave
-pub record IsOfMark (m : Mark) (r : SiteReading) : Type 0 where
+pub record IsReadingOf (m : Mark) (r : SiteReading) : Type 0 where
   pub same : r.mark ≡ m
   pub from : r.means.from ≡ m.at
 
@@ -154,15 +154,15 @@ WhereTold (Err (TooSmall d needed)) so = Unit {0}
 WhereTold (Err NoMemory) so = Unit {0}
 
 -- the control, the state and the journals
-abbrev pub IsExamined : Device → Type 0
-IsExamined Control = Unit {0}
-IsExamined State = Unit {0}
-IsExamined (Journal j) = Unit {0}
-IsExamined (Volume v) = ⊥
+abbrev pub IsStore : Device → Type 0
+IsStore Control = Unit {0}
+IsStore State = Unit {0}
+IsStore (Journal j) = Unit {0}
+IsStore (Volume v) = ⊥
 
 -- What reads give stays, a crash leaves nothing that it couldn't leave before, and no count changes but those of the devices that
 -- are read.
 pub record ReadsAll (tells : Type 0) (old new : PlantState) : Type 0 where
   pub same : tells → (d : Device) → new.bytes d ≡ old.bytes d
   pub moments : tells → (d : Device) → Follows Same (on old d) (on new d)
-  pub only : WorksOn tells IsExamined old new
+  pub only : WorksOn tells IsStore old new

@@ -12,7 +12,7 @@ ghost use Rattle.state_set.specs.Slots.{started_table};
 ghost use Rattle.site_means.specs.declared.site_error.SiteError.{SiteError as SiteErrorValue};
 ghost use Rattle.site_means.specs.declared.site_error.SiteError.TheVariants.{Fault, TooSmall};
 ghost use Rattle.site_means.specs.Meaning.{meaning};
-ghost use Rattle.site_means.specs.Answers.{FaultsAreCounted, HasSpot, IsChosen, IsExamined, IsInTurn, IsOfControl, IsOfMark, IsOfState, IsRead, IsStored, ReadsAll, RestDurable, AnswersMeaning, TellsMeaning, WhereTold, first_short, need};
+ghost use Rattle.site_means.specs.Answers.{FaultsAreCounted, HasSpot, IsChosen, IsStore, IsInTurn, IsOfControl, IsReadingOf, IsOfState, IsRead, IsStored, ReadsAll, RestDurable, AnswersMeaning, TellsMeaning, WhereTold, first_short, need};
 
 use crate::lengths::{first_short, longest_body, need};
 use crate::reading::{FirstRead, SiteReading, settle};
@@ -143,12 +143,12 @@ fn read_journals<P: Plant>(
         → IsStored (P.state plant.old) mark.now level table.rows
         → AnswersMeaning (λ reading. IsRead (P.state plant.old) reading) (meaning (P.state plant.old) (P.state plant.old).bytes) result }
     // Whatever reads gave, the mark is this one, with its spot, and the devices of the rows are the plant's.
-    ensures mark { IfOk result (λ reading. IsOfMark mark.now reading) }
+    ensures mark { IfOk result (λ reading. IsReadingOf mark.now reading) }
     ensures below { IfOk result (λ reading. IsTrue (are_below (P.state plant.old).volumes reading.means.table.rows)) }
     ensures reached { P.tells → IsChosen (P.state plant.old) mark.now
         → IsStored (P.state plant.old) mark.now level table.rows
         → (d : AnyDevice) → IsErrOf result (Fault d) → IsInTurn (P.state plant.old) d }
-    ensures examined { (d : AnyDevice) → IsErrOf result (Fault d) → IsExamined d }
+    ensures examined { (d : AnyDevice) → IsErrOf result (Fault d) → IsStore d }
     ensures short { (d : AnyDevice) (needed : ℕ) → ¬ IsErrOf result (TooSmall d needed) }
     // After syncs, whatever is told of the journals lasts.
     ensures durable { P.tells → first ≡ Synced → IsChosen (P.state plant.old) mark.now
@@ -179,10 +179,10 @@ pub fn read_from_mark<P: Plant>(
     requires spot { HasSpot (P.state plant.old) mark.now.at }
     ensures says { P.tells → IsChosen (P.state plant.old) mark.now → AnswersMeaning (λ reading. IsRead (P.state plant.old) reading) (meaning (P.state plant.old) (P.state plant.old).bytes) result }
     // Whatever reads gave, the mark is this one, with its spot, and the devices of the rows are the plant's.
-    ensures mark { IfOk result (λ reading. IsOfMark mark.now reading) }
+    ensures mark { IfOk result (λ reading. IsReadingOf mark.now reading) }
     ensures below { IfOk result (λ reading. IsTrue (are_below (P.state plant.old).volumes reading.means.table.rows)) }
     ensures reached { P.tells → IsChosen (P.state plant.old) mark.now → (d : AnyDevice) → IsErrOf result (Fault d) → IsInTurn (P.state plant.old) d }
-    ensures examined { (d : AnyDevice) → IsErrOf result (Fault d) → IsExamined d }
+    ensures examined { (d : AnyDevice) → IsErrOf result (Fault d) → IsStore d }
     ensures short { (d : AnyDevice) (needed : ℕ) → ¬ IsErrOf result (TooSmall d needed) }
     ensures durable { P.tells → first ≡ Synced → IsChosen (P.state plant.old) mark.now → WhereTold result (RestDurable (P.state plant.old) (P.state plant.new)) }
     ensures cause { FaultsAreCounted (P.state plant.old).faults (P.state plant.new).faults result }
@@ -207,7 +207,7 @@ pub fn examine<P: Plant>(alloc: Global, plant: &mut P) -> Result<Means, SiteErro
     ensures from { IfOk result (λ means. HasSpot (P.state plant.old) means.from) }
     // Why it fails, and in which order.
     ensures cause { FaultsAreCounted (P.state plant.old).faults (P.state plant.new).faults result }
-    ensures examined { (d : AnyDevice) → IsErrOf result (Fault d) → IsExamined d }
+    ensures examined { (d : AnyDevice) → IsErrOf result (Fault d) → IsStore d }
     ensures reached { P.tells → (d : AnyDevice) → IsErrOf result (Fault d) → IsInTurn (P.state plant.old) d }
     // What reads give stays, and a crash leaves nothing that it couldn't leave before.
     ensures others { ReadsAll P.tells (P.state plant.old) (P.state plant.new) }

@@ -6,7 +6,7 @@ ghost use Rattle.crash_plant.specs.Calls.{IsThere};
 ghost use Rattle.site_means.specs.declared.reading.FirstRead.TheVariants.{Synced};
 ghost use Rattle.site_means.specs.declared.site_error.SiteError.{SiteError as SiteErrorValue};
 ghost use Rattle.site_means.specs.declared.site_error.SiteError.TheVariants.{Fault};
-ghost use Rattle.site_means.specs.Answers.{FaultsAreCounted, IsExamined, ReadsAll};
+ghost use Rattle.site_means.specs.Answers.{FaultsAreCounted, IsStore, ReadsAll};
 
 use crate::{Means, SiteError};
 use control_set::Mark;
@@ -38,7 +38,7 @@ pub(crate) fn settle<P: Plant>(
     first: FirstRead,
 ) -> Result<(), SiteError>
     requires there { IsThere (P.state plant.old) device }
-    requires examined { IsExamined device }
+    requires examined { IsStore device }
     ensures durable { P.tells → first ≡ Synced → OnOk result (IsDurable (on (P.state plant.new) device)) }
     ensures fault { (e : SiteErrorValue) → IsErrOf result e → e ≡ Fault device }
     ensures cause { FaultsAreCounted (P.state plant.old).faults (P.state plant.new).faults result }

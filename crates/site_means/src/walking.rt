@@ -12,7 +12,7 @@ ghost use Rattle.site_means.specs.declared.site_error.SiteError.TheVariants.{Dam
 ghost use Rattle.site_means.specs.Images.{shape_of};
 ghost use Rattle.site_means.specs.Walk.WalkStep.{Breaks};
 ghost use Rattle.site_means.specs.Walk.{body_place, first_unfit, group_step, has_entered, step, switch_step};
-ghost use Rattle.site_means.specs.Answers.{FaultsAreCounted, IsExamined, ReadsAll, WhereTold};
+ghost use Rattle.site_means.specs.Answers.{FaultsAreCounted, IsStore, ReadsAll, WhereTold};
 ghost use Rattle.site_means.specs.Steps.{AreDurable, BeginsAt, HasEnteredOne, HoldsEveryBody, HavePlaces, IsDamage, OnlyDamage, AnswersStep, AnswersWalk, WalkStands, StandsAtSpot, TakesRows, moved_on, standing_of, walk_of};
 
 use crate::reading::{FirstRead, SiteReading, settle};
@@ -167,7 +167,7 @@ impl Walking {
         ensures stands { OnOk result (WalkStands (P.state plant.new) self.new) }
         ensures room { body.new.room ≡ body.old.room }
         ensures short { (d : AnyDevice) (needed : ℕ) → ¬ IsErrOf result (TooSmall d needed) }
-        ensures examined { (d : AnyDevice) → IsErrOf result (Fault d) → IsExamined d }
+        ensures examined { (d : AnyDevice) → IsErrOf result (Fault d) → IsStore d }
         ensures fails { FaultsAreCounted (P.state plant.old).faults (P.state plant.new).faults result }
         ensures reads { ReadsAll P.tells (P.state plant.old) (P.state plant.new) }
     {
@@ -221,7 +221,7 @@ impl Walking {
         ensures reports { P.tells → AnswersWalk (walk_of (shape_of (P.state plant.old)) (P.state plant.old).bytes self.old) self.old self.new result }
         ensures short { (d : AnyDevice) (needed : ℕ) → ¬ IsErrOf result (TooSmall d needed) }
         ensures durable { P.tells → first ≡ Synced → HasEnteredOne self.old → WhereTold result (AreDurable (P.state plant.new) (walk_of (shape_of (P.state plant.old)) (P.state plant.old).bytes self.old).entered) }
-        ensures examined { (d : AnyDevice) → IsErrOf result (Fault d) → IsExamined d }
+        ensures examined { (d : AnyDevice) → IsErrOf result (Fault d) → IsStore d }
         ensures fails { FaultsAreCounted (P.state plant.old).faults (P.state plant.new).faults result }
         ensures reads { ReadsAll P.tells (P.state plant.old) (P.state plant.new) }
     {

@@ -1,5 +1,5 @@
 -- What each call on a site leaves for the next one, over plain states.
-use Rattle.std.proofs.Common.{◌≡◌, ◌≢◌, ℕ, ◌+◌, ◌*◌, ◌≤◌, ◌<◌, Bool, true, false, nat_lt, nat_le, List, [], ◌∷◌, length, Result, Ok, Err, refl, sym, ap, subst, ◌∙◌, arith}
+use Rattle.std.proofs.Common.{◌≡◌, ◌≢◌, ℕ, ◌+◌, ◌*◌, ◌≤◌, ◌<◌, Bool, false, nat_lt, nat_le, List, [], ◌∷◌, length, Result, Ok, Err, refl, sym, ap, subst, ◌∙◌, arith}
 use Rattle.std.specs.Prelude.{IfOk, OnOk}
 use Rattle.std.proofs.lemmas.Bool.{and_from, le-leb, lt-ltb}
 use Rattle.tod_stamp.specs.declared.stamp.Stamp.{Stamp}
@@ -26,7 +26,7 @@ use Rattle.site_store.specs.Logging.{after_group}
 use Rattle.site_store.specs.Marking.{MayMark}
 use Rattle.site_store.specs.Records.{after_mark, after_record}
 use Rattle.site_store.specs.Sites.{SiteState, new_site}
-use Rattle.site_store.specs.Standing.{FitsPlant, Leaves, SiteStands, StandsFast, none_excepted, row_has_volume}
+use Rattle.site_store.specs.Standing.{FitsPlant, Leaves, SiteStands, StandsFast, none_excepted}
 use Rattle.site_store.proofs.Below.{below_volumes}
 use Rattle.site_store.proofs.Commanded.{changes_may, put_rows_leave}
 use Rattle.site_store.specs.IdleSites.{IsSiteIdle, IsSiteLogged}

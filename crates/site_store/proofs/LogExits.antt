@@ -27,7 +27,7 @@ use Rattle.site_store.specs.declared.store_error.StoreError.TheVariants.{Spent}
 use Rattle.site_store.specs.declared.placement.Placement.{Placement}
 use Rattle.site_store.specs.declared.placement.Placement.TheVariants.{Marked as MarkedFirst}
 use Rattle.site_store.specs.Causes.{FailByCounts, HasStoreCause}
-use Rattle.site_store.specs.Hits.{AreHits, are_some, with_group_and_hits}
+use Rattle.site_store.specs.Hits.{AreHits, with_group_and_hits}
 use Rattle.site_store.specs.Jobs.{body_room}
 use Rattle.site_store.specs.Logging.{FailByEntries, FormsRecord, HasEntryOn, IsOfLog, IsOfSomeRow, LogsBy, LogsGroup, MayLog, StaysUnwritten, rows_before, rows_logged}
 use Rattle.site_store.specs.Marking.{MakesMark, after_next_mark, rows_at_mark}

@@ -14,7 +14,6 @@ use Rattle.pending_queue.specs.Entries.{WaitingEntry}
 use Rattle.pending_queue.specs.Groups.{FormedGroup}
 use Rattle.record_rows.specs.ChangedRows.{rows_in_states}
 use Rattle.record_rows.specs.Records.{rows_after_mark, rows_with_record}
-use Rattle.record_rows.specs.Hits.{rows_marked}
 use Rattle.record_rows.specs.ToldRows.{AreTold}
 use Rattle.record_rows.proofs.Devices.{apart_of}
 use Rattle.record_rows.proofs.Telling.{after_marks_tell, records_tell}
@@ -24,7 +23,7 @@ use Rattle.xrc_journal.specs.Items.{Item, body_spelling}
 use Rattle.xrc_journal.specs.Records.{next_set}
 use Rattle.site_store.specs.declared.hits.Hits.{Hits}
 use Rattle.site_store.specs.declared.placement.Placement.TheVariants.{Here, Switched, Marked}
-use Rattle.site_store.specs.Hits.{AreHits, are_some, with_group_and_hits}
+use Rattle.site_store.specs.Hits.{AreHits, with_group_and_hits}
 use Rattle.site_store.specs.Jobs.{body_room}
 use Rattle.site_store.specs.Logging.{AreItemsOf, FormsRecord}
 use Rattle.site_store.specs.Records.{one_more}

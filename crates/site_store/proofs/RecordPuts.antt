@@ -15,7 +15,7 @@ use Rattle.xrc_journal.specs.Walks.{Logged}
 use Rattle.site_means.specs.declared.means.Means.{Means}
 use Rattle.site_means.specs.Images.{Shape, shape_of}
 use Rattle.site_means.specs.Walk.{Walk}
-use Rattle.site_store.specs.RingPlants.{AllMean, AreDurable, and_switch_for}
+use Rattle.site_store.specs.RingPlants.{AllMean, AreSetsDurable, and_switch_for}
 use Rattle.site_store.specs.Ring.{FitsAfter, ShowsGroup, ShowsSame, ShowsSwitch, and_switch, switched_from}
 use Rattle.site_store.proofs.RingPlants.{group_durable, group_meant, group_shown, switch_durable, switch_shown, switched_group_meant, switched_group_shown}
 use Rattle.site_store.specs.declared.store_error.StoreError.{StoreError}
@@ -67,7 +67,7 @@ pub here_meant : (tells : Type 0) (from at : Spot) (g : Logged) (old new : Plant
 here_meant tells from at g old new puts put means w begins ends all fits =
     group_meant old new means w g puts.works.site all fits (subst (λ (f : Spot). GroupIsPut f w.at g old new) (sym begins) (subst (λ (s : Spot). GroupIsPut from s g old new) (sym ends) put))
 
-pub here_durable : (tells : Type 0) (from at : Spot) (g : Logged) (old new : PlantState) → Grouping tells from at g old new → tells → GroupIsPut from at g old new → (w : Walk) → w.at ≡ at → AreDurable old w.entered → AreDurable new (walk_after_record old.journals Here g w).entered
+pub here_durable : (tells : Type 0) (from at : Spot) (g : Logged) (old new : PlantState) → Grouping tells from at g old new → tells → GroupIsPut from at g old new → (w : Walk) → w.at ≡ at → AreSetsDurable old w.entered → AreSetsDurable new (walk_after_record old.journals Here g w).entered
 here_durable tells from at g old new puts told put w ends all =
     group_durable tells old new from w g told (subst (λ (s : Spot). WorksOn tells (λ d. d ≡ Journal s.set) old new) (sym ends) puts.works) (subst (λ (s : Spot). GroupIsPut from s g old new) (sym ends) put) all
 
@@ -120,7 +120,7 @@ module _ (tells : Type 0) (from at : Spot) (g : Logged) (old mid new : PlantStat
       let is_put : GroupIsPut means.from (switched_from old.journals w) g mid new = subst (λ (f : Spot). GroupIsPut f (switched_from old.journals w) g mid new) (sym begins) (subst (λ (s : Spot). GroupIsPut from (after old.journals s) g mid new) (sym ends) grouped) in
       switched_group_meant old mid new means w g one.works.site two.works.site all fits put is_put
 
-  both_durable : tells → SwitchIsPut from at g.time old mid → GroupIsPut from (after old.journals at) g mid new → (w : Walk) → w.at ≡ at → AreDurable old w.entered → AreDurable new (walk_after_record old.journals Switched g w).entered
+  both_durable : tells → SwitchIsPut from at g.time old mid → GroupIsPut from (after old.journals at) g mid new → (w : Walk) → w.at ≡ at → AreSetsDurable old w.entered → AreSetsDurable new (walk_after_record old.journals Switched g w).entered
   both_durable told switched grouped w ends all =
       let first : WorksOn tells (IsOfSwitch old.journals w.at) old mid = subst (λ (s : Spot). WorksOn tells (IsOfSwitch old.journals s) old mid) (sym ends) one.works in
       let put : SwitchIsPut from w.at g.time old mid = subst (λ (s : Spot). SwitchIsPut from s g.time old mid) (sym ends) switched in

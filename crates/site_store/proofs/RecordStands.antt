@@ -4,7 +4,7 @@ use Rattle.crash_plant.specs.declared.device.Device.TheVariants.{Control, State,
 use Rattle.crash_plant.specs.Calls.{WorksOn}
 use Rattle.crash_plant.specs.Moments.{PlantState}
 use Rattle.control_set.specs.declared.value.Mark.{Mark}
-use Rattle.site_store.specs.RingPlants.{AllChoose, AreDurable}
+use Rattle.site_store.specs.RingPlants.{AllChoose, AreSetsDurable}
 use Rattle.site_store.specs.Exceptions.{Exceptions}
 use Rattle.site_means.specs.declared.means.Means.{Means}
 use Rattle.site_means.specs.Laws.{with_group}
@@ -69,7 +69,7 @@ module _ (tells : Type 0) (told : tells) (e : Exceptions) (site next : SiteState
   ]
 
   -- Once the record was put, the site stands after it.
-  pub group_stands : RecordIsMeant placement (meant_for site) w g old new → AreDurable new after.entered → SiteStands e next new
+  pub group_stands : RecordIsMeant placement (meant_for site) w g old new → AreSetsDurable new after.entered → SiteStands e next new
   group_stands record_is durable = record {
     walk = after;
     meant = λ c left. record_is.meant c left ∙ ap (λ (m : Means). Meant m after) is.meant_is;

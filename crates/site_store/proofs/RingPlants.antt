@@ -27,7 +27,7 @@ use Rattle.site_means.specs.Sight.{content_in}
 use Rattle.site_means.specs.Walk.{Walk, first_unfit}
 use Rattle.site_means.proofs.Goes.{shape_same}
 use Rattle.site_store.specs.Ring.{FitsAfter, ShowsAfter, ShowsGroup, ShowsSame, ShowsSwitch}
-use Rattle.site_store.specs.RingPlants.{AllMean, AllWalksEnd, AreDurable, EndIsDurable, GroupIsDurable, GroupIsMeant, GroupIsShown, IsMeantAfter, MarkIsMeant, MarkIsShown, RoomIsRead, SetsStayDurable, SwitchIsDurable, SwitchIsMeant, SwitchIsShown, SwitchedGroupIsMeant, SwitchedGroupIsShown, and_switch_for}
+use Rattle.site_store.specs.RingPlants.{AllMean, AllWalksEnd, AreSetsDurable, EndIsDurable, GroupIsDurable, GroupIsMeant, GroupIsShown, IsMeantAfter, MarkIsMeant, MarkIsShown, RoomIsRead, SetsStayDurable, SwitchIsDurable, SwitchIsMeant, SwitchIsShown, SwitchedGroupIsMeant, SwitchedGroupIsShown, and_switch_for}
 use Rattle.site_store.proofs.Meant.{end_entered, group_had, group_put, marks_meant, meant_ends, switch_had, switch_put, untouched_shown}
 
 -- ---- where a walk ends
@@ -116,7 +116,7 @@ module _ (tells : Type 0) (old new : PlantState) (w : Walk) where
   before_next j later (inl is) = is
   before_next j later (inr last) = absurd (later (sym (only_among next j last)))
 
-  switch_stays : (from : Spot) (time : ℕ) → tells → WorksOn tells (IsOfSwitch old.journals w.at) old new → SwitchIsPut from w.at time old new → AreDurable old w.entered → AreDurable new (w.entered ++ next ∷ [])
+  switch_stays : (from : Spot) (time : ℕ) → tells → WorksOn tells (IsOfSwitch old.journals w.at) old new → SwitchIsPut from w.at time old new → AreSetsDurable old w.entered → AreSetsDurable new (w.entered ++ next ∷ [])
   switch_stays from time told works put all j has = elim (cases_eq j next) [
     | inl is ↦ subst (λ (n : ℕ). IsDurable (on new (Journal n))) (sym is) put.closed_durable
     | inr later ↦ elim (cases_eq j w.at.set) [

@@ -9,7 +9,7 @@ use Rattle.crash_plant.specs.Moments.{PlantState}
 use Rattle.pair_table.specs.declared.row.PairRow.{PairRow}
 use Rattle.pair_table.specs.Tables.{with_rows}
 use Rattle.record_rows.specs.Deeds.Deed.{Changed}
-use Rattle.site_store.specs.RingPlants.{AllMean, AreDurable}
+use Rattle.site_store.specs.RingPlants.{AllMean, AreSetsDurable}
 use Rattle.site_store.specs.Ring.{FitsAfter}
 use Rattle.site_store.specs.Deeds.{with_time_and_rows}
 use Rattle.site_store.specs.DoneDeeds.{BeginsDeeds, DoesDeeds}
@@ -121,7 +121,7 @@ module _ (tells : Type 0) (told : tells) (e : Exceptions) (site : SiteState) (ol
   IsMeant = (m : Means) (v : Walk) → m.from ≡ site.mark.at → v.at ≡ site.at → AllMean old m v → FitsAfter old.volumes m v g → RecordIsMeant placement m v g old new
 
   abbrev StayDurable : Type 0
-  StayDurable = (v : Walk) → v.at ≡ site.at → AreDurable old v.entered → AreDurable new (walk_after_record old.journals placement g v).entered
+  StayDurable = (v : Walk) → v.at ≡ site.at → AreSetsDurable old v.entered → AreSetsDurable new (walk_after_record old.journals placement g v).entered
 
   -- Once it was put the change is done.
   pub rows_done : OnOk result (DoesDeeds e site.told (Changed cut rows ∷ []) old new)
@@ -146,7 +146,7 @@ module _ (tells : Type 0) (told : tells) (e : Exceptions) (site : SiteState) (ol
       items_last (walk_by old.journals placement g w).groups g ∙ ap (λ (l : List Item). l ++ items) (same_items old.journals placement g w ∙ stands.items ∙ ap (λ (l : List Item). stands.done ++ l) is.idle ∙ append-nil stands.done)
       ∙ sym (append-nil (stands.done ++ items)) ∙ ap (λ (l : List Item). (stands.done ++ items) ++ l) (sym is.idle)
 
-  stands_then : RecordIsMeant placement means w g old new → AreDurable new after.entered → SiteStands e next new
+  stands_then : RecordIsMeant placement means w g old new → AreSetsDurable new after.entered → SiteStands e next new
   stands_then record_is durable = record {
     walk = after;
     meant = λ c left. record_is.meant c left ∙ ap (λ (m : Means). Meant m after) (sym same);

@@ -11,7 +11,8 @@ use Rattle.crash_plant.specs.Moments.{Follows, IsDurable, SamePast, PlantState, 
 use Rattle.crash_plant.proofs.BehindGates.{same_after, shuts, torn_here}
 use Rattle.crash_plant.proofs.Steps.{follows_then, kept_trans, site_trans}
 use Rattle.control_set.specs.declared.value.Mark.{Mark}
-use Rattle.control_set.specs.Places.{keeps, mark_in, u64_at}
+use Rattle.tod_stamp.specs.Fields.{u64_at}
+use Rattle.control_set.specs.Places.{keeps, mark_in}
 use Rattle.control_set.specs.Slots.{NoGateOpen, chosen_mark, chosen_of, is_closed, lengths_of, place_of_slot, slot_of}
 use Rattle.control_set.proofs.Lengths.{same_lengths}
 use Rattle.control_set.proofs.Reading.{closed_is, first_part, open_is, same_slot}

@@ -8,7 +8,7 @@ use Rattle.crash_plant.specs.declared.device.Device.TheVariants.{Control, State,
 use Rattle.crash_plant.specs.Choices.{AllFollow, Choice, IsChoice}
 use Rattle.crash_plant.specs.Moments.{Follows, IsDurable, PlantState, on}
 use Rattle.control_set.specs.declared.value.Mark.{Mark}
-use Rattle.control_set.specs.Places.{u64_at}
+use Rattle.tod_stamp.specs.Fields.{u64_at}
 use Rattle.control_set.specs.Slots.{NoGateOpen, chosen_mark, is_closed, lengths_of, place_of_slot, slot_of}
 use Rattle.pair_table.specs.declared.level.Level.{Level}
 use Rattle.state_set.specs.Slots.{started_table}
@@ -84,7 +84,7 @@ pub record IsShut (plant : PlantState) : Type 0 where
   pub control : IsDurable (on plant Control)
   pub journal : IsDurable (on plant (Journal 0))
 
--- After a start the gates that it shut have the byte 0: that of the first record, and that of the controller's second slot if it read 1. The
+-- After a start the gates that it shut have the byte 0: that of the first record, and that of the control's second slot if it read 1. The
 -- first mark stands in the first slot.
 pub record HasZeroedGates (old new : PlantState) : Type 0 where
   pub second : slice_index (old.bytes Control) second_slot ≡ 1 → slice_index (new.bytes Control) second_slot ≡ 0

@@ -6,9 +6,7 @@ use Rattle.xrc_journal.specs.declared.layout.TheConstants.{OF_CONTROL}
 use Rattle.xrc_journal.specs.Items.{Item}
 use Rattle.xrc_journal.specs.Items.Item.{Image, Delta, Pair, Gone}
 use Rattle.xrc_journal.specs.declared.job.VolumeJob.{VolumeJob}
-
-abbrev pub has_job_failed : {V : Type 0} → VolumeJob V → Bool
-has_job_failed job = job.failed
+pub use Rattle.xrc_journal.specs.Jobs.{has_job_failed}
 
 -- Each job is that of the volume at its place, which isn't lent.
 abbrev pub are_home_from : {V : Type 0} → (first : ℕ) → List (VolumeJob V) → Bool

@@ -94,15 +94,15 @@ is_pair_item (Delta d x kind) = false
 is_pair_item (Gone d) = false
 
 -- From what a read gives, the images make of a track what the entries make of it.
-abbrev pub AreDrawn : List PairRow → List WaitingEntry → (images : List Item) → PlantState → (device track : ℕ) → Type 0
-AreDrawn rows entries images plant d x =
+abbrev pub DrawTheSame : List PairRow → List WaitingEntry → (images : List Item) → PlantState → (device track : ℕ) → Type 0
+DrawTheSame rows entries images plant d x =
     let old = slot_track (plant.bytes (Volume d)) x in
     content_through d x images old ≡ changed_through rows d x entries (kinds_of entries) old
 
 -- So they do with each track that has an entry, on a device whose job hasn't failed.
 abbrev pub DrawEntries : (tells : Type 0) → List PairRow → List WaitingEntry → (failed : List Bool) → (images : List Item) → PlantState → Type 0
 DrawEntries tells rows entries failed images plant =
-    tells → (d x : ℕ) → d < plant.volumes → slice_index_or failed d false ≡ false → HasEntry rows d x entries → AreDrawn rows entries images plant d x
+    tells → (d x : ℕ) → d < plant.volumes → slice_index_or failed d false ≡ false → HasEntry rows d x entries → DrawTheSame rows entries images plant d x
 
 -- A body holds images alone, which keep the rules on one record wherever their tracks are allowed, and are short enough for the entries.
 pub record HoldsImages (entries : List WaitingEntry) (held now : BodyState) : Type 0 where

@@ -15,7 +15,7 @@ use Rattle.site_means.specs.declared.means.Means.{Means}
 use Rattle.site_means.specs.Images.{Images, Shape, shape_of}
 use Rattle.site_means.specs.Laws.{and_group, with_group}
 use Rattle.site_means.specs.Walk.{Walk}
-use Rattle.site_store.specs.RingPlants.{AllMean, AreDurable, IsMeantAfter, and_switch_for}
+use Rattle.site_store.specs.RingPlants.{AllMean, AreSetsDurable, IsMeantAfter, and_switch_for}
 use Rattle.site_store.specs.Ring.{FitsAfter, ShowsGroup, ShowsSame}
 use Rattle.site_store.specs.declared.store_error.StoreError.{StoreError}
 use Rattle.site_store.specs.declared.placement.Placement.{Placement}
@@ -91,4 +91,4 @@ pub record ShowsRecord (tells : Type 0) (placement : Placement) (from at : Spot)
   pub shown : tells → OfMeanings from at g old (λ means w. RecordIsShown placement means w g old new)
   pub meant : tells → OnOk result (OfMeanings from at g old (λ means w. RecordIsMeant placement means w g old new))
   -- The data sets of the walk stay durable.
-  pub durable : tells → OnOk result ((w : Walk) → w.at ≡ at → AreDurable old w.entered → AreDurable new (walk_after_record old.journals placement g w).entered)
+  pub durable : tells → OnOk result ((w : Walk) → w.at ≡ at → AreSetsDurable old w.entered → AreSetsDurable new (walk_after_record old.journals placement g w).entered)

@@ -6,6 +6,7 @@ use Rattle.crash_plant.specs.Moments.{Follows, PlantState, Same, on}
 use Rattle.pair_table.specs.declared.row.PairRow.{PairRow}
 use Rattle.pair_table.specs.Tables.{with_rows}
 use Rattle.xrc_journal.specs.Items.{Item}
+pub use Rattle.site_means.specs.Answers.{IsStore}
 use Rattle.site_store.specs.declared.placement.Placement.{Placement}
 use Rattle.site_store.specs.declared.placement.Placement.TheVariants.{Here, Switched, Marked}
 use Rattle.site_store.specs.Sites.{SiteState, next_mark, is_written}
@@ -46,13 +47,6 @@ after_record journals placement cut items rows failed site = record (after_place
 }
 
 -- ---- devices
-
--- all but volumes: what a site's calls may answer a fault of
-abbrev pub IsStore : Device → Type 0
-IsStore Control = Unit {0}
-IsStore State = Unit {0}
-IsStore (Journal j) = Unit {0}
-IsStore (Volume v) = ⊥
 
 abbrev pub IsVolume : Device → Type 0
 IsVolume Control = ⊥

@@ -38,8 +38,8 @@ abbrev pub AllHaveRoom : PlantState → Walk → Type 0
 AllHaveRoom plant w = AtNow (λ c. w.at.place + SWITCH ≤ length (c (Journal w.at.set))) plant
 
 -- A crash leaves what a read gives of each of these data sets.
-abbrev pub AreDurable : PlantState → (sets : List ℕ) → Type 0
-AreDurable plant sets = (j : ℕ) → Contains sets j → IsDurable (on plant (Journal j))
+abbrev pub AreSetsDurable : PlantState → (sets : List ℕ) → Type 0
+AreSetsDurable plant sets = (j : ℕ) → Contains sets j → IsDurable (on plant (Journal j))
 
 -- Each choice comes by this step from one before calls. After them all means this by this walk, and the mark that counted does.
 pub record IsMeantAfter (step : Choice → Choice → Type 0) (means : Means) (w : Walk) (old new : PlantState) : Type 0 where
@@ -59,7 +59,7 @@ RoomIsRead plant = (w : Walk) → w.at.set < plant.journals → IsDurable (on pl
 
 -- The data set of its end is durable where those that it has entered are.
 abbrev pub EndIsDurable : PlantState → Type 0
-EndIsDurable plant = (means : Means) (w : Walk) (rows : List PairRow) (c : Choice) → meaning plant c ≡ Meant means w → means.from.number < 2 ^ 64 → AreDurable plant w.entered → AreDurable plant (fresh_walk w rows means).entered
+EndIsDurable plant = (means : Means) (w : Walk) (rows : List PairRow) (c : Choice) → meaning plant c ≡ Meant means w → means.from.number < 2 ^ 64 → AreSetsDurable plant w.entered → AreSetsDurable plant (fresh_walk w rows means).entered
 
 -- ---- a group
 
@@ -75,8 +75,8 @@ GroupIsMeant old new = (means : Means) (w : Walk) (g : Logged) → SameSite old 
 
 -- The data sets of the walk stay durable.
 abbrev pub GroupIsDurable : (tells : Type 0) → (old new : PlantState) → Type 0
-GroupIsDurable tells old new = (from : Spot) (w : Walk) (g : Logged) → tells → WorksOn tells (λ d. d ≡ Journal w.at.set) old new → GroupIsPut from w.at g old new → AreDurable old w.entered
-    → AreDurable new (and_group g (spot_after_logged g w.at) w).entered
+GroupIsDurable tells old new = (from : Spot) (w : Walk) (g : Logged) → tells → WorksOn tells (λ d. d ≡ Journal w.at.set) old new → GroupIsPut from w.at g old new → AreSetsDurable old w.entered
+    → AreSetsDurable new (and_group g (spot_after_logged g w.at) w).entered
 
 -- ---- a switch
 
@@ -92,8 +92,8 @@ SwitchIsMeant old new = (means : Means) (w : Walk) (time : ℕ) → SameSite old
 
 -- The data sets of the walk stay durable, and the next one is so.
 abbrev pub SwitchIsDurable : (tells : Type 0) → (old new : PlantState) → Type 0
-SwitchIsDurable tells old new = (from : Spot) (w : Walk) (time : ℕ) → tells → WorksOn tells (IsOfSwitch old.journals w.at) old new → SwitchIsPut from w.at time old new → AreDurable old w.entered
-    → AreDurable new (and_switch time (switched_from old.journals w) w).entered
+SwitchIsDurable tells old new = (from : Spot) (w : Walk) (time : ℕ) → tells → WorksOn tells (IsOfSwitch old.journals w.at) old new → SwitchIsPut from w.at time old new → AreSetsDurable old w.entered
+    → AreSetsDurable new (and_switch time (switched_from old.journals w) w).entered
 
 -- ---- a switch, and a group after it
 
@@ -134,4 +134,4 @@ MarkIsMeant old new = (means : Means) (w : Walk) (m : Mark) (rows : List PairRow
 
 -- Data sets that are left alone meanwhile stay durable.
 abbrev pub SetsStayDurable : (old new : PlantState) → Type 0
-SetsStayDurable old new = (sets : List ℕ) → old.clock ≤ new.clock → ((j : ℕ) → Contains sets j → Stays (on old (Journal j)) (on new (Journal j))) → AreDurable old sets → AreDurable new sets
+SetsStayDurable old new = (sets : List ℕ) → old.clock ≤ new.clock → ((j : ℕ) → Contains sets j → Stays (on old (Journal j)) (on new (Journal j))) → AreSetsDurable old sets → AreSetsDurable new sets

@@ -1,11 +1,7 @@
-//! Writes as the entries of a group, and the rows of entries.
-
-ghost use Rattle.std.specs.Prelude.{◌≡◌};
-ghost use Rattle.image_former.specs.Entries.{is_row_of};
+//! Writes as the entries of a group.
 
 use ckd_track::{Batch, Kind, Rec, RecList, Track, Write, WriteList};
-use pair_table::PairRow;
-use pending_queue::{EntryHead, Formed, Queue};
+use pending_queue::{Formed, Queue};
 use std::alloc::Global;
 use std::process::Abort;
 use test_fixtures::bytes_of;
@@ -77,11 +73,4 @@ pub(crate) fn add(
     queue.push_all(&batch).expect(rt, "room");
     assert!(rt; formed.count() < 32 && queue.free().records <= 1);
     queue.pop_upto(stamp, formed);
-}
-
-/// Whether a row is that of an entry.
-pub(crate) fn is_row_of(head: EntryHead, row: &PairRow) -> bool
-    ensures { result ≡ is_row_of head row.now }
-{
-    row.control == head.control && row.volume == head.volume
 }

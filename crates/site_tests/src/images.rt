@@ -8,7 +8,7 @@ ghost use Rattle.crash_plant.specs.MemoryPlant.{memory_state};
 ghost use Rattle.crash_plant.specs.MemoryVolume.{volume_standing};
 ghost use Rattle.image_former.specs.Entries.{entry_device, is_row_of, row_device};
 
-use crate::entries::{add, format, is_row_of, update, whole};
+use crate::entries::{add, format, update, whole};
 use crate::fixtures::{assert_same, first_row, put_row, second_row, session};
 use ckd_track::Slot;
 use crash_plant::{Device, Disk, MemoryPlant, MemoryVolume, Plant};
@@ -39,15 +39,9 @@ fn worked_table(rt: &impl Abort, alloc: Global) -> PairTable {
 fn found_device(table: &PairTable, head: EntryHead) -> Option<u16>
     ensures { result ≡ row_device (find (is_row_of head) table.now.rows) }
 {
-    for place in 0..table.len() {
-        let Some(row) = table.row(place) else {
-            unreachable!()
-        };
-        if is_row_of(head, row) {
-            return Some(row.device);
-        }
-    }
-    None
+    let row = table.rows().iter().find(|row| row.control == head.control
+        && row.volume == head.volume);
+    row.map(|row| row.device)
 }
 
 /// Each entry is on one of the first four tracks of device 0 or 1.

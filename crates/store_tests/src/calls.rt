@@ -3,6 +3,7 @@
 ghost use Rattle.std.specs.Prelude.{◌≡◌, IfOk, OnOk, find};
 ghost use Rattle.std.specs.List.{All};
 ghost use Rattle.crash_plant.specs.Calls.{NoneLent};
+ghost use Rattle.std.specs.Option.{option_copied};
 ghost use Rattle.image_former.specs.Entries.{is_row_of};
 ghost use Rattle.pair_table.specs.declared.command.Change.TheVariants.{Added as AddedPair};
 ghost use Rattle.site_store.specs.Changing.{MayChange};
@@ -10,7 +11,6 @@ ghost use Rattle.site_store.specs.Logging.{IsOfSomeRow};
 ghost use Rattle.site_store.specs.Standing.{HasLengths};
 ghost use Rattle.site_store.specs.IdleSites.{IsSiteIdle, IsSiteLogged};
 
-use crate::entries::is_row_of;
 use crash_plant::{Device, Plant};
 use pair_table::{Change, Level, PairRow, PairTable};
 use pending_queue::{EntryHead, Formed};
@@ -57,18 +57,10 @@ pub(crate) fn start_at<P: Plant>(
 }
 
 /// The row of an entry.
-fn row_of_entry(table: &PairTable, head: EntryHead) -> Option<PairRow>
-    ensures { result ≡ find (is_row_of head) table.now.rows }
+fn row_of_entry(table: &PairTable, head: EntryHead) -> Option<&PairRow>
+    ensures { option_copied result ≡ find (is_row_of head) table.now.rows }
 {
-    for place in 0..table.len() {
-        let Some(row) = table.row(place) else {
-            unreachable!()
-        };
-        if is_row_of(head, row) {
-            return Some(*row);
-        }
-    }
-    None
+    table.rows().iter().find(|row| row.control == head.control && row.volume == head.volume)
 }
 
 /// Each entry is of a row, on a track of its cylinders.

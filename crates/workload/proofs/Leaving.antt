@@ -10,7 +10,7 @@ use Rattle.crash_plant.specs.PlainPlant.{plain_state}
 use Rattle.crash_plant.proofs.Choices.{device_cases}
 use Rattle.crash_plant.proofs.Counts.{plain_faults}
 use Rattle.crash_plant.proofs.Steps.{kept_here, loan_trans, site_trans}
-use Rattle.site_means.specs.Answers.{IsExamined, ReadsAll}
+use Rattle.site_means.specs.Answers.{IsStore, ReadsAll}
 use Rattle.workload.specs.Summaries.{LeavesAsItWas}
 
 module _ (p q : PlainPlant) where
@@ -50,7 +50,7 @@ module _ (p q : PlainPlant) where
   pub leaves_read : ReadsAll (Unit {0}) (plain_state p) (plain_state q) → LeavesAsItWas (plain_state p) (plain_state q)
   leaves_read reads = record {
     devices = record { site = reads.only.site; loans = reads.only.loans; bytes = reads.same tt; faults = same_faults };
-    console = same_console IsExamined reads.only;
+    console = same_console IsStore reads.only;
   }
 
 -- ---- calls one after another

@@ -8,13 +8,16 @@ use Rattle.pair_table.specs.declared.command.Command.TheVariants.{Start, AddPair
 use Rattle.pair_table.specs.declared.command.Refusal.{Refusal}
 use Rattle.pair_table.specs.declared.command.Refusal.TheVariants.{NoSession, SessionExists, NoPrimary, NoSecondary, SecondaryInUse, AlreadyPaired, TooSmall, OtherSecondary, NotPaired, Ended, ControlBroken}
 
+abbrev pub command_word : Command → List ℕ
+command_word (Start level) = codes "XSTART"
+command_word (AddPair primary secondary) = codes "XADDPAIR"
+command_word (DelPair choice) = codes "XDELPAIR"
+command_word (Suspend choice) = codes "XSUSPEND"
+command_word Query = codes "XQUERY"
+command_word End = codes "XEND"
+
 abbrev pub command_part : Command → List ℕ
-command_part (Start level) = codes " XSTART"
-command_part (AddPair primary secondary) = codes " XADDPAIR"
-command_part (DelPair choice) = codes " XDELPAIR"
-command_part (Suspend choice) = codes " XSUSPEND"
-command_part Query = codes " XQUERY"
-command_part End = codes " XEND"
+command_part command = 32 ∷ command_word command
 
 -- ---- refusals
 

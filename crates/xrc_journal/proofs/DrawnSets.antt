@@ -13,7 +13,7 @@ use Rattle.xrc_journal.specs.declared.drawn.DrawnTracks.{DrawnTracks}
 use Rattle.xrc_journal.specs.Items.{Item, Earlier, earlier_after, is_drawn}
 use Rattle.xrc_journal.specs.Items.Item.{Image, Delta, Pair, Gone}
 use Rattle.xrc_journal.specs.Bodies.{BeginsWith}
-use Rattle.xrc_journal.specs.Drawn.{AreDrawn, track_in}
+use Rattle.xrc_journal.specs.Drawn.{AreDrawn, device_and_track}
 use Rattle.xrc_journal.proofs.Scans.{tag_is}
 use Rattle.xrc_journal.proofs.Told.{image_fields}
 
@@ -57,11 +57,11 @@ one_more old new drawn d t updates same device track =
 -- ---- after an item
 
 -- the track of an image is in the set
-pub after_image : (bytes fields : List ℕ) (earlier : Earlier) (known : DrawnTracks) (item : Item) → bytes ≡ 1 ∷ fields → BeginsWith bytes item → AreDrawn known (track_in fields ∷ earlier.drawn) → AreDrawn known (earlier_after item earlier).drawn
+pub after_image : (bytes fields : List ℕ) (earlier : Earlier) (known : DrawnTracks) (item : Item) → bytes ≡ 1 ∷ fields → BeginsWith bytes item → AreDrawn known (device_and_track fields ∷ earlier.drawn) → AreDrawn known (earlier_after item earlier).drawn
 after_image bytes fields earlier known (Image d x recs) whole b drawn =
     let found = image_fields bytes d x recs b in
-    let device : (track_in fields).0 ≡ d = ap (λ (l : List ℕ). from_be_bytes w16 (take 2 (drop 1 l))) (sym whole) ∙ found.0 in
-    let track : (track_in fields).1 ≡ x = ap (λ (l : List ℕ). from_be_bytes w32 (take 4 (drop 3 l))) (sym whole) ∙ found.1 in
+    let device : (device_and_track fields).0 ≡ d = ap (λ (l : List ℕ). from_be_bytes w16 (take 2 (drop 1 l))) (sym whole) ∙ found.0 in
+    let track : (device_and_track fields).1 ≡ x = ap (λ (l : List ℕ). from_be_bytes w32 (take 4 (drop 3 l))) (sym whole) ∙ found.1 in
     subst (λ (t : ℕ × ℕ). AreDrawn known (t ∷ earlier.drawn)) (λ i. (device i, track i)) drawn
 after_image bytes fields earlier known (Delta d x kind) whole b drawn = absurd (omega (arith, tag_is bytes (Delta d x kind) b, ap (λ (l : List ℕ). slice_index l 0) whole))
 after_image bytes fields earlier known (Pair row) whole b drawn = absurd (omega (arith, tag_is bytes (Pair row) b, ap (λ (l : List ℕ). slice_index l 0) whole))

@@ -9,7 +9,8 @@ use Rattle.crash_plant.specs.declared.spot.Spot.{Spot}
 use Rattle.xrc_journal.specs.declared.header.RecordHeader.{RecordHeader}
 use Rattle.xrc_journal.specs.declared.header.RecordHeader.TheVariants.{Group as GroupHeader, Switch as SwitchHeader}
 use Rattle.xrc_journal.specs.Records.{RecordHead, is_body_length, record_head_at, most_body}
-use Rattle.xrc_journal.specs.Answers.{header_of, keeps_header, u64_in, u32_in}
+use Rattle.tod_stamp.specs.Fields.{u32_at, u64_at}
+use Rattle.xrc_journal.specs.Answers.{header_of, keeps_header}
 use Rattle.xrc_journal.proofs.Fields.{both_true}
 use Rattle.xrc_journal.proofs.RecordsRead.{group_fits}
 use Rattle.xrc_journal.proofs.Steps.{number_step, byte_step}
@@ -30,7 +31,7 @@ last_field {A = A} r b x e then h is next = ap (λ (q : Result A Bad). header_of
     by_rule false = refl
 
 pub header_is : (size : ℕ) (at : Spot) (last p : ℕ) (bytes : List ℕ) → length bytes ≡ 21
-    → header_of (record_head_at size at last (at_place p bytes)) ≡ cond (keeps_header size at last bytes) (header_of (Ok (record { kind = slice_index bytes 0; time = u64_in bytes 9; len = u32_in bytes 17 }, at_place p bytes))) None
+    → header_of (record_head_at size at last (at_place p bytes)) ≡ cond (keeps_header size at last bytes) (header_of (Ok (record { kind = slice_index bytes 0; time = u64_at bytes 9; len = u32_at bytes 17 }, at_place p bytes))) None
 unfolding record_head_at
 header_is size at last p bytes len =
     field _ _ _ _ _ _ _ (byte_step (within 1 2) p 0 bytes (omega (arith, len)))
@@ -42,29 +43,29 @@ module _ (size : ℕ) (at : Spot) (last p : ℕ) (bytes : List ℕ) (len : lengt
   pub header_bad : keeps_header size at last bytes ≡ false → None ≡ header_of (record_head_at size at last (at_place p bytes))
   header_bad bad = sym (header_is size at last p bytes len ∙ rw bad refl)
 
-  pub header_group : (time length : ℕ) → keeps_header size at last bytes ≡ true → slice_index bytes 0 ≡ 1 → time ≡ u64_in bytes 9 → length ≡ u32_in bytes 17 → Some (GroupHeader (record { 0 = time }) length) ≡ header_of (record_head_at size at last (at_place p bytes))
+  pub header_group : (time length : ℕ) → keeps_header size at last bytes ≡ true → slice_index bytes 0 ≡ 1 → time ≡ u64_at bytes 9 → length ≡ u32_at bytes 17 → Some (GroupHeader (record { 0 = time }) length) ≡ header_of (record_head_at size at last (at_place p bytes))
   header_group time length keeps kind time_is length_is =
       (λ i. Some (GroupHeader (record { 0 = time_is i }) (length_is i))) ∙ sym (header_is size at last p bytes len ∙ rw (keeps, eq-eqb (slice_index bytes 0) 1 kind) refl)
 
-  pub header_switch : (time : ℕ) → keeps_header size at last bytes ≡ true → slice_index bytes 0 ≢ 1 → time ≡ u64_in bytes 9 → Some (SwitchHeader (record { 0 = time })) ≡ header_of (record_head_at size at last (at_place p bytes))
+  pub header_switch : (time : ℕ) → keeps_header size at last bytes ≡ true → slice_index bytes 0 ≢ 1 → time ≡ u64_at bytes 9 → Some (SwitchHeader (record { 0 = time })) ≡ header_of (record_head_at size at last (at_place p bytes))
   header_switch time keeps kind time_is =
       (λ i. Some (SwitchHeader (record { 0 = time_is i }))) ∙ sym (header_is size at last p bytes len ∙ rw (keeps, ne_eqb (slice_index bytes 0) 1 kind) refl)
 
 -- what a header that keeps the rules says of its numbers
 pub record HeaderBounds (size : ℕ) (at : Spot) (bytes : List ℕ) : Type 0 where
   pub number : at.number < 2 ^ 64 - 1
-  pub group : slice_index bytes 0 ≡ 1 → (u32_in bytes 17 ≤ most_body) × (at.place + 22 + u32_in bytes 17 + 24 ≤ size)
+  pub group : slice_index bytes 0 ≡ 1 → (u32_at bytes 17 ≤ most_body) × (at.place + 22 + u32_at bytes 17 + 24 ≤ size)
 
 pub header_bounds : (size : ℕ) (at : Spot) (last : ℕ) (bytes : List ℕ) → keeps_header size at last bytes ≡ true → HeaderBounds size at bytes
 header_bounds size at last bytes keeps =
-    let n = u64_in bytes 1 in
-    let a = both_true (within 1 2 (slice_index bytes 0)) ((nat_eq n at.number && nat_lt n (2 ^ 64 - 1)) && (nat_le last (u64_in bytes 9) && is_body_length size at (slice_index bytes 0) (u32_in bytes 17))) keeps in
-    let b = both_true (nat_eq n at.number && nat_lt n (2 ^ 64 - 1)) (nat_le last (u64_in bytes 9) && is_body_length size at (slice_index bytes 0) (u32_in bytes 17)) a.1 in
+    let n = u64_at bytes 1 in
+    let a = both_true (within 1 2 (slice_index bytes 0)) ((nat_eq n at.number && nat_lt n (2 ^ 64 - 1)) && (nat_le last (u64_at bytes 9) && is_body_length size at (slice_index bytes 0) (u32_at bytes 17))) keeps in
+    let b = both_true (nat_eq n at.number && nat_lt n (2 ^ 64 - 1)) (nat_le last (u64_at bytes 9) && is_body_length size at (slice_index bytes 0) (u32_at bytes 17)) a.1 in
     let c = both_true (nat_eq n at.number) (nat_lt n (2 ^ 64 - 1)) b.0 in
-    let d = both_true (nat_le last (u64_in bytes 9)) (is_body_length size at (slice_index bytes 0) (u32_in bytes 17)) b.1 in
+    let d = both_true (nat_le last (u64_at bytes 9)) (is_body_length size at (slice_index bytes 0) (u32_at bytes 17)) b.1 in
     record {
       number = omega (arith, eqb-true n at.number c.0, ltb-true n (2 ^ 64 - 1) c.1);
-      group = λ kind. group_fits size at (record { kind = slice_index bytes 0; time = 0; len = u32_in bytes 17 }) (eq-eqb (slice_index bytes 0) 1 kind) d.1;
+      group = λ kind. group_fits size at (record { kind = slice_index bytes 0; time = 0; len = u32_at bytes 17 }) (eq-eqb (slice_index bytes 0) 1 kind) d.1;
     }
 
 pub group_length : (t s : Stamp) (n m : ℕ) → (let x : Option RecordHeader = Some (GroupHeader t n) in let y : Option RecordHeader = Some (GroupHeader s m) in x ≡ y) → n ≡ m

@@ -1,8 +1,8 @@
 -- What the walk's parts answer.
-use Rattle.std.specs.Prelude.{◌≡◌, ◌≤◌, ◌<◌, ◌+◌, IsErrOf, ℕ, Bool, ◌-◌, ◌^◌, ◌==◌, ◌&&◌, List, [], take, drop, slice_index, nat_lt, nat_le, Option, Some, None, Result, Ok, Err, length, if◌then◌else◌}
+use Rattle.std.specs.Prelude.{◌≡◌, ◌≤◌, ◌<◌, ◌+◌, IsErrOf, ℕ, Bool, ◌-◌, ◌^◌, ◌==◌, ◌&&◌, List, [], slice_index, nat_lt, nat_le, Option, Some, None, Result, Ok, Err, length, if◌then◌else◌}
 use Rattle.crash_plant.specs.declared.layout.TheConstants.{FRONT, SWITCH}
-use Rattle.std.specs.Int.{w16, w32, w64, from_be_bytes}
-use Rattle.tod_stamp.specs.Fields.{Left, Bad, number_at, within}
+use Rattle.std.specs.Int.{w16}
+use Rattle.tod_stamp.specs.Fields.{Left, Bad, number_at, within, u32_at, u64_at}
 use Rattle.crash_plant.specs.declared.spot.Spot.{Spot}
 use Rattle.xrc_journal.specs.declared.header.RecordHeader.{RecordHeader}
 use Rattle.xrc_journal.specs.declared.header.RecordHeader.TheVariants.{Group as GroupHeader, Switch as SwitchHeader}
@@ -20,16 +20,9 @@ use Rattle.xrc_journal.specs.Items.{Item, Form, item_spelling}
 use Rattle.xrc_journal.specs.Records.{Found, RecordHead, is_body_length, stretch, next_set, group_or, switch_or}
 use Rattle.xrc_journal.specs.Reading.{items_at}
 
--- the fields at their places
-abbrev pub u64_in : List ℕ → ℕ → ℕ
-u64_in bytes place = from_be_bytes w64 (take 8 (drop place bytes))
-
-abbrev pub u32_in : List ℕ → ℕ → ℕ
-u32_in bytes place = from_be_bytes w32 (take 4 (drop place bytes))
-
 abbrev pub keeps_header : (size : ℕ) → Spot → (last : ℕ) → List ℕ → Bool
 keeps_header size at last bytes =
-    within 1 2 (slice_index bytes 0) && ((u64_in bytes 1 == at.number && nat_lt (u64_in bytes 1) (2 ^ 64 - 1)) && (nat_le last (u64_in bytes 9) && is_body_length size at (slice_index bytes 0) (u32_in bytes 17)))
+    within 1 2 (slice_index bytes 0) && ((u64_at bytes 1 == at.number && nat_lt (u64_at bytes 1) (2 ^ 64 - 1)) && (nat_le last (u64_at bytes 9) && is_body_length size at (slice_index bytes 0) (u32_at bytes 17)))
 
 -- the times of a group and of a switch, and the length of a group's body
 abbrev pub header_of : Result (RecordHead × Left) Bad → Option RecordHeader

@@ -9,5 +9,5 @@ abbrev pub AreDrawn : DrawnTracks → List (ℕ × ℕ) → Type 0
 AreDrawn known drawn = known.given_up ≡ false → (device track : ℕ) → is_drawn known.tracks.keys device track ≡ is_drawn drawn device track
 
 -- the device and the track of it at the front of fields
-abbrev pub track_in : List ℕ → ℕ × ℕ
-track_in fields = (from_be_bytes w16 (take 2 fields), from_be_bytes w32 (take 4 (drop 2 fields)))
+abbrev pub device_and_track : List ℕ → ℕ × ℕ
+device_and_track fields = (from_be_bytes w16 (take 2 fields), from_be_bytes w32 (take 4 (drop 2 fields)))

@@ -2,6 +2,11 @@
 use Rattle.std.specs.Prelude.{◌≡◌, ◌≤◌, ◌+◌, ℕ, Bool, true, false, Option, Some, None}
 use Rattle.xrc_edge.specs.Causes.{Rose}
 use Rattle.crash_plant.specs.Moments.{Standing}
+use Rattle.xrc_journal.specs.declared.job.VolumeJob.{VolumeJob}
+
+-- whether a job has failed: its volume is left alone then
+abbrev pub has_job_failed : {V : Type 0} → VolumeJob V → Bool
+has_job_failed job = job.failed
 
 -- The volume stays lent, and this holds of it before and after; or it isn't lent, before and after.
 abbrev pub OnVolume : {D : Type 0} (state : D → Standing) → (Standing → Standing → Type 0) → Option D → Option D → Type 0

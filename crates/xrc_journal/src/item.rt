@@ -5,7 +5,7 @@ ghost use Rattle.crash_plant.specs.Calls.{NoneLent};
 ghost use Rattle.xrc_journal.specs.Items.{Item, earlier_after, form_of, is_within, may_draw};
 ghost use Rattle.xrc_journal.specs.Reading.{gone_item_at, image_item_at, item_at, pair_item_at};
 ghost use Rattle.xrc_journal.specs.Bodies.{BeginsWith, GoodFront, IsBody, are_late, earlier_of, items_of};
-ghost use Rattle.xrc_journal.specs.Drawn.{AreDrawn, track_in};
+ghost use Rattle.xrc_journal.specs.Drawn.{AreDrawn, device_and_track};
 ghost use Rattle.xrc_journal.specs.Answers.{length_of};
 
 use crate::drawn::DrawnTracks;
@@ -81,7 +81,7 @@ fn image_length<P: Plant>(
     requires body { IsBody body.now }
     requires known { AreDrawn drawn.old (earlier_of body.now).drawn }
     ensures length { (place : ℕ) → result ≡ length_of (image_item_at (form_of (P.state plant.now)) (earlier_of body.now) (record { place = place; bytes = fields.now })) }
-    ensures known { IfSome result (λ length. AreDrawn drawn.new (track_in fields.now ∷ (earlier_of body.now).drawn)) }
+    ensures known { IfSome result (λ length. AreDrawn drawn.new (device_and_track fields.now ∷ (earlier_of body.now).drawn)) }
 {
     if fields.len() < TRACK {
         return None;

@@ -8,7 +8,7 @@ use Rattle.crash_plant.specs.Choices.{AllFollow, AtNow}
 use Rattle.pair_table.specs.declared.row.PairRow.{PairRow}
 use Rattle.site_means.specs.declared.means.Means.{Means}
 use Rattle.site_means.specs.declared.site_error.SiteError.TheVariants.{NoSession, Damaged, Fault, TooSmall as TooSmallError, NoMemory}
-use Rattle.site_means.specs.Answers.{IsExamined, first_short, need}
+use Rattle.site_means.specs.Answers.{IsStore, first_short, need}
 use Rattle.site_means.specs.Sight.{walked}
 use Rattle.xrecover.specs.declared.outcome.Outcome.{Outcome}
 use Rattle.xrecover.specs.declared.recover_error.RecoverError.{RecoverError}
@@ -114,7 +114,7 @@ pub record Told (tells : Type 0) (labelling : Labelling) (session : List ℕ) (a
   pub is_meant : tells → IsRecoverable a session means
   pub faulty : AreFaulty means.table.rows a.faults b.faults failed
   pub redone : tells → Redone labelling (meant_rows a a.bytes) (walked a a.bytes) failed a b
-  pub counts : (d : Device) → IsExamined d → b.faults d ≡ a.faults d
+  pub counts : (d : Device) → IsStore d → b.faults d ≡ a.faults d
   pub once : (v : ℕ) → b.faults (Volume v) ≤ a.faults (Volume v) + 1
   pub spared : tells → SparesOthers (meant_rows a a.bytes) a.faults b.faults
   pub works : Works tells (RecoversMeant a) a b

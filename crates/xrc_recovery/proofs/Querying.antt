@@ -8,7 +8,7 @@ use Rattle.crash_plant.specs.Moments.{PlantState}
 use Rattle.crash_plant.specs.Calls.{NoneRose, WorksOnConsole}
 use Rattle.site_means.specs.declared.means.Means.{Means}
 use Rattle.site_means.specs.declared.site_error.SiteError.TheVariants.{NoSession as NoSessionError, Damaged as DamagedError, Fault, TooSmall as TooSmallError, NoMemory as NoMemoryError}
-use Rattle.site_means.specs.Answers.{IsExamined, ReadsAll, first_short, need}
+use Rattle.site_means.specs.Answers.{IsStore, ReadsAll, first_short, need}
 use Rattle.xrecover.specs.declared.recover_error.RecoverError.{RecoverError}
 use Rattle.xrecover.specs.declared.recover_error.RecoverError.TheVariants.{Site, Other}
 use Rattle.xrecover.specs.Answers.{FailsSo, IsGoodOrCalledFor, IsMeant}
@@ -52,7 +52,7 @@ pub record Examined (tells : Type 0) (session : List ℕ) (a b : PlantState) (r 
   pub says : tells → IsGoodOrCalledFor a session (λ means. IsMeant a session means) r
   pub short : (d : Device) → first_short a ≡ Some d → r ≡ Err (Site (TooSmallError d (need d)))
   pub small : (d : Device) (needed : ℕ) → IsErrOf r (Site (TooSmallError d needed)) → first_short a ≡ Some d
-  pub examined : (d : Device) → IsErrOf r (Site (Fault d)) → IsExamined d
+  pub examined : (d : Device) → IsErrOf r (Site (Fault d)) → IsStore d
   pub fails : FailsSo a.faults b.faults r
   pub reads : ReadsAll tells a b
 
@@ -68,7 +68,7 @@ small_error (Site (Fault (Volume v))) d needed is = absurd cc
 small_error (Site (TooSmallError e n)) d needed is = let same : TooSmall e n ≡ TooSmall d needed = is in cc
 small_error (Site NoMemoryError) d needed is = absurd cc
 
-no_volume : (e : RecoverError) → ((d : Device) → e ≡ Site (Fault d) → IsExamined d) → stop_of e ≢ VolumeFault
+no_volume : (e : RecoverError) → ((d : Device) → e ≡ Site (Fault d) → IsStore d) → stop_of e ≢ VolumeFault
 no_volume (Other name) examined = λ is. cc
 no_volume (Site NoSessionError) examined = λ is. cc
 no_volume (Site (DamagedError d place)) examined = λ is. cc

@@ -5,7 +5,7 @@ use Rattle.crash_plant.specs.declared.device.Device.TheVariants.{Control, State,
 use Rattle.crash_plant.specs.Moments.{PlantState}
 use Rattle.crash_plant.specs.Calls.{NoneRose}
 use Rattle.crash_plant.specs.Choices.{AllFollow, AtNow}
-use Rattle.site_means.specs.Answers.{IsExamined, first_short, need}
+use Rattle.site_means.specs.Answers.{IsStore, first_short, need}
 use Rattle.site_means.specs.Sight.{walked}
 use Rattle.site_means.specs.declared.site_error.SiteError.TheVariants.{Fault, TooSmall as TooSmallError}
 use Rattle.xrecover.specs.declared.labelling.Labelling.{Labelling}
@@ -77,7 +77,7 @@ pub record RecoversSession (tells : Type 0) (labelling : Labelling) (session : L
   -- with its own stop. Where nothing calls for a stop there is none, but for want of memory.
   pub called_for : tells → IfErr result (λ stop. CallsFor old session stop)
   pub causes : IfErr result (λ stop. HasRisen old new stop)
-  pub counts : (d : Device) → IsExamined d → result ≢ Err (fault_of d) → new.faults d ≡ old.faults d
+  pub counts : (d : Device) → IsStore d → result ≢ Err (fault_of d) → new.faults d ≡ old.faults d
   pub complete : tells → IsSite old → IsReady old session → NoneRose old new → IfErr result (λ stop. stop ≡ NoMemory)
   -- Done: every duplex pair is redone, and so it was said. Where volumes failed the others are redone, and so it was said. Where the
   -- console failed it was said in part. At each other stop nothing is said.

@@ -6,7 +6,7 @@ use Rattle.crash_plant.specs.declared.device.Device.TheVariants.{Volume}
 use Rattle.crash_plant.specs.Moments.{PlantState}
 use Rattle.crash_plant.specs.Calls.{NoneRose, Says, WorksOnConsole}
 use Rattle.crash_plant.specs.Choices.{AllFollow, AtNow}
-use Rattle.site_means.specs.Answers.{IsExamined, first_short, need}
+use Rattle.site_means.specs.Answers.{IsStore, first_short, need}
 use Rattle.site_means.specs.Sight.{walked}
 use Rattle.xrecover.specs.declared.labelling.Labelling.{Labelling}
 use Rattle.xrecover.specs.Pairs.{SparesOthers}
@@ -51,7 +51,7 @@ pub record EndsBy (tells : Type 0) (calls_for : Stop → Type 0) (old new : Plan
   pub ends : EndsSo tells stop old new status
   pub called_for : tells → calls_for stop
   pub risen : HasRisen old new stop
-  pub counts : (d : Device) → IsExamined d → stop ≢ fault_of d → new.faults d ≡ old.faults d
+  pub counts : (d : Device) → IsStore d → stop ≢ fault_of d → new.faults d ≡ old.faults d
 
 -- ---- the whole
 
@@ -79,7 +79,7 @@ pub record EndsRecovery (tells : Type 0) (labelling : Labelling) (session : List
   pub failed : tells → status ≡ 13 → (failed : List ℕ) × (failed ≢ []) × ReportsThen labelling session failed (last_line VolumeFault) old new
   pub in_part : tells → status ≡ 3 → (failed : List ℕ) × Reports labelling session failed old new
   -- Done, no count rose but those of volumes. No call on the console comes after one that failed.
-  pub counts : status ≡ 0 → (d : Device) → IsExamined d → new.faults d ≡ old.faults d
+  pub counts : status ≡ 0 → (d : Device) → IsStore d → new.faults d ≡ old.faults d
   pub console_count : status ≡ 0 → new.console_faults ≡ old.console_faults
   pub console_once : new.console_faults ≤ old.console_faults + 1
   -- A volume is left at its first fault. No other volume is called than those of duplex pairs, and at most statuses none.

@@ -10,7 +10,7 @@ use Rattle.pair_table.specs.declared.command.Command.TheVariants.{Start, AddPair
 use Rattle.pair_table.specs.declared.level.Level.{Level}
 use Rattle.pair_table.specs.declared.row.PairRow.{PairRow}
 use Rattle.pair_table.specs.Refusals.{refusal}
-use Rattle.pair_table.specs.Tables.{Table, in_state, with_rows}
+use Rattle.pair_table.specs.Tables.{Table, with_rows}
 use Rattle.row_changes.specs.Changes.{FaultReach, Timed, reach_of, row_after_change}
 use Rattle.row_changes.specs.Changes.RowChange.{Hit}
 use Rattle.row_changes.proofs.Reaching.{changes_state}

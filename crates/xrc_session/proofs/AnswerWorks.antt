@@ -12,7 +12,6 @@ use Rattle.pair_table.specs.declared.level.Level.{Level}
 use Rattle.pair_table.specs.declared.row.PairRow.{PairRow}
 use Rattle.pair_table.specs.declared.row.SuspendCause.TheVariants.{Device as OfDevice}
 use Rattle.pair_table.specs.Devices.{is_among}
-use Rattle.pair_table.specs.Rows.{is_suspended}
 use Rattle.pair_table.specs.Tables.{in_state}
 use Rattle.row_changes.specs.Changes.{FaultReach, hit_row, reach_of, reached_row, since}
 use Rattle.row_changes.proofs.Reaching.{reached_state}

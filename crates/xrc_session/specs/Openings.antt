@@ -119,8 +119,8 @@ pub record StopsByHeaders {S T : Type 0} (left : S → Option (List ℕ)) (fault
   pub stops : (sources : List SourceBytes) (stop : Stop) → AllTold left faults before now sources → IsErrOf result stop → (stop ≡ NoMemory) ⊎ (stop_of_headers control named sources ≡ Some stop)
 
 -- A stop is one of a controller's header.
-abbrev pub IsOfControl : (control : ℕ) → Stop → Type 0
-IsOfControl k stop = ((place : ℕ) × (stop ≡ BadHeader k place)) ⊎ (stop ≡ HeaderFault k)
+abbrev pub IsOfControlHeader : (control : ℕ) → Stop → Type 0
+IsOfControlHeader k stop = ((place : ℕ) × (stop ≡ BadHeader k place)) ⊎ (stop ≡ HeaderFault k)
 
 -- The serials that were named are those of the names' volumes, which are of the controllers below this one.
 pub record AreSerialsNamed (control : ℕ) (named : List (List ℕ)) (names : Naming) : Type 0 where

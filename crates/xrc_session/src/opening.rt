@@ -9,7 +9,7 @@ ghost use Rattle.pair_table.specs.Naming.{none_alike};
 ghost use Rattle.xrc_status.specs.declared.stop.Stop.TheVariants.{HeaderFault, NoMemory};
 ghost use Rattle.mover.specs.Lanes.{reader_in};
 ghost use Rattle.xrc_session.specs.Lanes.{HaveNoReader, HaveVolumes, TurnOutFrom, primaries_in};
-ghost use Rattle.xrc_session.specs.Openings.{AreLanesOpened, AreSerialsNamed, IsOfControl, IsOfHeaders, NamesApart, OpensLane, StayGood, StopsByHeaders, first_named_again, serials_in_header, stop_of_header};
+ghost use Rattle.xrc_session.specs.Openings.{AreLanesOpened, AreSerialsNamed, IsOfControlHeader, IsOfHeaders, NamesApart, OpensLane, StayGood, StopsByHeaders, first_named_again, serials_in_header, stop_of_header};
 
 use mover::Lane;
 use pair_table::Names;
@@ -83,7 +83,7 @@ fn open_lane<S: Source>(
     ensures ok { OnOk result (OpensLane S.left S.faults control named.old.items names.old lane.old lane.new named.new.items names.new) }
     ensures stops { StopsByHeaders S.left S.faults control named.old.items (lane.old ∷ []) (lane.new ∷ []) result }
     ensures fault { IsErrOf result (HeaderFault control) → Rose (S.faults lane.old.source) (S.faults lane.new.source) }
-    ensures only { IfErr result (λ stop. IsOfControl control stop ⊎ (stop ≡ NoMemory)) }
+    ensures only { IfErr result (λ stop. IsOfControlHeader control stop ⊎ (stop ≡ NoMemory)) }
 {
     let (header, reader) = match start(alloc, &mut lane.source) {
         Ok(started) => started,

@@ -7,7 +7,7 @@ use Rattle.crash_plant.specs.declared.device.Device.TheVariants.{Control, State,
 use Rattle.xrc_journal.specs.Jobs.{FailsByCount}
 use Rattle.site_means.specs.declared.site_error.SiteError.{SiteError}
 use Rattle.site_means.specs.declared.site_error.SiteError.TheVariants.{Fault, NoMemory}
-use Rattle.site_means.specs.Answers.{FaultsAreCounted, IsExamined}
+use Rattle.site_means.specs.Answers.{FaultsAreCounted, IsStore}
 use Rattle.site_means.proofs.ReadAll.{error_is, fails_as}
 use Rattle.xrecover.specs.declared.recover_error.RecoverError.{RecoverError}
 use Rattle.xrecover.specs.declared.recover_error.RecoverError.TheVariants.{Site}
@@ -58,21 +58,21 @@ counted_by a b (Err e) cause = record { later = cause.later; by_one = cause.by_o
 -- ---- faults that are told
 
 -- a control, a state or a journal
-pub no_volume : (d : Device) (v : ℕ) → IsExamined d → d ≢ Volume v
+pub no_volume : (d : Device) (v : ℕ) → IsStore d → d ≢ Volume v
 no_volume Control v is = λ e. cc
 no_volume State v is = λ e. cc
 no_volume (Journal j) v is = λ e. cc
 no_volume (Volume w) v is = absurd is
 
 -- No fault is told, and no count changed.
-pub tells_none : {X E : Type 0} (a b : Device → ℕ) (x : X) (f : Device → E) → ((d : Device) → IsExamined d → b d ≡ a d) → TellsFaults a b (λ d. let r : Result X E = Ok x in IsErrOf r (f d))
+pub tells_none : {X E : Type 0} (a b : Device → ℕ) (x : X) (f : Device → E) → ((d : Device) → IsStore d → b d ≡ a d) → TellsFaults a b (λ d. let r : Result X E = Ok x in IsErrOf r (f d))
 tells_none {X} {E} a b x f same = record { rose = λ d is. absurd (no_error x (f d) is); others = λ d here none. same d here }
   where
     no_error : (x : X) (e : E) → (let r : Result X E = Ok x in let q : Result X E = Err e in r ≡ q) → ⊥
     no_error x e is = cc
 
 -- The fault of a call that reads, after calls that left the counts of the control, the state and the journals.
-pub tells_read : {X Y : Type 0} (a b c : Device → ℕ) (e : SiteError) → ((d : Device) → a d ≤ b d) → ((d : Device) → IsExamined d → b d ≡ a d) → (let r : Result X SiteError = Err e in FaultsAreCounted b c r) → TellsFaults a c (λ d. let r : Result Y SiteError = Err e in IsErrOf r (Fault d))
+pub tells_read : {X Y : Type 0} (a b c : Device → ℕ) (e : SiteError) → ((d : Device) → a d ≤ b d) → ((d : Device) → IsStore d → b d ≡ a d) → (let r : Result X SiteError = Err e in FaultsAreCounted b c r) → TellsFaults a c (λ d. let r : Result Y SiteError = Err e in IsErrOf r (Fault d))
 tells_read {X} {Y} a b c e le same f =
     let counted = fails_as {X = X} {Y = Y} b c e f in
     record { rose = λ d is. rose_later (a d) (b d) (c d) (le d) (counted.rose d is); others = λ d here none. counted.others d none ∙ same d here }
@@ -84,7 +84,7 @@ site_is : (e f : SiteError) → (let a : RecoverError = Site e in let b : Recove
 site_is e f is = cc
 
 -- It is told as a recovery's, after calls that left the counts of the control, the state and the journals.
-pub tells_site : {X Y : Type 0} (a b c : Device → ℕ) (e : SiteError) → ((d : Device) → a d ≤ b d) → ((d : Device) → IsExamined d → b d ≡ a d)
+pub tells_site : {X Y : Type 0} (a b c : Device → ℕ) (e : SiteError) → ((d : Device) → a d ≤ b d) → ((d : Device) → IsStore d → b d ≡ a d)
     → TellsFaults b c (λ d. let r : Result X SiteError = Err e in IsErrOf r (Fault d)) → TellsFaults a c (λ d. let r : Result Y RecoverError = Err (Site e) in IsErrOf r (Site (Fault d)))
 tells_site {X} {Y} a b c e le same t = record {
   rose = λ d is. rose_later (a d) (b d) (c d) (le d) (t.rose d (own_error d is));

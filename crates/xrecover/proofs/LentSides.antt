@@ -21,12 +21,13 @@ use Rattle.applier.specs.Sides.{AppliesToJob, HasItsSlots}
 use Rattle.applier.specs.Slots.{DiffersInSlots, HoldsContent}
 use Rattle.applier.proofs.InSlots.{differs_here}
 use Rattle.applier.proofs.LentVolumes.{back_follows}
-use Rattle.site_means.specs.Answers.{IsExamined}
+use Rattle.site_means.specs.Answers.{IsStore}
 use Rattle.pair_table.specs.declared.row.PairRow.{PairRow}
 use Rattle.pair_table.specs.Tables.{are_below, is_of}
 use Rattle.xrecover.specs.Pairs.{HasDuplex, is_duplex_of}
 use Rattle.pair_table.specs.States.{is_duplex}
-use Rattle.xrecover.specs.SideVolumes.{AppliesSides, AreHome, AreSet, OfVolumes, is_left_alone, is_left}
+use Rattle.xrecover.specs.SideVolumes.{AppliesSides, AreHome, AreSet, OfVolumes, is_left}
+use Rattle.xrc_journal.specs.Jobs.{has_job_failed}
 
 not_true : (b : Bool) → not b ≡ true → b ≡ false
 not_true true e = absurd cc
@@ -55,24 +56,24 @@ module _ {V : Type 0} where
   -- A flag that is so of each volume before is so of one more.
   pub left_push : (flag : ℕ → Bool) (jobs : List (VolumeJob V)) (job : VolumeJob V) → ((v : ℕ) → v < length jobs → is_left jobs v ≡ flag v) → job.failed ≡ flag (length jobs) → (v : ℕ) → v < length jobs + 1 → is_left (jobs ++ job ∷ []) v ≡ flag v
   left_push flag jobs job before here v lt =
-      let parts : map is_left_alone (jobs ++ job ∷ []) ≡ map is_left_alone jobs ++ job.failed ∷ [] = map-append is_left_alone jobs (job ∷ []) in
+      let parts : map has_job_failed (jobs ++ job ∷ []) ≡ map has_job_failed jobs ++ job.failed ∷ [] = map-append has_job_failed jobs (job ∷ []) in
       ap (λ (l : List Bool). get_or l v true) parts
-      ∙ push_at (λ i b. b ≡ flag i) (map is_left_alone jobs) job.failed
-      (λ i d less. let there : i < length jobs = omega (arith, less, length-map jobs is_left_alone) in get_or-map is_left_alone jobs i job d there ∙ sym (get_or-map is_left_alone jobs i job true there) ∙ before i there)
-      (here ∙ ap flag (sym (length-map jobs is_left_alone))) v true (omega (arith, lt, length-append (map is_left_alone jobs) (job.failed ∷ []), length-map jobs is_left_alone))
+      ∙ push_at (λ i b. b ≡ flag i) (map has_job_failed jobs) job.failed
+      (λ i d less. let there : i < length jobs = omega (arith, less, length-map jobs has_job_failed) in get_or-map has_job_failed jobs i job d there ∙ sym (get_or-map has_job_failed jobs i job true there) ∙ before i there)
+      (here ∙ ap flag (sym (length-map jobs has_job_failed))) v true (omega (arith, lt, length-append (map has_job_failed jobs) (job.failed ∷ []), length-map jobs has_job_failed))
 
   -- A volume that isn't left alone is one of theirs.
   pub volume_of : (jobs : List (VolumeJob V)) (volumes : ℕ) → AreHome volumes jobs → (v : ℕ) → is_left jobs v ≡ false → v < volumes
   volume_of jobs volumes home v live = elim (cases_lt v (length jobs)) [
     | inl lt ↦ omega (arith, lt, home.count)
     | inr past ↦
-        let left : is_left jobs v ≡ true = get_or_past (map is_left_alone jobs) v true (omega (arith, past, length-map jobs is_left_alone)) in
+        let left : is_left jobs v ≡ true = get_or_past (map has_job_failed jobs) v true (omega (arith, past, length-map jobs has_job_failed)) in
         absurd (cc (left, live))
   ]
 
   -- The flag of a job is that of its volume.
   pub flag_of : (jobs : List (VolumeJob V)) (v : ℕ) (d : VolumeJob V) → v < length jobs → is_left jobs v ≡ (get_or jobs v d).failed
-  flag_of jobs v d lt = get_or-map is_left_alone jobs v d true lt
+  flag_of jobs v d lt = get_or-map has_job_failed jobs v d true lt
 
 -- A list written over whole is what was written.
 pub written_whole : {X : Type 0} (n : ℕ) (xs ys : List X) → length xs ≡ length ys → n ≡ length ys → take n (xs ++ drop (length xs) ys) ≡ xs
@@ -105,7 +106,7 @@ module _ {V : Type 0} (volumes : ℕ) (rows : List PairRow) (jobs : List (Volume
 
   pub others_left : (v : ℕ) → ¬ HasDuplex rows v → is_left jobs v ≡ true
   others_left v none = elim (cases_lt v volumes) [
-    | inr past ↦ get_or_past (map is_left_alone jobs) v true (omega (arith, past, home.count, length-map jobs is_left_alone))
+    | inr past ↦ get_or_past (map has_job_failed jobs) v true (omega (arith, past, home.count, length-map jobs has_job_failed))
     | inl lt ↦ elim (cases_Bool (list_any (is_duplex_of v) rows)) [
       | inl has ↦ absurd (none has)
       | inr absent ↦ left v lt ∙ ap not absent
@@ -188,12 +189,12 @@ module _ {D : Type 0} (tells own : Type 0) (state : D → Standing) (start mid e
   some_at (job ∷ jobs) i lt = job
 
   was_left : (i : ℕ) (d : VolumeJob D) → i < length lent → is_left old i ≡ (get_or lent i d).failed
-  was_left i d lt = get_or-map is_left_alone old i d true (omega (arith, lt, s.first.same)) ∙ sym (s.first.lends i d (omega (arith, lt, s.first.same))).failed
+  was_left i d lt = get_or-map has_job_failed old i d true (omega (arith, lt, s.first.same)) ∙ sym (s.first.lends i d (omega (arith, lt, s.first.same))).failed
 
   now_left : (i : ℕ) (d : VolumeJob D) → i < length lent → is_left (map without_disk given) i ≡ (get_or given i d).failed
   now_left i d lt =
       let less : i < length given = omega (arith, lt, s.worked.same) in
-      get_or-map is_left_alone (map without_disk given) i (without_disk d) true (omega (arith, less, length-map given without_disk))
+      get_or-map has_job_failed (map without_disk given) i (without_disk d) true (omega (arith, less, length-map given without_disk))
       ∙ ap (λ (j : VolumeJob D). j.failed) (get_or-map without_disk given i d (without_disk d) less)
 
   -- A volume that isn't left alone has a job.
@@ -201,7 +202,7 @@ module _ {D : Type 0} (tells own : Type 0) (state : D → Standing) (start mid e
   has_job v live = elim (cases_lt v (length lent)) [
     | inl lt ↦ lt
     | inr past ↦
-        let left : is_left old v ≡ true = get_or_past (map is_left_alone old) v true (omega (arith, past, length-map old is_left_alone, s.first.same)) in
+        let left : is_left old v ≡ true = get_or_past (map has_job_failed old) v true (omega (arith, past, length-map old has_job_failed, s.first.same)) in
         absurd (cc (left, live))
   ]
 
@@ -218,7 +219,7 @@ module _ {D : Type 0} (tells own : Type 0) (state : D → Standing) (start mid e
       let bad : (get_or lent j job).failed ≡ true = sym (was_left j job lt) ∙ ap (λ (k : ℕ). is_left old k) here ∙ left in
       absurd (cc (live, bad))
 
-  not_lent : (d : Device) → IsExamined d → ¬ IsLentTo given d
+  not_lent : (d : Device) → IsStore d → ¬ IsLentTo given d
   not_lent Control is among = cc among.3
   not_lent State is among = cc among.3
   not_lent (Journal j) is among = cc among.3
@@ -296,7 +297,7 @@ module _ {D : Type 0} (tells own : Type 0) (state : D → Standing) (start mid e
 
   left_kept : (v : ℕ) → is_left old v ≡ true → is_left (map without_disk given) v ≡ true
   left_kept v left = elim (cases_lt v (length lent)) [
-    | inr past ↦ get_or_past (map is_left_alone (map without_disk given)) v true (omega (arith, past, length-map (map without_disk given) is_left_alone, length-map given without_disk, s.worked.same))
+    | inr past ↦ get_or_past (map has_job_failed (map without_disk given)) v true (omega (arith, past, length-map (map without_disk given) has_job_failed, length-map given without_disk, s.worked.same))
     | inl lt ↦
         let d = some_at lent v lt in
         let bad : (get_or lent v d).failed ≡ true = sym (was_left v d lt) ∙ left in
@@ -348,5 +349,5 @@ module _ {D : Type 0} (tells own : Type 0) (state : D → Standing) (start mid e
     count = live_count;
   }
 
-  pub counts_stay : (d : Device) → IsExamined d → end.faults d ≡ start.faults d
+  pub counts_stay : (d : Device) → IsStore d → end.faults d ≡ start.faults d
   counts_stay d is = s.back.works.others_faults d (not_lent d is)

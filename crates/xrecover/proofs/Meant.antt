@@ -16,7 +16,7 @@ use Rattle.site_means.specs.Images.{shape_of}
 use Rattle.site_means.specs.Walk.{Walk, walk_in}
 use Rattle.site_means.specs.Meaning.{Meaning, meaning, meaning_by_mark, meaning_by_state, meaning_by_walk, stored_in}
 use Rattle.site_means.specs.Meaning.Meaning.{NoMark, DamagedAt, Meant}
-use Rattle.site_means.specs.Answers.{AllDurable, AnswersMeaning, IsChosen, IsExamined, IsInTurn, IsOfControl, IsRead, Mean, ReadsAll, RestDurable, WhereTold, first_short, is_short, journals_from}
+use Rattle.site_means.specs.Answers.{AllDurable, AnswersMeaning, IsChosen, IsStore, IsInTurn, IsOfControl, IsRead, Mean, ReadsAll, RestDurable, WhereTold, first_short, is_short, journals_from}
 use Rattle.site_means.proofs.Meanings.{SameSeen, same_seen, seen_back, seen_chosen, seen_meaning, seen_reached, seen_read}
 use Rattle.site_means.proofs.ReadAll.{durable_later}
 use Rattle.site_means.proofs.Reaching.{meant_by}
@@ -43,23 +43,23 @@ pub small_same : (old new : PlantState) (rows : List PairRow) → SameSite old n
 small_same old new rows site = λ i. find (λ r. is_duplex r.state && nat_lt (site.lengths (Volume r.device) i) (volume_need r.cylinders)) rows
 
 -- The first device that is too short is none of the volumes.
-short_among : (plant : PlantState) (first count : ℕ) (d : Device) → find (is_short plant) (journals_from first count) ≡ Some d → IsExamined d
+short_among : (plant : PlantState) (first count : ℕ) (d : Device) → find (is_short plant) (journals_from first count) ≡ Some d → IsStore d
 short_among plant first zero d e = absurd cc
 short_among plant first (suc count) d e = by_test (is_short plant (Journal first)) (λ more. short_among plant (suc first) count d more) e
   where
-    by_test : (b : Bool) → (find (is_short plant) (journals_from (suc first) count) ≡ Some d → IsExamined d) → cond b (Some (Journal first)) (find (is_short plant) (journals_from (suc first) count)) ≡ Some d → IsExamined d
-    by_test true more e = let same : d ≡ Journal first = cc in subst (λ (k : Device). IsExamined k) (sym same) tt
+    by_test : (b : Bool) → (find (is_short plant) (journals_from (suc first) count) ≡ Some d → IsStore d) → cond b (Some (Journal first)) (find (is_short plant) (journals_from (suc first) count)) ≡ Some d → IsStore d
+    by_test true more e = let same : d ≡ Journal first = cc in subst (λ (k : Device). IsStore k) (sym same) tt
     by_test false more e = more e
 
-pub first_examined : (plant : PlantState) (d : Device) → first_short plant ≡ Some d → IsExamined d
+pub first_examined : (plant : PlantState) (d : Device) → first_short plant ≡ Some d → IsStore d
 first_examined plant d e = by_control (is_short plant Control) e
   where
-    by_state : (b : Bool) → cond b (Some State) (find (is_short plant) (journals_from 0 plant.journals)) ≡ Some d → IsExamined d
-    by_state true e = let same : d ≡ State = cc in subst (λ (k : Device). IsExamined k) (sym same) tt
+    by_state : (b : Bool) → cond b (Some State) (find (is_short plant) (journals_from 0 plant.journals)) ≡ Some d → IsStore d
+    by_state true e = let same : d ≡ State = cc in subst (λ (k : Device). IsStore k) (sym same) tt
     by_state false e = short_among plant 0 plant.journals d e
 
-    by_control : (b : Bool) → cond b (Some Control) (cond (is_short plant State) (Some State) (find (is_short plant) (journals_from 0 plant.journals))) ≡ Some d → IsExamined d
-    by_control true e = let same : d ≡ Control = cc in subst (λ (k : Device). IsExamined k) (sym same) tt
+    by_control : (b : Bool) → cond b (Some Control) (cond (is_short plant State) (Some State) (find (is_short plant) (journals_from 0 plant.journals))) ≡ Some d → IsStore d
+    by_control true e = let same : d ≡ Control = cc in subst (λ (k : Device). IsStore k) (sym same) tt
     by_control false e = by_state (is_short plant State) e
 
 -- ---- after what is meant

@@ -27,7 +27,7 @@ use Rattle.site_means.specs.Walk.WalkStep.{Ends, GoesOn, Breaks}
 use Rattle.site_means.specs.Meaning.{chosen_in, meaning, meaning_by_mark, meaning_by_state, meaning_by_walk, stored_in}
 use Rattle.site_means.specs.Sight.{meant_by, walked, walked_by}
 use Rattle.site_means.proofs.Found.{group_ends, next_within, switch_leads}
-use Rattle.site_means.specs.Answers.{AllDurable, IsExamined, IsInTurn, ReadsAll}
+use Rattle.site_means.specs.Answers.{AllDurable, IsStore, IsInTurn, ReadsAll}
 use Rattle.site_means.proofs.Agreeing.{meanings_agree}
 use Rattle.site_means.proofs.Goes.{entered_more, entered_one, goes_by}
 use Rattle.site_means.proofs.Drawn.{contents_are_drawn}
@@ -168,13 +168,13 @@ module _ (tells : Type 0) (told : tells) (old one : PlantState) (reads : ReadsAl
 -- ---- while volumes are redone
 
 module _ (tells : Type 0) (told : tells) (rows : List PairRow) (items : List Item) (old one new : PlantState) (reads : ReadsAll tells old one) (all : AllDurable old one) (works : Works tells (Recovers rows items) one new) where
-  untouched : (d : Device) (x y : List ℕ) → IsExamined d → Recovers rows items d x y → y ≡ x
+  untouched : (d : Device) (x y : List ℕ) → IsStore d → Recovers rows items d x y → y ≡ x
   untouched Control x y is p = p
   untouched State x y is p = p
   untouched (Journal j) x y is p = p
   untouched (Volume v) x y is p = absurd is
 
-  turn_examined : (d : Device) → IsInTurn old d → IsExamined d
+  turn_examined : (d : Device) → IsInTurn old d → IsStore d
   turn_examined Control turn = tt
   turn_examined State turn = tt
   turn_examined (Journal j) turn = tt

@@ -3,7 +3,7 @@ use Rattle.std.proofs.Common.{inl, inr, refl, ap, ◌∙◌, ◌≡◌, ◌≤�
 use Rattle.std.specs.Prelude.{slice_get}
 use Rattle.std.proofs.lemmas.Bool.{cases_Bool}
 use Rattle.crash_plant.specs.declared.device.Device.{Device}
-use Rattle.site_means.specs.Answers.{IsExamined}
+use Rattle.site_means.specs.Answers.{IsStore}
 use Rattle.xrecover.specs.Labels.{TreatsLabels}
 use Rattle.xrecover.specs.RedoneVolumes.{Redoes}
 use Rattle.xrecover.proofs.Fails.{no_volume}
@@ -58,7 +58,7 @@ module _ (tells : Type 0) (labelling : Labelling) (left : ℕ → Bool) (rows : 
           treats_pair tells told labelling rows i r [] [] (Redoes r.device []) old cur new keeps.apart is (apart_before rows i r keeps.apart is) going.works f.works (λ v differ. f.counts (Volume v) (λ same. differ cc)) refl before (f.treats told)
     ]
 
-    pub turn_counts : (d : Device) → IsExamined d → new.faults d ≡ cur.faults d
+    pub turn_counts : (d : Device) → IsStore d → new.faults d ≡ cur.faults d
     turn_counts d here = elim (cases_Bool alone) [
       | inl so ↦ ap (λ (p : PlantState). p.faults d) (stayed so).1
       | inr fit ↦ (finished fit).counts d (no_volume d r.device here)

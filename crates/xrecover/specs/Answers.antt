@@ -13,7 +13,7 @@ use Rattle.site_means.specs.Images.{shape_of}
 use Rattle.site_means.specs.Walk.{walk_in}
 use Rattle.site_means.specs.Meaning.{meaning, stored_in}
 use Rattle.site_means.specs.Meaning.Meaning.{NoMark, DamagedAt}
-use Rattle.site_means.specs.Answers.{IsChosen, IsExamined, IsInTurn, Mean, first_short}
+use Rattle.site_means.specs.Answers.{IsChosen, IsStore, IsInTurn, Mean, first_short}
 use Rattle.volume_label.specs.Labels.{volume_need}
 use Rattle.xrecover.specs.declared.recover_error.RecoverError.{RecoverError}
 use Rattle.xrecover.specs.declared.recover_error.RecoverError.TheVariants.{Site, Other}
@@ -85,7 +85,7 @@ pub record FailsSo {X : Type 0} (old new : Device → ℕ) (result : Result X Re
 -- The devices whose faults are told are those whose counts rose, of the control, the state and the journals: no other's count changes.
 pub record TellsFaults (old new : Device → ℕ) (is_told : Device → Type 0) : Type 0 where
   pub rose : (d : Device) → is_told d → Rose (old d) (new d)
-  pub others : (d : Device) → IsExamined d → ¬ is_told d → new d ≡ old d
+  pub others : (d : Device) → IsStore d → ¬ is_told d → new d ≡ old d
 
 -- a journal's fault
 abbrev pub EndsLate : RecoverError → Type 0

@@ -8,6 +8,7 @@ use Rattle.xrc_journal.specs.declared.job.VolumeJob.{VolumeJob}
 use Rattle.xrc_journal.specs.Items.{Item}
 use Rattle.xrc_journal.specs.Jobs.{FailsByCount}
 use Rattle.site_means.specs.Steps.{HoldsEveryBody}
+use Rattle.xrc_journal.specs.Jobs.{has_job_failed}
 use Rattle.applier.specs.Slots.{DiffersInSlots}
 use Rattle.xrecover.specs.declared.sides.Tools.{Tools}
 use Rattle.xrecover.specs.Pairs.{HasDuplex}
@@ -15,12 +16,9 @@ use Rattle.xrecover.specs.Works.{Works}
 
 -- ---- jobs
 
-abbrev pub is_left_alone : {V : Type 0} → VolumeJob V → Bool
-is_left_alone job = job.failed
-
 -- whether a volume is left alone: its job is, or it has none
 abbrev pub is_left : {V : Type 0} → List (VolumeJob V) → (volume : ℕ) → Bool
-is_left jobs v = slice_index_or (map is_left_alone jobs) v true
+is_left jobs v = slice_index_or (map has_job_failed jobs) v true
 
 -- Each job is that of the volume of its place, which isn't lent.
 pub record AreHome {V : Type 0} (volumes : ℕ) (jobs : List (VolumeJob V)) : Type 0 where

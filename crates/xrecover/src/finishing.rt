@@ -5,7 +5,7 @@ ghost use Rattle.crash_plant.specs.Calls.{NoneLent};
 ghost use Rattle.crash_plant.specs.declared.device.Device.{Device as AnyDevice};
 ghost use Rattle.crash_plant.specs.declared.device.Device.TheVariants.{Volume};
 ghost use Rattle.pair_table.specs.Tables.{are_below};
-ghost use Rattle.site_means.specs.Answers.{IsExamined};
+ghost use Rattle.site_means.specs.Answers.{IsStore};
 ghost use Rattle.xrecover.specs.Pairs.{first_small};
 ghost use Rattle.xrecover.specs.FinishedPairs.{FinishesPairs, FinishesVolume};
 ghost use Rattle.xrecover.specs.SideVolumes.{AreHome, is_left};
@@ -51,7 +51,7 @@ pub(crate) fn finish_pairs<P: Plant>(
     requires empty { failed.items ≡ [] }
     requires places { length table.now.rows ≤ vec_capacity failed }
     ensures finishes { FinishesPairs P.tells labelling table.now.rows (is_left jobs.now) result (P.state plant.old) (P.state plant.new) }
-    ensures counts { (d : AnyDevice) → IsExamined d → (P.state plant.new).faults d ≡ (P.state plant.old).faults d }
+    ensures counts { (d : AnyDevice) → IsStore d → (P.state plant.new).faults d ≡ (P.state plant.old).faults d }
 {
     let mut failed = failed;
     for place in 0..table.len() {

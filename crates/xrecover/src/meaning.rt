@@ -9,7 +9,7 @@ ghost use Rattle.pair_table.specs.Tables.{are_below};
 ghost use Rattle.site_means.specs.declared.reading.FirstRead.TheVariants.{Synced};
 ghost use Rattle.site_means.specs.declared.site_error.SiteError.{SiteError as SiteErrorValue};
 ghost use Rattle.site_means.specs.declared.site_error.SiteError.TheVariants.{Fault, TooSmall};
-ghost use Rattle.site_means.specs.Answers.{AllDurable, HasSpot, IsChosen, IsExamined, IsOfControl, IsRead, ReadsAll, first_short, need as site_need};
+ghost use Rattle.site_means.specs.Answers.{AllDurable, HasSpot, IsChosen, IsStore, IsOfControl, IsRead, ReadsAll, first_short, need as site_need};
 ghost use Rattle.volume_label.specs.Labels.{volume_need as volume_need};
 ghost use Rattle.xrecover.specs.declared.recover_error.RecoverError.{RecoverError as RecoverErrorValue};
 ghost use Rattle.xrecover.specs.declared.recover_error.RecoverError.TheVariants.{Other, Site};
@@ -122,7 +122,7 @@ pub fn read_session<P: Plant>(
     ensures below { IfOk result (λ reading. IsTrue (are_below (P.state plant.old).volumes reading.means.table.rows)) }
     // After syncs, whatever is told of the devices lasts.
     ensures durable { P.tells → first ≡ Synced → TellsDurable (P.state plant.old) (P.state plant.new) result }
-    ensures examined { (d : AnyDevice) → IsErrOf result (Site (Fault d)) → IsExamined d }
+    ensures examined { (d : AnyDevice) → IsErrOf result (Site (Fault d)) → IsStore d }
     ensures fails { FailsSo (P.state plant.old).faults (P.state plant.new).faults result }
     ensures reads { ReadsAll P.tells (P.state plant.old) (P.state plant.new) }
 {
@@ -172,7 +172,7 @@ pub fn examine_session<P: Plant>(
     ensures short { (d : AnyDevice) → first_short (P.state plant.old) ≡ Some d → result ≡ Err (Site (TooSmall d (site_need d))) }
     ensures small { (d : AnyDevice) (needed : ℕ) → IsErrOf result (Site (TooSmall d needed)) → first_short (P.state plant.old) ≡ Some d }
     // A fault is that of a control, state or journal whose count rose.
-    ensures examined { (d : AnyDevice) → IsErrOf result (Site (Fault d)) → IsExamined d }
+    ensures examined { (d : AnyDevice) → IsErrOf result (Site (Fault d)) → IsStore d }
     ensures fails { FailsSo (P.state plant.old).faults (P.state plant.new).faults result }
     // What reads give stays, and a crash leaves nothing that it couldn't leave before.
     ensures reads { ReadsAll P.tells (P.state plant.old) (P.state plant.new) }

@@ -8,7 +8,7 @@ ghost use Rattle.crash_plant.specs.declared.device.Device.TheVariants.{Volume};
 ghost use Rattle.pair_table.specs.Tables.{AreRowsSound, are_below};
 ghost use Rattle.xrc_journal.specs.Items.{AreItems, form_of};
 ghost use Rattle.applier.specs.Slots.{HoldsContent};
-ghost use Rattle.site_means.specs.Answers.{IsExamined};
+ghost use Rattle.site_means.specs.Answers.{IsStore};
 ghost use Rattle.xrecover.specs.Pairs.{is_duplex_of};
 ghost use Rattle.xrecover.specs.SideVolumes.{AppliesSides, AreHome, AreToolsReady, AreSet, is_left};
 
@@ -112,7 +112,7 @@ pub(crate) fn apply_record<R: Threads + Sync, P: Plant>(
     ensures jobs { AreHome (P.state plant.new).volumes jobs.new }
     ensures applies { AppliesSides P.tells body.now.items (is_left jobs.old) (is_left jobs.new) (P.state plant.old) (P.state plant.new) }
     ensures content { P.tells → (v : ℕ) → is_left jobs.new v ≡ false → HoldsContent v body.now.items ((P.state plant.old).bytes (Volume v)) ((P.state plant.new).bytes (Volume v)) }
-    ensures counts { (d : AnyDevice) → IsExamined d → (P.state plant.new).faults d ≡ (P.state plant.old).faults d }
+    ensures counts { (d : AnyDevice) → IsStore d → (P.state plant.new).faults d ≡ (P.state plant.old).faults d }
 {
     lend_all(plant, jobs, lent);
     apply_body(rt, body, jobs);

@@ -1,5 +1,4 @@
-use Rattle.std.proofs.Common.{rules, arith, ◌≡◌, ◌+◌, ◌-◌, ◌<◌, length, get_or, set, Some, None, refl, sym, ap, ◌∙◌, subst}
-use Rattle.group_state.specs.Groups.{Group}
+use Rattle.std.proofs.Common.{rules, arith, ◌≡◌, ◌+◌, ◌-◌, ◌<◌, length, get_or, Some, None, sym, ap, ◌∙◌}
 use Rattle.group_state.proofs.GroupLaws.{length_new}
 use Rattle.turn_group.specs.Seats.{MoverSeatState, new_mover, new_readers}
 use Rattle.group_tests.proofs.Sitting.{place_empty, home_again, all_seated, as_many_seats}

@@ -1,6 +1,6 @@
 use Rattle.std.proofs.Common.{ap, sym, subst, ◌∙◌, arith}
 use Rattle.pending_queue.specs.Groups.{heads}
-use Rattle.image_former.specs.Links.{GoesBack}
+use Rattle.image_former.specs.Links.{LeadsBack}
 use Rattle.image_former.specs.Steps.{same_track}
 use Rattle.image_former.proofs.Besides.{any_here, any_none, none_before, none_by_link}
 use Rattle.image_former.proofs.Entries.{entry_there}
@@ -30,4 +30,4 @@ returns c =
     let entries = c.args.formed.now.entries in
     let own = bucket_there (heads c.args.formed.now) c.args.place c.args.head c.requires.head in
     sym (any_none c.args.head entries c.args.place
-    (none_before c.args.head entries c.loop-earlier.at c.args.place c.loop-earlier.invariant.2 (subst (GoesBack (heads c.args.formed.now) c.loop-earlier.at) c.in_default.is c.back.ensures) (c.loop-earlier.invariant.1 ∙ own)))
+    (none_before c.args.head entries c.loop-earlier.at c.args.place c.loop-earlier.invariant.2 (subst (LeadsBack (heads c.args.formed.now) c.loop-earlier.at) c.in_default.is c.back.ensures) (c.loop-earlier.invariant.1 ∙ own)))

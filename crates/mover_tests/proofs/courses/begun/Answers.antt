@@ -1,7 +1,4 @@
 use Rattle.std.proofs.Common.{rules, ◌≡◌, ◌≤◌, sym, subst, ◌∙◌}
-use Rattle.xrc_edge.specs.declared.limits.TheConstants.{MOST_CONTROLS}
-use Rattle.pair_table.specs.declared.names.NamedVolume.{NamedVolume}
-use Rattle.pair_table.specs.Naming.{Naming}
 use Rattle.mover_tests.specs.Courses.{AreOpened}
 use Rattle.mover_tests.proofs.Going.{may_begin}
 use Rattle.mover_tests.proofs.courses.begun.Goals as goal

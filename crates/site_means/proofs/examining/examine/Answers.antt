@@ -6,7 +6,7 @@ use Rattle.site_means.specs.Images.{shape_of}
 use Rattle.site_means.specs.Meaning.{meaning_in}
 use Rattle.crash_plant.specs.declared.device.Device.{Device}
 use Rattle.site_means.specs.declared.site_error.SiteError.TheVariants.{Fault, TooSmall}
-use Rattle.site_means.specs.Answers.{IsExamined, IsInTurn, IsOfControl, IsRead, Mean, AnswersMeaning}
+use Rattle.site_means.specs.Answers.{IsStore, IsInTurn, IsOfControl, IsRead, Mean, AnswersMeaning}
 use Rattle.site_means.proofs.ReadAll.{reads_then}
 use Rattle.site_means.proofs.Meanings.{same_seen, seen_chosen, seen_error, seen_meaning, seen_reached}
 use Rattle.site_means.proofs.examining.examine.Goals as goal
@@ -54,7 +54,7 @@ pub returns-in_err-mark-clause-examined : goal.returns-in_err-mark-clause-examin
 returns-in_err-mark-clause-examined g c = λ d is.
     let e = c.in_err-mark.field-0.0 in
     let same : e ≡ Fault d = search rules in
-    subst (λ (k : Device). IsExamined k) (sym (subst (λ (k : SiteError). IsOfControl k) same (c.in_err-mark.ensures.wrong e (λ i. Err e)))) tt
+    subst (λ (k : Device). IsStore k) (sym (subst (λ (k : SiteError). IsOfControl k) same (c.in_err-mark.ensures.wrong e (λ i. Err e)))) tt
 
 pub returns-in_err-mark-clause-reached : goal.returns-in_err-mark-clause-reached
 returns-in_err-mark-clause-reached g c = λ told d is.

@@ -8,7 +8,7 @@ use Rattle.site_means.specs.Images.{shape_of}
 use Rattle.site_means.specs.Meaning.{meaning_in}
 use Rattle.crash_plant.specs.declared.device.Device.{Device}
 use Rattle.site_means.specs.declared.site_error.SiteError.TheVariants.{Fault, TooSmall}
-use Rattle.site_means.specs.Answers.{AnswersMeaning, IsExamined, IsInTurn, IsOfState, IsRead, IsStored, RestDurable, WhereTold}
+use Rattle.site_means.specs.Answers.{AnswersMeaning, IsStore, IsInTurn, IsOfState, IsRead, IsStored, RestDurable, WhereTold}
 use Rattle.site_means.proofs.ReadAll.{reads_then}
 use Rattle.site_means.proofs.Shorts.{are_long}
 use Rattle.site_means.proofs.Meanings.{rest_told, same_seen, says_as, seen_chosen, seen_reached, seen_read, seen_stored, seen_told, spot_later, state_told}
@@ -84,7 +84,7 @@ pub returns-in_err-level-clause-examined : goal.returns-in_err-level-clause-exam
 returns-in_err-level-clause-examined g c = λ d is.
     let e = c.in_err-level.field-0.0 in
     let same : e ≡ Fault d = search rules in
-    subst (λ (k : Device). IsExamined k) (sym (subst (λ (k : SiteError). IsOfState k) same (c.in_err-level.ensures.wrong e (λ i. Err e)))) tt
+    subst (λ (k : Device). IsStore k) (sym (subst (λ (k : SiteError). IsOfState k) same (c.in_err-level.ensures.wrong e (λ i. Err e)))) tt
 
 pub returns-in_err-level-clause-short : goal.returns-in_err-level-clause-short
 returns-in_err-level-clause-short g c = λ d needed is.

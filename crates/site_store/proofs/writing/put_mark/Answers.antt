@@ -1,7 +1,7 @@
-use Rattle.std.proofs.Common.{ℕ, List, sym, ap, subst, ◌∙◌, arith, rules}
+use Rattle.std.proofs.Common.{ℕ, List, [], sym, ap, subst, ◌∙◌, arith}
 use Rattle.crash_plant.specs.declared.device.Device.TheVariants.{Control, State}
 use Rattle.crash_plant.proofs.Steps.{works_on_more, works_on_trans}
-use Rattle.control_set.specs.Slots.{IsNext, chosen_mark, free_place, lengths_of}
+use Rattle.control_set.specs.Slots.{IsNext, chosen_mark, chosen_of, free_place, lengths_of, slot_of}
 use Rattle.control_set.proofs.Lengths.{same_lengths}
 use Rattle.state_set.specs.Slots.{state_length, state_of}
 use Rattle.site_store.proofs.Calls.{durable_still}
@@ -68,6 +68,7 @@ returns-clause-second g c told gates =
     let mid = g.P.Plant.state c.put.new.plant in
     let new = g.P.Plant.state c.mark.new.plant in
     let size = g.met.P.Plant.length_told c.args.plant.now Control told tt in
+    let size_then = g.met.P.Plant.length_told c.mark.new.plant Control told tt in
     second_stays (lengths_of mid) c.args.value.now (old.bytes Control) (mid.bytes Control) (new.bytes Control) (omega (arith, size, c.requires.control))
-    (record { number = search rules; session = search rules; state_slot = search rules; set = search rules; place = search rules; next = search rules; time = search rules })
-    gates (c.put.ensures.only.others told Control (λ same. cc same)).bytes (c.in-Ok-mark.ensures.written told)
+    (omega (arith, size_then, c.mark.ensures.only.site.lengths Control, c.put.ensures.only.site.lengths Control, c.requires.control))
+    gates (c.put.ensures.only.others told Control (λ same. cc same)).bytes (λ none. ap (λ s. chosen_of s (slot_of (lengths_of mid) [])) (c.in-Ok-mark.ensures.first told none)) (c.in-Ok-mark.ensures.written told)

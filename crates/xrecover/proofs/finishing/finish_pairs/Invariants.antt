@@ -1,6 +1,6 @@
 use Rattle.std.proofs.Common.{◌≡◌, ◌≤◌, [], length, take, vec_capacity, vec_len}
 use Rattle.crash_plant.specs.declared.device.Device.{Device}
-use Rattle.site_means.specs.Answers.{IsExamined}
+use Rattle.site_means.specs.Answers.{IsStore}
 use Rattle.xrecover.specs.Labels.{TreatsLabels}
 use Rattle.xrecover.specs.SideVolumes.{is_left}
 use Rattle.xrecover.proofs.Going.{Going}
@@ -11,7 +11,7 @@ abbrev pub invariant-loop-place : goal.invariant-loop-place
 invariant-loop-place g l = record {
   going : Going g.P.Plant.tells l.labelling (is_left l.jobs) [] (take l.place l.table.rows) l.failed.items (g.P.Plant.state l.fn.plant) (g.P.Plant.state l.plant);
   treats : g.P.Plant.tells → TreatsLabels l.labelling l.table.rows [] (g.P.Plant.state l.fn.plant) (g.P.Plant.state l.plant);
-  counts : (d : Device) → IsExamined d → (g.P.Plant.state l.plant).faults d ≡ (g.P.Plant.state l.fn.plant).faults d;
+  counts : (d : Device) → IsStore d → (g.P.Plant.state l.plant).faults d ≡ (g.P.Plant.state l.fn.plant).faults d;
   count : vec_len l.failed ≤ l.place;
   places : length l.table.rows ≤ vec_capacity l.failed;
 }

@@ -3,7 +3,7 @@ use Rattle.control_set.specs.declared.value.Mark.{Mark}
 use Rattle.site_means.specs.declared.reading.SiteReading.{SiteReading}
 use Rattle.site_means.specs.declared.site_error.SiteError.TheVariants.{Fault, TooSmall}
 use Rattle.crash_plant.specs.declared.device.Device.{Device}
-use Rattle.site_means.specs.Answers.{IsExamined}
+use Rattle.site_means.specs.Answers.{IsStore}
 use Rattle.site_means.specs.Answers.{IsChosen, IsRead}
 use Rattle.site_means.proofs.ReadAll.{reads_then}
 use Rattle.xrecover.specs.declared.recover_error.RecoverError.{RecoverError}
@@ -89,4 +89,4 @@ pub returns-in_err-mark-clause-examined : goal.returns-in_err-mark-clause-examin
 returns-in_err-mark-clause-examined g c = λ d is.
     let e = c.in_err-mark.field-0.0 in
     let same : e ≡ Site (Fault d) = search rules in
-    subst (λ (k : Device). IsExamined k) (sym (c.in_err-mark.ensures.wrong (Fault d) (ap (λ (k : RecoverError). Err k) same))) tt
+    subst (λ (k : Device). IsStore k) (sym (c.in_err-mark.ensures.wrong (Fault d) (ap (λ (k : RecoverError). Err k) same))) tt

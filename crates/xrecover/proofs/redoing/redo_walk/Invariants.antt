@@ -1,7 +1,7 @@
 use Rattle.std.proofs.Common.{◌≡◌, ◌<◌, ◌-◌, ◌^◌, ℕ, false}
 use Rattle.crash_plant.specs.declared.device.Device.{Device}
 use Rattle.crash_plant.specs.declared.device.Device.TheVariants.{Journal, Volume}
-use Rattle.site_means.specs.Answers.{IsExamined}
+use Rattle.site_means.specs.Answers.{IsStore}
 use Rattle.site_means.specs.Images.{shape_of}
 use Rattle.site_means.specs.Sight.{walked}
 use Rattle.xrecover.specs.SideVolumes.{AppliesSides, AreHome, is_left}
@@ -12,7 +12,7 @@ use Rattle.xrecover.proofs.redoing.redo_walk.Given as goal
 abbrev pub invariant-loop-time : goal.invariant-loop-time
 invariant-loop-time g l = record {
   applies : AppliesSides g.P.Plant.tells (walked (g.P.Plant.state l.fn.plant) (g.P.Plant.state l.fn.plant).bytes) (is_left l.fn.jobs) (is_left l.jobs) (g.P.Plant.state l.fn.plant) (g.P.Plant.state l.plant);
-  counts : (d : Device) → IsExamined d → (g.P.Plant.state l.plant).faults d ≡ (g.P.Plant.state l.fn.plant).faults d;
+  counts : (d : Device) → IsStore d → (g.P.Plant.state l.plant).faults d ≡ (g.P.Plant.state l.fn.plant).faults d;
   jobs : AreHome (g.P.Plant.state l.plant).volumes l.jobs;
   set : l.at.set < (g.P.Plant.state l.plant).journals;
   place : l.at.place < (g.P.Plant.state l.plant).lengths (Journal l.at.set);

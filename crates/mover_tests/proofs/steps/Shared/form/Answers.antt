@@ -1,4 +1,4 @@
-use Rattle.std.proofs.Common.{rules, ◌≡◌, ◌≤◌, ap, sym, subst}
+use Rattle.std.proofs.Common.{rules, ◌≡◌, ◌≤◌, sym, subst}
 use Rattle.tod_stamp.specs.declared.stamp.Stamp.{Stamp}
 use Rattle.mover_tests.specs.Steps.{HaveControlsReported}
 use Rattle.mover_tests.proofs.Stepping.{told_formed}

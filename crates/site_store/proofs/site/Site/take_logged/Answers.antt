@@ -1,4 +1,4 @@
-use Rattle.std.proofs.Common.{◌≡◌, ◌≤◌, List, [], length, map, refl, sym, ap, subst, ◌∙◌, true, false}
+use Rattle.std.proofs.Common.{◌≡◌, ◌≤◌, List, [], length, map, refl, sym, ap, subst, ◌∙◌, true}
 use Rattle.pair_table.specs.Tables.{are_below, with_rows}
 use Rattle.record_rows.specs.Records.{rows_with_hits}
 use Rattle.xrc_journal.specs.declared.job.VolumeJob.{VolumeJob}
