@@ -1,5 +1,7 @@
 //! Writes as the entries of a group.
 
+ghost use Rattle.std.specs.Prelude.{◌≡◌};
+
 use ckd_track::{Batch, Kind, Rec, RecList, Track, Write, WriteList};
 use pending_queue::{Formed, Queue};
 use std::alloc::Global;

@@ -7,9 +7,21 @@ use Rattle.write_trace.specs.declared.trace.TraceEnd.TheVariants.{Ended}
 use Rattle.write_trace.specs.WholeTraces.{trace_of}
 use Rattle.xrc_command.specs.declared.line.Line.{Line}
 use Rattle.xrc_command.specs.Lines.{IsLine}
-use Rattle.workload.specs.declared.layout.TheConstants.{CONTROLS}
+use Rattle.workload.specs.declared.layout.TheConstants.{CONTENT, CONTROLS, CYLINDERS, FIRST_STAMP, JOURNALS, PAIRS, RECORDS, VOLUMES, WRITES}
 use Rattle.workload.specs.Traces.{generated_entries, generated_header, generated_trace}
 use Rattle.workload.specs.Scripts.{generated_line_text, generated_lines}
+
+-- The definitions of a generated input name its numbers. Here each name has its number.
+pub record IsInputFixed : Type 0 where
+  pub controls : CONTROLS ≡ 4
+  pub volumes : VOLUMES ≡ 2
+  pub cylinders : CYLINDERS ≡ 1
+  pub records : RECORDS ≡ 4
+  pub content : CONTENT ≡ 8
+  pub writes : WRITES ≡ 500
+  pub first_stamp : FIRST_STAMP ≡ 1000
+  pub pairs : PAIRS ≡ 8
+  pub journals : JOURNALS ≡ 2
 
 -- the trace of a controller: its header and all its writes, and a clean end
 abbrev pub whole_generated : (number control : ℕ) → Trace

@@ -14,6 +14,6 @@ mod traces;
 mod tracks;
 
 pub use input::generate;
-pub use laws::{scripts_are_read, traces_are_good};
+pub use laws::{input_is_fixed, scripts_are_read, traces_are_good};
 pub use layout::CONTROLS;
 pub use summing::summary;

@@ -1,14 +1,16 @@
 -- The numbers of all limits and lengths.
-use Rattle.std.specs.Prelude.{◌≡◌, ◌-◌, ◌^◌}
+use Rattle.std.specs.Prelude.{◌≡◌, ◌-◌, ◌^◌, true}
 use Rattle.xrc_edge.specs.declared.block.TheConstants.{BLOCK}
 use Rattle.xrc_edge.specs.declared.limits.TheConstants.{FEWEST_JOURNALS, LONGEST_LINE, LONGEST_TEXT, LONGEST_TRACE, MOST_CONTROLS, MOST_CONTROL_VOLUMES, MOST_CYLINDERS, MOST_JOURNALS, MOST_LINES, MOST_SITE_VOLUMES, TRACKS_OF_CYLINDER}
 use Rattle.ckd_track.specs.declared.layout.TheConstants.{CAPACITY, CYLINDER_LENGTH, FIRST_SLOT, LONGEST_UPDATE, SLOT_LENGTH, WRITES_OF_RUN}
 use Rattle.crash_plant.specs.declared.layout.TheConstants.{CONTROL_LENGTH, STATE_LENGTH, SWITCH}
 use Rattle.pair_table.specs.declared.limits.TheConstants.{MOST_ROWS, ROW_LENGTH}
 use Rattle.xrc_journal.specs.declared.layout.TheConstants.{BESIDE_CONTROLS, MOST_BODY, OF_CONTROL}
+use Rattle.control_set.specs.Slots.{place_of_slot}
+use Rattle.state_set.specs.Slots.{state_slot_place}
 use Rattle.xrc_cli.specs.declared.words.TheConstants.{LAST_DEVICE, MOST_NUMBER}
 
--- Contracts name each limit. Here each name has its number.
+-- Contracts name each limit. Here each name has its number. The second slots of control and state have their places.
 pub record AreLimitsFixed : Type 0 where
   -- a session, its traces and its script
   pub controls : MOST_CONTROLS ≡ 16
@@ -37,6 +39,8 @@ pub record AreLimitsFixed : Type 0 where
   pub cylinder : CYLINDER_LENGTH ≡ 860160
   pub control : CONTROL_LENGTH ≡ 1024
   pub state : STATE_LENGTH ≡ 16384
+  pub second_mark : place_of_slot true ≡ 512
+  pub second_state : state_slot_place 1 ≡ 8192
   pub switch : SWITCH ≡ 24
   pub beside_controls : BESIDE_CONTROLS ≡ 8192
   pub of_control : OF_CONTROL ≡ 1818624
