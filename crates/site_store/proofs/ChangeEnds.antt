@@ -1,7 +1,9 @@
 -- The answers of a call that logs a change, over plain states.
-use Rattle.std.proofs.Common.{◌≡◌, ◌≢◌, ℕ, ◌*◌, ◌^◌, ◌≤◌, ◌<◌, ◌++◌, Bool, false, true, List, [], ◌∷◌, length, Result, Ok, Err, refl, sym, ap, subst, ◌∙◌, arith}
-use Rattle.std.specs.Prelude.{OnOk, IsErrOf}
+use Rattle.std.proofs.Common.{◌≡◌, ◌≢◌, ℕ, ◌*◌, ◌-◌, ◌^◌, ◌≤◌, ◌<◌, ◌++◌, Bool, false, true, List, [], ◌∷◌, length, Result, Ok, Err, refl, sym, ap, subst, ◌∙◌, arith}
+use Rattle.std.specs.Prelude.{◌↔◌, OnOk, IsErrOf}
+use Rattle.std.specs.List.{list_all}
 use Rattle.tod_stamp.specs.declared.stamp.Stamp.{Stamp}
+use Rattle.crash_plant.specs.declared.device.Device.TheVariants.{Journal}
 use Rattle.crash_plant.specs.Calls.{WorksOn}
 use Rattle.crash_plant.specs.Choices.{Choice, IsChoice}
 use Rattle.crash_plant.specs.Moments.{PlantState}
@@ -13,7 +15,7 @@ use Rattle.record_rows.specs.Deeds.{Deed}
 use Rattle.record_rows.specs.Deeds.Deed.{Changed, Marked as MarkedDeed}
 use Rattle.record_rows.specs.Hits.{hit_now, rows_marked}
 use Rattle.record_rows.specs.Records.{rows_with_hits}
-use Rattle.site_store.specs.DoneDeeds.{BeginsDeeds, DoesDeeds}
+use Rattle.site_store.specs.DoneDeeds.{DoesDeeds}
 use Rattle.site_store.specs.Exceptions.{Exceptions}
 use Rattle.site_store.proofs.Moments.{more_follow}
 use Rattle.site_store.proofs.Single.{no_call}
@@ -23,29 +25,31 @@ use Rattle.state_set.specs.Slots.{are_rows}
 use Rattle.state_set.proofs.After.{rows_from}
 use Rattle.xrc_journal.specs.Bodies.{BodyState}
 use Rattle.xrc_journal.specs.Items.{Item, body_spelling, form_of}
-use Rattle.xrc_journal.specs.RingWalks.{AllEndThrough}
 use Rattle.site_store.specs.declared.store_error.StoreError.{StoreError}
 use Rattle.site_store.specs.declared.store_error.StoreError.TheVariants.{Spent}
 use Rattle.site_store.specs.declared.placement.Placement.{Placement}
 use Rattle.site_store.specs.declared.placement.Placement.TheVariants.{Here, Marked}
-use Rattle.site_store.specs.Changing.{AreChangeItems, DoesChange, DoesRows, FormsChange, Lead, IsAfterChange, IsPlacementOfChange, LogsChange, MayChange, change_deeds, change_deeds_of, changed_items}
+use Rattle.site_store.specs.Changing.{AreChangeItems, DoesChange, FormsChange, Lead, IsAfterChange, IsPlacementOfChange, LogsChange, MayChange, change_deeds, change_deeds_of, changed_items, suspension_deeds}
 use Rattle.site_store.specs.Hits.{pairs_with_next, with_hits}
 use Rattle.site_store.specs.Marking.{MakesMark}
 use Rattle.site_store.specs.Recording.{HasRoomBy, MayPutRecord, ShowsRecord, group_with}
-use Rattle.site_store.specs.Records.{IsJournal, IsOfMark, after_record}
+use Rattle.site_store.specs.Records.{IsJournal, IsOfMark, after_mark, after_record}
+use Rattle.site_store.specs.RowRecords.{DoesRows, IsAfterRows, LogsRecord, are_rows_spent, has_items, names_rows, rows_deeds}
 use Rattle.site_store.specs.Sites.{SiteState, meant_for}
-use Rattle.site_store.specs.Standing.{FitsPlant, Leaves, SiteStands, none_excepted}
+use Rattle.site_store.specs.Standing.{FitsPlant, Leaves, SiteStands, none_excepted, row_has_volume}
 use Rattle.site_store.specs.Placements.{is_spent, placement_of}
 use Rattle.site_store.proofs.Below.{below_volumes}
-use Rattle.site_store.proofs.ChangeFirst.{ComesFirst, change_begins, change_done, change_stands, mark_first, nothing_first}
-use Rattle.site_store.proofs.MarkFirst.{mark_begins}
+use Rattle.site_store.proofs.ChangeFirst.{ComesFirst, mark_done, mark_first, nothing_first, rows_do, rows_leave}
+use Rattle.site_store.proofs.MarkFirst.{Suffice, mark_begins, room_after_mark, suffice}
 use Rattle.site_store.proofs.HitsLead.{change_leads, near_leads, near_marked}
+use Rattle.site_store.proofs.LogForms.{HasPlace, plain_place}
+use Rattle.site_store.proofs.LogPut.{IsReady, MakesDeed, may_put as put_may}
 use Rattle.site_store.proofs.MeantRows.{meant_apart}
-use Rattle.site_store.proofs.Numbers.{record_enough}
-use Rattle.site_store.proofs.RowEnds.{begin_here, change_is, change_none, change_plain, leaves_ok, with_told_mark}
+use Rattle.site_store.proofs.RecordPuts.{on_ok}
+use Rattle.site_store.proofs.RowEnds.{begin_here, change_is, change_none, change_plain, plain_after, plain_suspensions, record_enough, suspension_plain, with_told_mark}
 use Rattle.site_store.proofs.RowItems.{AreRowItems, both_rows, changes_rows, keep_anywhere, next_rows}
-use Rattle.site_store.proofs.RowRoom.{HasPlacement, NumbersSuffice, has_placement, hits_have, may_put_rows, room_by_placement, rows_fit}
-use Rattle.site_store.proofs.RowsLogged.{AreRowsLogged, with_logged_rows}
+use Rattle.site_store.proofs.RowRoom.{hits_have}
+use Rattle.site_store.proofs.RowsLogged.{rows_make, with_logged_rows}
 use Rattle.site_store.proofs.StandsEnd.{from_low}
 
 -- ---- nothing is called
@@ -54,12 +58,19 @@ use Rattle.site_store.proofs.StandsEnd.{from_low}
 abbrev pub level_with : SiteState → SiteState
 level_with site = record site { is_ahead = false }
 
+pub some_items : (items : List Item) → has_items items ≡ true → items ≢ []
+some_items items some none = let no = ap has_items none in absurd (cc (no, some))
+
+pub no_items : (items : List Item) → has_items items ≡ false → items ≡ []
+no_items [] none = refl
+no_items (i ∷ items) none = absurd cc
+
 -- Without items the rows on the devices are the table's.
 pub told_is : (tells : Type 0) (cut : ℕ) (change : Change) (site : SiteState) (old : PlantState) → MayChange tells cut change site old → changed_items change site.table.rows ≡ [] → site.told ≡ site.table.rows
 told_is tells cut change site old may none = ap (λ (l : List Item). rows_through l site.told) (sym none) ∙ may.lead.leads
 
-pub level_view : (view site : SiteState) → view ≡ site → site.waiting ≡ [] → site.told ≡ site.table.rows → record view { is_ahead = false; told = view.table.rows; waiting = [] } ≡ level_with site
-level_view view site is idle told = ap (λ (s : SiteState). record s { is_ahead = false; told = s.table.rows; waiting = [] }) is ∙ (λ i. record site { is_ahead = false; told = sym told i; waiting = sym idle i })
+pub level_view : (view site : SiteState) → view ≡ site → site.told ≡ site.table.rows → record view { is_ahead = false; told = view.table.rows } ≡ level_with site
+level_view view site is told = ap (λ (s : SiteState). record s { is_ahead = false; told = s.table.rows }) is ∙ (λ i. record site { is_ahead = false; told = sym told i })
 
 pub none_leaves : (tells : Type 0) (site : SiteState) (old : PlantState) → FitsPlant site old → Leaves tells (λ e. e) site (level_with site) old old
 none_leaves tells site old fits = record {
@@ -141,79 +152,106 @@ module _ (tells : Type 0) (cut : Stamp) (change : Change) (site : SiteState) (ol
   short : length (body_spelling now.items) ≤ 128 * 31
   short = omega (arith, forms.short, may.few)
 
+  are_ready : (at : SiteState) (plant : PlantState) (placement : Placement) → FitsPlant at plant → at.waiting ≡ [] → at.time ≤ cut.0 → list_all (row_has_volume plant) site.table.rows ≡ true → HasRoomBy plant placement at.mark.at at.at now.items → at.at.number ≤ 2 ^ 64 - 2 → IsReady cut.0 placement at rows plant now.items
+  are_ready at plant placement fit idle late have room number = record {
+    fits = fit;
+    idle = idle;
+    late = late;
+    keep = keep_anywhere (form_of plant) now.items are_rows_alone forms.keep;
+    have = hits_have plant site.level cut.0 failed site.table.rows have;
+    room = room;
+    number = number;
+    short = omega (arith, short);
+  }
+
   -- ---- the record comes after nothing
 
-  module _ (same : failed ≡ site.failed) (some : changed_items change site.table.rows ≢ []) where
-    logged : AreRowsLogged site old cut.0 now.items rows
-    logged = record { are = are_rows_alone; lead = formed.lead; late = may.cut_is; idle = may.idle }
+  abbrev follows : Bool
+  follows = names_rows change site.table.rows
 
-    first : AreChangeItems cut.0 change site.failed site old now.items
-    first = subst (λ (f : List Bool). AreChangeItems cut.0 change f site old now.items) same formed
+  module _ (same : failed ≡ site.failed) (placement : Placement) (placement_is : placement ≡ placement_of old site now.items) where
+    is_placement : (w : Placement) → placement ≡ w → IsPlacementOfChange cut.0 change site old w
+    is_placement w is = record { first = now.items; formed = subst (λ (f : List Bool). AreChangeItems cut.0 change f site old now.items) same formed; placement_is = sym is ∙ placement_is }
 
-    module _ (placement : Placement) (placement_is : placement ≡ placement_of old site now.items) where
-      pub change_placement : IsPlacementOfChange cut.0 change site old placement
-      change_placement = record { first = now.items; formed = first; placement_is = placement_is }
+    pub spent_logs : (next : SiteState) → are_rows_spent follows placement site ≡ true → LogsRecord tells cut.0 change site next old old (Err Spent)
+    spent_logs next spent = record {
+      placement = placement;
+      is_placement = is_placement placement refl;
+      spent = (λ e. spent, λ e. refl);
+      after = tt;
+      does = record { begins = λ told e stands. begin_here old e site.told (rows_deeds follows placement site cut.0 next.failed); does = λ told. tt };
+    }
 
-      pub spent_logs : {P : Type 0} (was : P) (next : SiteState) → is_spent placement site ≡ true → LogsChange cut.0 change site next old was was (Err Spent)
-      spent_logs was next spent = record { nothing = λ none. absurd (some none); rows = λ more. record { placement = placement; is_placement = change_placement; spent = (λ e. spent, λ e. refl); after = tt } }
-
-      pub spent_done : (next : SiteState) → DoesChange tells cut.0 change site next old old (Err Spent)
-      spent_done next = record {
-        placement = placement;
-        is_placement = λ more. change_placement;
-        begins = λ told e stands. begin_here old e site.told (change_deeds_of change placement site cut.0 next.failed);
-        does = λ told. tt;
+    module _ (enough : are_rows_spent follows placement site ≡ false) (next : SiteState) (new : PlantState) (result : Result (Unit {0}) StoreError) (unspent : ¬ IsErrOf result Spent) where
+      -- What follows from whether a record follows a mark, and from the placement, is so of the record.
+      logs_by : (f : Bool) → follows ≡ f → (w : Placement) → placement ≡ w → OnOk result (IsAfterRows f cut.0 change w now.items site next old) → DoesRows tells (rows_deeds f w site cut.0 next.failed) site old new result → LogsRecord tells cut.0 change site next old new result
+      unfolding is_placement
+      logs_by f f_is w w_is after does = record {
+        placement = w;
+        is_placement = is_placement w w_is;
+        spent = (λ e. absurd (unspent e), λ spent. absurd (cc (spent, subst (λ (v : Placement). are_rows_spent follows v site ≡ false) w_is enough)));
+        after = subst (λ (b : Bool). OnOk result (IsAfterRows b cut.0 change w now.items site next old)) (sym f_is) after;
+        does = subst (λ (b : Bool). DoesRows tells (rows_deeds b w site cut.0 next.failed) site old new result) (sym f_is) does;
       }
 
-    module _ (placement : Placement) (placement_is : placement ≡ placement_of old site now.items) (enough : is_spent placement site ≡ false) where
-      logs : {P : Type 0} (was is : P) (next : SiteState) (result : Result (Unit {0}) StoreError) → ¬ IsErrOf result Spent → OnOk result (IsAfterChange cut.0 change placement site next old) → LogsChange cut.0 change site next old was is result
-      logs was is next result unspent after = record {
-        nothing = λ none. absurd (some none);
-        rows = λ more. record { placement = placement; is_placement = change_placement placement placement_is; spent = (λ e. absurd (unspent e), λ spent. absurd (cc (spent, enough))); after = after };
-      }
+      -- The record came after a mark.
+      pub after_logs : follows ≡ true → placement ≡ Marked → OnOk result (IsAfterChange cut.0 change Marked site next old) → DoesRows tells (change_deeds Marked site cut.0 next.failed) site old new result → LogsRecord tells cut.0 change site next old new result
+      after_logs follow marked after does = logs_by true follow Marked marked after does
 
-      pub mark_logs : {P : Type 0} (was is : P) (next : SiteState) (result : Result (Unit {0}) StoreError) → placement ≡ Marked → ¬ IsErrOf result Spent → OnOk result (IsAfterChange cut.0 change Marked site next old) → LogsChange cut.0 change site next old was is result
-      mark_logs was is next result marked unspent after = logs was is next result unspent (subst (λ (w : Placement). OnOk result (IsAfterChange cut.0 change w site next old)) (sym marked) after)
+      -- A mark was made in place of the hits' record.
+      pub mark_logs : follows ≡ false → placement ≡ Marked → OnOk result (next ≡ after_mark site.mark.ended (rows_with_hits site.level site.time next.failed site.told) next.failed site)
+          → MakesMark tells site.mark.ended (rows_with_hits site.level site.time next.failed site.told) site next old new result → LogsRecord tells cut.0 change site next old new result
+      mark_logs alone marked after makes =
+          let told_rows = rows_with_hits site.level site.time next.failed site.told in
+          logs_by false alone Marked marked after (record {
+            begins = λ told e stands. mark_begins tells site.mark.ended told_rows site next old new result makes may.idle told e stands;
+            does = λ told. mark_done tells site next old new site.mark.ended told_rows may.idle result makes told;
+          })
 
-      module _ (plain : placement ≢ Marked) where
-        suffice : NumbersSuffice placement site.at.number
-        suffice = record_enough placement site.at.number site.mark.number enough
+    module _ (plain : placement ≢ Marked) (enough : are_rows_spent follows placement site ≡ false) where
+      place : HasPlace old placement site.mark.at site.at now.items
+      place = plain_place site.controls site.mark.number old site.at site.mark.at now.items placement fits.lengths fits.set (omega (arith, short)) placement_is plain (record_enough follows placement site.at.number site.mark.number plain enough)
 
-        room : HasRoomBy old placement site.mark.at site.at now.items
-        room = room_by_placement site old fits now.items short placement (subst (HasPlacement old site.at site.mark.at now.items) (sym placement_is) (has_placement old site.at site.mark.at now.items)) (λ marked. absurd (plain marked)) suffice
+      ready : IsReady cut.0 placement site rows old now.items
+      ready = are_ready site old placement fits may.idle may.cut_is fits.rows place.room place.number
 
-        pub may_put : (tells → AllEndThrough old site.mark.at site.at cut.0) → MayPutRecord tells placement site.mark.at site.at cut.0 now.items old
-        may_put ends = may_put_rows site old fits now.items short tells placement cut.0 room suffice (keep_anywhere (form_of old) now.items are_rows_alone forms.keep) ends
+      pub may_put : (tells → IsChoice old old.clock old.bytes) → (tells → length (old.bytes (Journal site.at.set)) ≡ old.lengths (Journal site.at.set)) → MayPutRecord tells placement site.mark.at site.at cut.0 now.items old
+      may_put read size = put_may cut.0 placement site rows old now.items ready tells may.fast.stands read size
 
-        pub record_logs : {P : Type 0} (was is : P) (next : SiteState) (result : Result (Unit {0}) StoreError) → ¬ IsErrOf result Spent → next.failed ≡ site.failed
-            → OnOk result (next ≡ after_record old.journals placement cut.0 now.items (rows_with_hits site.level cut.0 next.failed site.table.rows) next.failed site) → LogsChange cut.0 change site next old was is result
-        record_logs was is next result unspent still next_is = logs was is next result unspent (after result next_is)
-          where
-            after : (r : Result (Unit {0}) StoreError) → OnOk r (next ≡ after_record old.journals placement cut.0 now.items (rows_with_hits site.level cut.0 next.failed site.table.rows) next.failed site) → OnOk r (IsAfterChange cut.0 change placement site next old)
-            after (Ok value) same = record { items = now.items; are = subst (λ (f : List Bool). AreChangeItems cut.0 change f site old now.items) (sym still) first; next_is = same }
-            after (Err error) same = tt
+      module _ (read : tells → IsChoice old old.clock old.bytes) (new : PlantState) (works : WorksOn tells IsJournal old new) (result : Result (Unit {0}) StoreError) (shows : ShowsRecord tells placement site.mark.at site.at (group_with cut.0 now.items) old new result) where
+        abbrev pub next : SiteState
+        next = with_logged_rows old.journals placement cut.0 now.items rows site
 
-        module _ (low : site.mark.at.number < 2 ^ 64) (new : PlantState) (works : WorksOn tells IsJournal old new) (result : Result (Unit {0}) StoreError) (shows : ShowsRecord tells placement site.mark.at site.at (group_with cut.0 now.items) old new result) where
-          abbrev pub next : SiteState
-          next = with_logged_rows old.journals placement cut.0 now.items rows site
+        makes : tells → (e : Exceptions) → SiteStands e site old → MakesDeed tells (Changed cut.0 rows) cut.0 site rows old now.items
+        makes told e stands = rows_make tells cut.0 site old now.items rows are_rows_alone formed.lead
 
-          pub record_leaves : OnOk result (Leaves tells (λ e. e) site next old new)
-          record_leaves =
-              leaves_ok tells site next old new result (rows_fit tells site old new placement cut.0 now.items rows fits works room may.cut_is may.idle (hits_have old site.level cut.0 failed site.table.rows fits.rows))
-              (change_stands tells [] site site old old new (nothing_first tells site old) placement cut.0 now.items rows (λ told e stands. logged) low works result shows)
+        pub record_leaves : OnOk result (Leaves tells (λ e. e) site next old new)
+        record_leaves = rows_leave tells [] site site old old new (nothing_first tells site old) placement cut.0 now.items rows are_rows_alone ready makes read works result shows
 
-          pub record_done : (then : SiteState) → then.failed ≡ failed → DoesChange tells cut.0 change site then old new result
-          record_done then still =
-              let deeds_are : Changed cut.0 rows ∷ [] ≡ change_deeds_of change placement site cut.0 then.failed =
-              sym (change_is site cut.0 then.failed change placement some ∙ change_plain site cut.0 then.failed placement plain ∙ ap (λ (f : List Bool). Changed cut.0 (rows_with_hits site.level cut.0 f site.table.rows) ∷ []) still) in
-              record {
-                placement = placement;
-                is_placement = λ more. change_placement placement placement_is;
-                begins = λ told e stands. subst (λ (deeds : List Deed). BeginsDeeds e site.told deeds old new) deeds_are
-                    (change_begins tells [] site site old old new (nothing_first tells site old) placement cut.0 now.items rows (λ told e stands. logged) low works result shows told e stands);
-                does = λ told. subst (λ (deeds : List Deed). OnOk result ((e : Exceptions) → SiteStands e site old → DoesDeeds e site.told deeds old new)) deeds_are
-                    (change_done tells [] site site old old new (nothing_first tells site old) placement cut.0 now.items rows (λ told e stands. logged) low works result shows told);
-              }
+        does_by : (deeds : List Deed) → Changed cut.0 rows ∷ [] ≡ deeds → DoesRows tells deeds site old new result
+        does_by deeds is = subst (λ (d : List Deed). DoesRows tells d site old new result) is (rows_do tells [] site site old old new (nothing_first tells site old) placement cut.0 now.items rows are_rows_alone ready makes read works result shows)
+
+        module _ (then : SiteState) (unspent : ¬ IsErrOf result Spent) (still : then.failed ≡ failed) where
+          after_by : OnOk result (then ≡ next) → OnOk result (then ≡ after_record old.journals placement cut.0 now.items rows site.failed site)
+          after_by is = on_ok result (λ (e : then ≡ next). e ∙ plain_after old.journals placement cut.0 now.items rows site plain) is
+
+          by_follows : (f : Bool) → follows ≡ f → OnOk result (then ≡ next) → LogsRecord tells cut.0 change site then old new result
+          by_follows true follow is = logs_by enough then new result unspent true follow placement refl
+              (on_ok result (λ (e : then ≡ after_record old.journals placement cut.0 now.items rows site.failed site). record {
+                items = now.items;
+                are = subst (λ (f : List Bool). AreChangeItems cut.0 change f site old now.items) (sym still) formed;
+                next_is = e ∙ (λ i. after_record old.journals placement cut.0 now.items (rows_with_hits site.level cut.0 (sym still i) site.table.rows) ((sym same ∙ sym still) i) site);
+              }) (after_by is))
+              (does_by (change_deeds placement site cut.0 then.failed) (sym (change_plain site cut.0 then.failed placement plain ∙ ap (λ (f : List Bool). Changed cut.0 (rows_with_hits site.level cut.0 f site.table.rows) ∷ []) still)))
+          by_follows false alone is =
+              let told : site.told ≡ site.table.rows = told_is tells cut.0 change site old may (no_items changed alone) in
+              logs_by enough then new result unspent false alone placement refl
+              (on_ok result (λ (e : then ≡ after_record old.journals placement cut.0 now.items rows site.failed site).
+              e ∙ (λ i. after_record old.journals placement cut.0 now.items (rows_with_hits site.level cut.0 (same i) (sym told i)) site.failed site) ∙ plain_suspensions old.journals placement cut.0 now.items then.failed site plain) (after_by is))
+              (does_by (suspension_deeds placement site cut.0 then.failed) (sym (suspension_plain site cut.0 then.failed placement plain ∙ (λ i. Changed cut.0 (rows_with_hits site.level cut.0 (still i) (told i)) ∷ []))))
+
+          pub record_logs : OnOk result (then ≡ next) → LogsRecord tells cut.0 change site then old new result
+          record_logs is = by_follows follows refl is
 
   -- ---- the record comes after a mark
 
@@ -224,15 +262,20 @@ module _ (tells : Type 0) (cut : Stamp) (change : Change) (site : SiteState) (ol
     abbrev pub here : SiteState
     here = with_told_mark marked failed site
 
-    suffices : NumbersSuffice Marked site.at.number
-    suffices = record_enough Marked site.at.number site.mark.number enough
+    numbers : Suffice site.at.number site.mark.number
+    numbers = suffice site.at.number site.mark.number fits.mark.most enough
 
-    module _ (touches : WorksOn tells (IsOfMark site) old mid) (makes : MakesMark tells site.mark.ended marked site here old mid (Ok tt)) (leaves : Leaves tells (λ e. none_excepted) site here old mid) where
-      has_room : HasRoomBy mid Marked here.mark.at here.at now.items
-      has_room = room_by_placement here mid leaves.fits now.items short Marked tt (λ e. refl) suffices
+    module _ (touches : WorksOn tells (IsOfMark site) old mid) (makes : MakesMark tells site.mark.ended marked site here old mid (Ok tt)) (leaves : Leaves tells (λ e. none_excepted) site here old mid) (read : tells → IsChoice mid mid.clock mid.bytes) where
+      ready_on : IsReady cut.0 Marked here rows mid now.items
+      ready_on =
+          let next = numbers.next_is in
+          are_ready here mid Marked leaves.fits refl may.cut_is leaves.fits.rows (room_after_mark site.controls mid site.at now.items leaves.fits.lengths leaves.fits.set next (omega (arith, short))) (omega (arith, next))
 
-      pub may_put_after : (tells → AllEndThrough mid here.mark.at here.at cut.0) → MayPutRecord tells Marked here.mark.at here.at cut.0 now.items mid
-      may_put_after ends = may_put_rows here mid leaves.fits now.items short tells Marked cut.0 has_room suffices (keep_anywhere (form_of mid) now.items are_rows_alone forms.keep) ends
+      stands_on : tells → (e : Exceptions) × SiteStands e here mid
+      stands_on told = let before = may.fast.stands told in (none_excepted, leaves.stands told before.0 before.1)
+
+      pub may_put_after : (tells → length (mid.bytes (Journal site.at.set)) ≡ mid.lengths (Journal site.at.set)) → MayPutRecord tells Marked here.mark.at here.at cut.0 now.items mid
+      may_put_after size = put_may cut.0 Marked here rows mid now.items ready_on tells stands_on read size
 
       -- The mark's rows are led to the same.
       leads_on : tells → (e : Exceptions) → SiteStands e site old → Lead old.volumes now.items marked rows
@@ -242,50 +285,37 @@ module _ (tells : Type 0) (cut : Stamp) (change : Change) (site : SiteState) (ol
           subst (λ (l : List Item). Lead old.volumes l marked rows) (sym parts)
           (near_leads site.level cut failed site.table.rows forms.hits forms.are old.volumes keep few changed site.told may.lead marked (near_marked failed site.time site.told apart))
 
-      logged_on : tells → (e : Exceptions) → SiteStands e site old → AreRowsLogged here mid cut.0 now.items rows
-      logged_on told e stands = record {
-        are = are_rows_alone;
-        lead = subst (λ (n : ℕ). Lead n now.items marked rows) (sym touches.site.volumes) (leads_on told e stands);
-        late = may.cut_is;
-        idle = refl;
-      }
+      makes_on : tells → (e : Exceptions) → SiteStands e site old → MakesDeed tells (Changed cut.0 rows) cut.0 here rows mid now.items
+      makes_on told e stands = rows_make tells cut.0 here mid now.items rows are_rows_alone (subst (λ (n : ℕ). Lead n now.items marked rows) (sym touches.site.volumes) (leads_on told e stands))
 
       before : ComesFirst tells (MarkedDeed site.at site.mark.ended marked ∷ []) site here old mid
       before = mark_first tells site here old mid site.mark.ended marked may.idle makes leaves refl
 
-      pub after_logs : (then : SiteState) (result : Result (Unit {0}) StoreError) → then.failed ≡ failed → OnOk result (then ≡ with_logged_rows mid.journals Marked cut.0 now.items rows here) → OnOk result (IsAfterChange cut.0 change Marked site then old)
-      after_logs then (Ok value) still is = record {
+      pub change_after : (then : SiteState) (result : Result (Unit {0}) StoreError) → then.failed ≡ failed → OnOk result (then ≡ with_logged_rows mid.journals Marked cut.0 now.items rows here) → OnOk result (IsAfterChange cut.0 change Marked site then old)
+      change_after then (Ok value) still is = record {
         items = now.items;
         are = subst (λ (f : List Bool). AreChangeItems cut.0 change f site old now.items) (sym still) formed;
         next_is = is ∙ ap (λ (n : ℕ). with_logged_rows n Marked cut.0 now.items rows here) touches.site.journals
             ∙ ap (λ (f : List Bool). after_record old.journals Marked cut.0 now.items (rows_with_hits site.level cut.0 f site.table.rows) f site) (sym still);
       }
-      after_logs then (Err error) still is = tt
+      change_after then (Err error) still is = tt
 
       module _ (new : PlantState) (works : WorksOn tells IsJournal mid new) (result : Result (Unit {0}) StoreError) (shows : ShowsRecord tells Marked here.mark.at here.at (group_with cut.0 now.items) mid new result) where
         abbrev pub next_on : SiteState
         next_on = with_logged_rows mid.journals Marked cut.0 now.items rows here
 
         pub after_leaves : OnOk result (Leaves tells (λ e. e) site next_on old new)
-        after_leaves =
-            leaves_ok tells site next_on old new result (rows_fit tells here mid new Marked cut.0 now.items rows leaves.fits works has_room may.cut_is refl (hits_have mid site.level cut.0 failed site.table.rows leaves.fits.rows))
-            (change_stands tells (MarkedDeed site.at site.mark.ended marked ∷ []) site here old mid new before Marked cut.0 now.items rows logged_on low works result shows)
+        after_leaves = rows_leave tells (MarkedDeed site.at site.mark.ended marked ∷ []) site here old mid new before Marked cut.0 now.items rows are_rows_alone ready_on makes_on read works result shows
 
-        pub after_done : (then : SiteState) → then.failed ≡ failed → DoesRows tells Marked cut.0 site then old new result
-        after_done then still =
-            let deeds_are : MarkedDeed site.at site.mark.ended marked ∷ Changed cut.0 rows ∷ [] ≡ change_deeds Marked site cut.0 then.failed = ap (λ (f : List Bool). change_deeds Marked site cut.0 f) (sym still) in
-            record {
-              begins = λ told e stands. subst (λ (deeds : List Deed). BeginsDeeds e site.told deeds old new) deeds_are
-                  (change_begins tells (MarkedDeed site.at site.mark.ended marked ∷ []) site here old mid new before Marked cut.0 now.items rows logged_on low works result shows told e stands);
-              does = λ told. subst (λ (deeds : List Deed). OnOk result ((e : Exceptions) → SiteStands e site old → DoesDeeds e site.told deeds old new)) deeds_are
-                  (change_done tells (MarkedDeed site.at site.mark.ended marked ∷ []) site here old mid new before Marked cut.0 now.items rows logged_on low works result shows told);
-            }
+        pub after_done : (then : SiteState) → then.failed ≡ failed → DoesRows tells (change_deeds Marked site cut.0 then.failed) site old new result
+        after_done then still = subst (λ (f : List Bool). DoesRows tells (change_deeds Marked site cut.0 f) site old new result) (sym still)
+            (rows_do tells (MarkedDeed site.at site.mark.ended marked ∷ []) site here old mid new before Marked cut.0 now.items rows are_rows_alone ready_on makes_on read works result shows)
 
 -- ---- the mark isn't made
 
 -- The mark's rows tell the hits of the jobs that have failed by then.
 pub mark_fails : (tells : Type 0) (cut : ℕ) (site next : SiteState) (old new : PlantState) (error : StoreError) → site.waiting ≡ [] → MakesMark tells site.mark.ended (rows_marked site.time (hit_now next.failed site.told) site.told) site next old new (Err error)
-    → DoesRows tells Marked cut site next old new (Err error)
+    → DoesRows tells (change_deeds Marked site cut next.failed) site old new (Err error)
 mark_fails tells cut site next old new error idle makes =
     let marked = rows_marked site.time (hit_now next.failed site.told) site.told in
     record {
@@ -294,18 +324,29 @@ mark_fails tells cut site next old new error idle makes =
       does = λ told. tt;
     }
 
--- What is done after a mark is what the change's record does that is placed so.
-pub marked_done : (tells : Type 0) (cut : ℕ) (change : Change) (site next : SiteState) (old new : PlantState) (result : Result (Unit {0}) StoreError) → changed_items change site.table.rows ≢ [] → IsPlacementOfChange cut change site old Marked → DoesRows tells Marked cut site next old new result
-    → DoesChange tells cut change site next old new result
-marked_done tells cut change site next old new result some is_placement does =
-    let deeds_are : change_deeds Marked site cut next.failed ≡ change_deeds_of change Marked site cut next.failed = sym (change_is site cut next.failed change Marked some) in
-    record {
-      placement = Marked;
-      is_placement = λ more. is_placement;
-      begins = λ told e stands. subst (λ (deeds : List Deed). BeginsDeeds e site.told deeds old new) deeds_are (does.begins told e stands);
-      does = λ told. subst (λ (deeds : List Deed). OnOk result ((e : Exceptions) → SiteStands e site old → DoesDeeds e site.told deeds old new)) deeds_are (does.does told);
-    }
-
 -- What was formed by a site's fields is formed so for the site.
-pub forms_there : (level : Level) (cut : Stamp) (flags failed : List Bool) (change : Change) (formed : List PairRow) (site : SiteState) (held now : BodyState) → level ≡ site.level → flags ≡ failed → formed ≡ site.table.rows → FormsChange level cut flags change formed held now → FormsChange site.level cut failed change site.table.rows held now
-forms_there level cut flags failed change formed site held now level_is flags_is rows_is forms = subst (λ (x : Type 0). x) (λ i. FormsChange (level_is i) cut (flags_is i) change (rows_is i) held now) forms
+pub forms_there : (level : Level) (cut : Stamp) (flags failed : List Bool) (change : Change) (named : List PairRow) (site : SiteState) (held now : BodyState) → level ≡ site.level → flags ≡ failed → named ≡ site.table.rows → FormsChange level cut flags change named held now → FormsChange site.level cut failed change site.table.rows held now
+forms_there level cut flags failed change named site held now level_is flags_is rows_is forms = subst (λ (x : Type 0). x) (λ i. FormsChange (level_is i) cut (flags_is i) change (rows_is i) held now) forms
+
+-- ---- what a command's change reads from it
+
+module _ (tells : Type 0) (cut : ℕ) (change : Change) (site next : SiteState) (old new : PlantState) (result : Result (Unit {0}) StoreError) (follow : names_rows change site.table.rows ≡ true) (logs : LogsRecord tells cut change site next old new result) where
+  some : changed_items change site.table.rows ≢ []
+  some = some_items (changed_items change site.table.rows) follow
+
+  pub change_logs : {P : Type 0} (was is : P) → LogsChange cut change site next old was is result
+  change_logs was is = record {
+    nothing = λ none. absurd (some none);
+    rows = λ more. record {
+      placement = logs.placement;
+      is_placement = logs.is_placement;
+      spent = subst (λ (b : Bool). IsErrOf result Spent ↔ (are_rows_spent b logs.placement site ≡ true)) follow logs.spent;
+      after = subst (λ (b : Bool). OnOk result (IsAfterRows b cut change logs.placement logs.is_placement.first site next old)) follow logs.after;
+    };
+  }
+
+  pub change_does : DoesChange tells cut change site next old new result
+  change_does =
+      let does : DoesRows tells (change_deeds_of change logs.placement site cut next.failed) site old new result =
+      subst (λ (d : List Deed). DoesRows tells d site old new result) (ap (λ (b : Bool). rows_deeds b logs.placement site cut next.failed) follow ∙ sym (change_is site cut next.failed change logs.placement some)) logs.does in
+      record { placement = logs.placement; is_placement = λ more. logs.is_placement; begins = does.begins; does = does.does }

@@ -68,7 +68,6 @@ pub mod RowRoom
 pub mod ChangeFirst
 pub mod HitItems
 pub mod RowEnds
-pub mod Numbers
 pub mod SuspensionEnds
 pub mod ChangeEnds
 pub mod Views

@@ -5,9 +5,7 @@ use Rattle.std.specs.List.{list_all, list_any}
 use Rattle.std.proofs.lemmas.Bool.{not-false, or_parts}
 use Rattle.ckd_track.specs.declared.rec.Rec.{Rec}
 use Rattle.ckd_track.specs.SlotPlaces.{slot_track}
-use Rattle.crash_plant.specs.declared.device.Device.{Device}
-use Rattle.crash_plant.specs.declared.device.Device.TheVariants.{Control, State, Journal, Volume}
-use Rattle.crash_plant.specs.Calls.{IsPart, IsThere, NoneLent}
+use Rattle.crash_plant.specs.declared.device.Device.TheVariants.{Volume}
 use Rattle.crash_plant.specs.Choices.{Choice, IsChoice}
 use Rattle.crash_plant.specs.Moments.{PlantState}
 use Rattle.pair_table.specs.declared.row.PairRow.{PairRow}
@@ -32,18 +30,6 @@ use Rattle.site_store.specs.Sites.{SiteState, has_failed, meant_for}
 use Rattle.site_store.specs.Standing.{SiteStands}
 use Rattle.site_store.proofs.RecordPairsFit.{image_rows}
 use Rattle.site_store.proofs.RecordDeeds.{LeavesContent}
-
--- ---- reads
-
-is_there : (plant : PlantState) (d : Device) → NoneLent plant → IsPart plant d → IsThere plant d
-is_there plant Control home part = tt
-is_there plant State home part = tt
-is_there plant (Journal j) home part = part
-is_there plant (Volume v) home part = (part, home v part)
-
--- What reads give is one of the choices.
-pub read_choice : (plant : PlantState) → NoneLent plant → ((d : Device) → IsThere plant d → plant.images plant.clock d (plant.bytes d)) → IsChoice plant plant.clock plant.bytes
-read_choice plant home read d part = read d (is_there plant d home part)
 
 -- ---- items
 

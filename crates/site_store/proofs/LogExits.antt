@@ -38,9 +38,9 @@ use Rattle.site_store.specs.Standing.{FitsPlant, Leaves, MayRecord, SiteStands, 
 use Rattle.site_store.specs.Placements.{is_spent, record_needs_more, placement_from}
 use Rattle.site_store.proofs.LogFails.{StoresQuiet, cause_then, fails_trans, quiet_ok, quiet_reads, spent_cause}
 use Rattle.site_store.proofs.LogForms.{FirstForm, HasPlace, fits_formed, formed_ready, formed_stands, forms_first, group_after_mark, logs_spent, marked_entries, marked_stage, plain_place, plain_stage}
-use Rattle.site_store.proofs.LogPut.{IsReady, logged_site, may_put}
+use Rattle.site_store.proofs.LogPut.{logged_site, may_put}
 use Rattle.site_store.proofs.LogReads.{with_failed}
-use Rattle.site_store.proofs.LogStage.{PutStage, put_cause, put_failed, put_fails, put_leaves, put_logs, put_others}
+use Rattle.site_store.proofs.LogStage.{IsGroupReady, PutStage, put_cause, put_failed, put_fails, put_leaves, put_logs, put_others}
 use Rattle.site_store.proofs.LogStart.{FormedBy, first_formed, first_rows, formed_short, marked_formed, marked_rows, placement_still}
 use Rattle.site_store.proofs.MarkFirst.{room_after_mark, suffice}
 use Rattle.site_store.proofs.MarkRows.{hits_alone}
@@ -81,10 +81,10 @@ module _ (tells : Type 0) (group : FormedGroup) (placement : Placement) (site la
   end_cause result cause = put_cause tells group placement site last after old plant new items stage read works result cause
 
 -- It may be put.
-pub end_may : (tells : Type 0) (group : FormedGroup) (placement : Placement) (last : SiteState) (after : List PairRow) (plant : PlantState) (items : List Item) (ready : IsReady tells group placement last after plant items) (stands : tells → (e : Exceptions) × SiteStands e last plant)
+pub end_may : (tells : Type 0) (group : FormedGroup) (placement : Placement) (last : SiteState) (after : List PairRow) (plant : PlantState) (items : List Item) (ready : IsGroupReady tells group placement last after plant items) (stands : tells → (e : Exceptions) × SiteStands e last plant)
     (read : tells → IsChoice plant plant.clock plant.bytes) (size : tells → length (plant.bytes (Journal last.at.set)) ≡ plant.lengths (Journal last.at.set)) (from : Spot) (cut : ℕ) → from ≡ last.mark.at → cut ≡ group.cut.0 → MayPutRecord tells placement from last.at cut items plant
 end_may tells group placement last after plant items ready stands read size from cut from_is cut_is =
-    subst (λ (n : ℕ). MayPutRecord tells placement from last.at n items plant) (sym cut_is) (subst (λ (s : Spot). MayPutRecord tells placement s last.at group.cut.0 items plant) (sym from_is) (may_put tells group placement last after plant items ready stands read size))
+    subst (λ (n : ℕ). MayPutRecord tells placement from last.at n items plant) (sym cut_is) (subst (λ (s : Spot). MayPutRecord tells placement s last.at group.cut.0 items plant) (sym from_is) (may_put group.cut.0 placement last after plant items ready.place tells stands read size))
 
 -- ---- the record that was formed first
 
@@ -225,7 +225,7 @@ module _ (tells : Type 0) (group : FormedGroup) (site : SiteState) (old mid : Pl
   -- ---- without a mark
 
   module _ (plain : placement ≢ MarkedFirst) (enough : is_spent placement site ≡ false) where
-    pub plain_ready : IsReady tells group placement (with_failed failed site) (rows_with_record site.level group failed site.told) mid items
+    pub plain_ready : IsGroupReady tells group placement (with_failed failed site) (rows_with_record site.level group failed site.told) mid items
     plain_ready =
         formed_ready tells group site old mid failed items (rows_with_record site.level group failed site.told) first.ready.fast.fits first.ready.idle first.may.cut first.by.are first.by.fit first.by.have first.by.told_by first.works first.reads first.home first.fails first.short
         placement (plain_place site.controls site.mark.number mid site.at site.mark.at items placement fits_then.lengths fits_then.set first.short first.placement_is plain enough)
@@ -358,7 +358,7 @@ module _ (tells : Type 0) (group : FormedGroup) (site marked_site : SiteState) (
     number = omega (arith, low_number);
   }
 
-  pub last_ready : IsReady tells group MarkedFirst (with_failed failed marked_site) (rows_after group site marked_site failed) last items
+  pub last_ready : IsGroupReady tells group MarkedFirst (with_failed failed marked_site) (rows_after group site marked_site failed) last items
   last_ready =
       formed_ready tells group marked_site marked last failed items (rows_after group site marked_site failed) b.mark.leaves.fits after_idle after_late b.by.are b.by.fit b.by.have b.by.told_by b.works b.reads b.home b.fails b.short
       MarkedFirst place

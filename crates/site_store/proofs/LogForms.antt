@@ -44,10 +44,11 @@ use Rattle.site_store.specs.Sites.{SiteState}
 use Rattle.site_store.specs.Standing.{FitsPlant, HasLengths, Leaves, SiteStands, none_excepted, row_has_volume}
 use Rattle.site_store.specs.Placements.{is_spent, most, record_has_room, record_needs_more, placement_from, placement_of}
 use Rattle.site_store.proofs.LogFails.{StoresQuiet, fails_between, fails_trans, quiet_reads, quiet_trans, stays_failed, was_good}
-use Rattle.site_store.proofs.LogPut.{IsReady, logged_site}
+use Rattle.site_store.proofs.LogContent.{group_leaves, items_lead, logged_means}
+use Rattle.site_store.proofs.LogPut.{logged_site}
 use Rattle.site_store.proofs.LogReads.{fits_failed, fits_still, items_still, rows_still, stands_read, with_failed}
 use Rattle.site_store.proofs.LogRows.{kept_good}
-use Rattle.site_store.proofs.LogStage.{PutStage, SeenFrom, site_back}
+use Rattle.site_store.proofs.LogStage.{IsGroupReady, PutStage, SeenFrom, site_back}
 use Rattle.site_store.proofs.RecordPuts.{on_ok}
 use Rattle.site_store.proofs.MarkFirst.{begins_after_mark, begins_after_none, does_after_mark, does_after_none, first_begins, fits_front, mark_begins, mark_does, next_there, reads_do}
 
@@ -102,19 +103,20 @@ module _ (tells : Type 0) (group : FormedGroup) (site : SiteState) (old mid : Pl
   fits_formed = fits_failed site mid failed fails.size (fits_still old mid works.site site home fits)
 
   -- It is ready, where it has room.
-  pub formed_ready : (placement : Placement) → HasPlace mid placement site.mark.at site.at items → IsReady tells group placement (with_failed failed site) after mid items
-  formed_ready placement place = record {
-    fits = fits_formed;
-    idle = idle;
-    late = late;
-    items_are = items_still tells group failed site.told after old mid items works.site (λ told d. reads.bytes told (Volume d)) are;
-    fit = ap (λ (n : ℕ). first_unfit n 0 site.told items) works.site.volumes ∙ fit;
-    have = rows_still old mid works.site after ∙ have;
-    kept = λ d is. kept_good failed group.cut.0 d site.told after told_by is;
-    room = place.room;
-    number = place.number;
-    short = omega (arith, short, fits.controls.1);
-  }
+  pub formed_ready : (placement : Placement) → HasPlace mid placement site.mark.at site.at items → IsGroupReady tells group placement (with_failed failed site) after mid items
+  formed_ready placement place =
+      let last = with_failed failed site in
+      let are_there : AreItemsOf tells group failed site.told after mid items = items_still tells group failed site.told after old mid items works.site (λ told d. reads.bytes told (Volume d)) are in
+      record {
+        place = record { fits = fits_formed; idle = idle; late = late; keep = are_there.keep; have = rows_still old mid works.site after ∙ have; room = place.room; number = place.number; short = omega (arith, short, fits.controls.1) };
+        items_are = are_there;
+        makes = record {
+          lead = items_lead tells group last after mid items are_there;
+          fit = ap (λ (n : ℕ). first_unfit n 0 site.told items) works.site.volumes ∙ fit;
+          same = logged_means tells group last after mid items are_there;
+          leaves = λ told e stands read. group_leaves tells group last after mid items are_there told e stands idle read (λ d is. kept_good failed group.cut.0 d site.told after told_by is);
+        };
+      }
 
   -- What stood stands.
   pub formed_stands : tells → (e : Exceptions) → SiteStands e site old → SiteStands e (with_failed failed site) mid
@@ -151,7 +153,7 @@ plain_next MarkedFirst sets cut site items after failed plain = absurd (plain re
 
 module _ (tells : Type 0) (group : FormedGroup) (placement : Placement) (site : SiteState) (old mid new : PlantState) (failed : List Bool) (items : List Item) (plain : placement ≢ MarkedFirst)
     (works : WorksOnLent tells (λ device. (d : ℕ) × (device ≡ Volume d) × HasEntryOn site.table.rows group.entries d) old mid) (reads : OnlyReads tells old mid) (fails : FailByCounts site.failed failed old.faults mid.faults)
-    (enters : FailByEntries site.table.rows group.entries site.failed failed) (ready : IsReady tells group placement (with_failed failed site) (rows_with_record site.level group failed site.told) mid items)
+    (enters : FailByEntries site.table.rows group.entries site.failed failed) (ready : IsGroupReady tells group placement (with_failed failed site) (rows_with_record site.level group failed site.told) mid items)
     (stands : tells → (e : Exceptions) → SiteStands e site old → SiteStands e (with_failed failed site) mid) where
   plain_seen : tells → (e : Exceptions) → SiteStands e site old → SeenFrom group placement failed site (with_failed failed site) (rows_with_record site.level group failed site.told) old mid new e
   plain_seen told e stood = record {
@@ -261,7 +263,7 @@ module _ (tells : Type 0) (group : FormedGroup) (site : SiteState) (early : List
         (is : marked_site ≡ after_mark site.mark.ended mark_rows early site) (leaves : Leaves tells (λ e. none_excepted) site marked_site old marked) (quiet_mark : StoresQuiet old.faults marked.faults)
         (works_last : WorksOnLent tells (λ device. (d : ℕ) × (device ≡ Volume d) × HasEntryOn marked_site.table.rows group.entries d) marked last) (reads_last : OnlyReads tells marked last) (fails_last : FailByCounts early failed_last marked.faults last.faults)
         (enters_last : FailByEntries marked_site.table.rows group.entries early failed_last)
-        (after_is : after ≡ rows_logged MarkedFirst site group early failed_last) (ready : IsReady tells group MarkedFirst (with_failed failed_last marked_site) after last items_last)
+        (after_is : after ≡ rows_logged MarkedFirst site group early failed_last) (ready : IsGroupReady tells group MarkedFirst (with_failed failed_last marked_site) after last items_last)
         (stands_last : tells → (e : Exceptions) → SiteStands e marked_site marked → SiteStands e (with_failed failed_last marked_site) last) where
       abbrev deed : Deed
       deed = Logged group.cut.0 group.entries after

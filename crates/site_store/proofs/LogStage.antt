@@ -21,7 +21,7 @@ use Rattle.site_store.specs.Records.{IsJournal, after_record, after_placement, o
 use Rattle.site_store.specs.Sites.{SiteState, has_failed}
 use Rattle.site_store.specs.Standing.{Leaves, SiteStands}
 use Rattle.site_store.proofs.LogFails.{StoresQuiet, cause_then, fails_still, none_by_journals}
-use Rattle.site_store.proofs.LogPut.{IsReady, fits_logged, logged_site, put_begins, put_does, put_stands}
+use Rattle.site_store.proofs.LogPut.{IsReady, MakesDeed, fits_logged, logged_site, put_begins, put_does, put_stands}
 use Rattle.site_store.proofs.LogReads.{items_still}
 
 -- A site that stands with some exceptions stands with more.
@@ -60,9 +60,15 @@ pub record SeenFrom (group : FormedGroup) (placement : Placement) (early : List 
   pub begins : BeginsDeeds excepted last.told (Logged group.cut.0 group.entries after ∷ []) plant new → BeginsDeeds e site.told (log_deeds placement site group early last.failed) old new
   pub does : DoesDeeds excepted last.told (Logged group.cut.0 group.entries after ∷ []) plant new → DoesDeeds e site.told (log_deeds placement site group early last.failed) old new
 
+-- What is known of a group's record before it is put.
+pub record IsGroupReady (tells : Type 0) (group : FormedGroup) (placement : Placement) (site : SiteState) (after : List PairRow) (plant : PlantState) (items : List Item) : Type 0 where
+  pub place : IsReady group.cut.0 placement site after plant items
+  pub items_are : AreItemsOf tells group site.failed site.told after plant items
+  pub makes : MakesDeed tells (Logged group.cut.0 group.entries after) group.cut.0 site after plant items
+
 -- Before the record is put: `site` is the site at the start, and `last` the one then, after a mark where one was made first.
 pub record PutStage (tells : Type 0) (group : FormedGroup) (placement : Placement) (site last : SiteState) (after : List PairRow) (old plant new : PlantState) (items : List Item) : Type 0 where
-  pub ready : IsReady tells group placement last after plant items
+  pub ready : IsGroupReady tells group placement last after plant items
   pub early : List Bool
   pub early_failed : FailedBetween site.failed early last.failed
   pub by_entries : FailByEntries site.table.rows group.entries (failed_before placement site early) last.failed
@@ -80,7 +86,7 @@ module _ (tells : Type 0) (group : FormedGroup) (placement : Placement) (site la
   begins_by : (result : Result (Unit {0}) StoreError) → ShowsRecord tells placement last.mark.at last.at (group_with group.cut.0 items) plant new result → tells → (e : Exceptions) → SiteStands e site old → BeginsDeeds e site.told (log_deeds placement site group stage.early last.failed) old new
   begins_by result shows told e stands =
       let s = stage.seen told e stands in
-      s.begins (put_begins tells group placement last after plant items stage.ready told s.excepted s.stands (read told) new works result shows)
+      s.begins (put_begins group.cut.0 placement last after plant items stage.ready.place tells (Logged group.cut.0 group.entries after) stage.ready.makes told s.excepted s.stands (read told) new works result shows)
 
   -- Where it isn't put, the deeds have begun.
   pub put_fails : (next : SiteState) (error : StoreError) → next.failed ≡ last.failed → ShowsRecord tells placement last.mark.at last.at (group_with group.cut.0 items) plant new (Err error) → LogsBy tells group placement site next old new (Err error)
@@ -126,15 +132,15 @@ module _ (tells : Type 0) (group : FormedGroup) (placement : Placement) (site la
           ∙ ap (λ (rows : List PairRow). record (after_record old.journals placement group.cut.0 items rows last.failed site) { since = one_more (after_placement placement site).since; waiting = items }) stage.after_is;
       does = record {
         begins = begins_by (Ok tt) shows;
-        does = λ told e stands. let s = stage.seen told e stands in s.does (put_does tells group placement last after plant items stage.ready told s.excepted s.stands (read told) new works shows);
+        does = λ told e stands. let s = stage.seen told e stands in s.does (put_does group.cut.0 placement last after plant items stage.ready.place tells (Logged group.cut.0 group.entries after) stage.ready.makes told s.excepted s.stands (read told) new works shows);
       };
     }
 
     -- The site goes on after it.
     pub put_leaves : Leaves tells (λ e. e) site next old new
     put_leaves = record {
-      fits = fits_logged tells group placement last after plant items stage.ready (one_more last.since) new works.site (none_lent_lent tells IsJournal plant new (lent_of_works tells IsJournal plant new works) stage.ready.fits.home);
+      fits = fits_logged group.cut.0 placement last after plant items stage.ready.place (one_more last.since) items stage.ready.place.keep new works.site (none_lent_lent tells IsJournal plant new (lent_of_works tells IsJournal plant new works) stage.ready.place.fits.home);
       stands = λ told e stands.
           let s = stage.seen told e stands in
-          stands_more e s.excepted next new s.fewer (put_stands tells group placement last after plant items stage.ready told s.excepted s.stands (read told) new works shows (one_more last.since));
+          stands_more e s.excepted next new s.fewer (put_stands group.cut.0 placement last after plant items stage.ready.place tells (Logged group.cut.0 group.entries after) stage.ready.makes told s.excepted s.stands (read told) new works shows (one_more last.since));
     }

@@ -1,5 +1,5 @@
 -- The answers of calls that log rows: the deeds that they are, and the site after them, by the record's placement.
-use Rattle.std.proofs.Common.{◌≡◌, ◌≢◌, ℕ, Bool, true, List, [], ◌∷◌, Result, Ok, Err, refl, ap}
+use Rattle.std.proofs.Common.{◌≡◌, ◌≢◌, ℕ, Bool, false, true, List, [], ◌∷◌, Result, Ok, Err, refl, ap}
 use Rattle.std.specs.Prelude.{OnOk}
 use Rattle.crash_plant.specs.Moments.{PlantState}
 use Rattle.pair_table.specs.declared.command.Change.{Change}
@@ -18,20 +18,32 @@ use Rattle.site_store.specs.declared.placement.Placement.{Placement}
 use Rattle.site_store.specs.declared.placement.Placement.TheVariants.{Here, Switched, Marked}
 use Rattle.site_store.specs.Changing.{change_deeds, change_deeds_of, changed_items, suspension_deeds, suspension_deeds_of, with_suspensions}
 use Rattle.site_store.specs.Records.{after_mark, after_record}
+use Rattle.site_store.specs.Placements.{record_needs_more}
+use Rattle.site_store.specs.RowRecords.{rows_need_more}
 use Rattle.site_store.specs.Sites.{SiteState}
-use Rattle.site_store.specs.Standing.{FitsPlant, Leaves, SiteStands}
+use Rattle.site_store.specs.Standing.{Leaves, none_excepted}
+use Rattle.site_store.proofs.LogStage.{stands_more}
 use Rattle.site_store.proofs.RowsLogged.{with_logged_rows}
 
 -- ---- what is left after an answer
 
-pub leaves_ok : (tells : Type 0) (site next : SiteState) (old new : PlantState) (result : Result (Unit {0}) StoreError) → FitsPlant next new → (tells → OnOk result ((e : Exceptions) → SiteStands e site old → SiteStands e next new))
-    → OnOk result (Leaves tells (λ e. e) site next old new)
-leaves_ok tells site next old new (Ok value) fits stands = record { fits = fits; stands = stands }
-leaves_ok tells site next old new (Err error) fits stands = tt
+-- After a mark alone no track is excepted, so none is that wasn't.
+pub mark_leaves : (tells : Type 0) (site next : SiteState) (old new : PlantState) (result : Result (Unit {0}) StoreError) → OnOk result (Leaves tells (λ e. none_excepted) site next old new) → OnOk result (Leaves tells (λ e. e) site next old new)
+mark_leaves tells site next old new (Ok value) leaves = record { fits = leaves.fits; stands = λ told e stands. stands_more e none_excepted next new (λ d x kept. refl) (leaves.stands told e stands) }
+mark_leaves tells site next old new (Err error) leaves = tt
 
 -- Where nothing was called any deeds begin.
 pub begin_here : (plant : PlantState) (e : Exceptions) (rows : List PairRow) (deeds : List Deed) → BeginsDeeds e rows deeds plant plant
 begin_here plant e rows deeds = more_follow plant plant e rows [] deeds (have_begun plant plant e rows [] (no_call plant e rows))
+
+-- ---- the numbers
+
+-- Without a mark hits alone need what any record needs.
+pub record_enough : (follows : Bool) (placement : Placement) (next mark : ℕ) → placement ≢ Marked → rows_need_more follows placement next mark ≡ false → record_needs_more placement next mark ≡ false
+record_enough true placement next mark plain not = not
+record_enough false Here next mark plain not = not
+record_enough false Switched next mark plain not = not
+record_enough false Marked next mark plain not = absurd (plain refl)
 
 -- ---- the site after a record
 

@@ -1,35 +1,24 @@
 -- A site's view by its fields.
-use Rattle.std.proofs.Common.{◌≡◌, ℕ, ◌^◌, ◌≤◌, ◌<◌, Bool, true, false, cond, List, [], length, map, Result, Err, refl, sym, ap, subst, ◌∙◌, arith}
+use Rattle.std.proofs.Common.{◌≡◌, ℕ, Bool, true, false, List, [], length, map, Result, Err, refl, sym, ap, subst, ◌∙◌, arith}
 use Rattle.std.specs.Prelude.{OnOk}
 use Rattle.std.proofs.lemmas.List.{length-map}
-use Rattle.crash_plant.specs.declared.device.Device.TheVariants.{Journal}
 use Rattle.crash_plant.specs.declared.spot.Spot.{Spot}
-use Rattle.crash_plant.specs.Choices.{IsChoice}
 use Rattle.crash_plant.specs.Moments.{PlantState}
 use Rattle.pair_table.specs.declared.row.PairRow.{PairRow}
-use Rattle.pair_table.specs.Tables.{Table, are_below, with_rows}
+use Rattle.pair_table.specs.Tables.{are_below, with_rows}
 use Rattle.xrc_journal.specs.declared.job.VolumeJob.{VolumeJob}
 use Rattle.record_rows.specs.Records.{rows_with_hits}
 use Rattle.xrc_journal.specs.Items.{Item}
-use Rattle.xrc_journal.specs.RingWalks.{AllEndThrough}
 use Rattle.site_store.specs.declared.store_error.StoreError.{StoreError}
 use Rattle.site_store.specs.declared.placement.Placement.{Placement}
 use Rattle.site_store.specs.declared.placement.Placement.TheVariants.{Here, Switched, Marked}
 use Rattle.site_store.specs.Jobs.{AreJobsSound, has_job_failed}
 use Rattle.site_store.specs.Recording.{MayPutRecord, ShowsRecord, group_with}
 use Rattle.site_store.specs.Sites.{SiteState}
-use Rattle.site_store.specs.Standing.{FitsPlant, StandsFast}
+use Rattle.site_store.specs.Standing.{FitsPlant}
 use Rattle.site_store.specs.Placements.{spot_after_record}
 use Rattle.site_store.proofs.Below.{below_volumes}
 use Rattle.site_store.proofs.RowsLogged.{with_logged_rows}
-use Rattle.site_store.proofs.StandsEnd.{stands_end}
-
--- Where no change waits the rows on the devices are the table's.
-told_level : (view : SiteState) (other : List PairRow) → view.told ≡ cond view.is_ahead other view.table.rows → view.is_ahead ≡ false → view.told ≡ view.table.rows
-told_level view other told level = told ∙ ap (λ (b : Bool). cond b other view.table.rows) level
-
-pub told_there : (view site : SiteState) (other : List PairRow) → view ≡ site → view.told ≡ cond view.is_ahead other view.table.rows → site.is_ahead ≡ false → view.table.rows ≡ site.told
-told_there view site other is told level = sym (told_level view other told (ap (λ (s : SiteState). s.is_ahead) is ∙ level)) ∙ ap (λ (s : SiteState). s.told) is
 
 -- A site is seen as before, but that nothing waits where nothing did.
 pub idle_site : (view site : SiteState) → view ≡ site → site.waiting ≡ [] → record view { waiting = [] } ≡ site
@@ -37,20 +26,11 @@ idle_site view site is idle =
     let none : view.waiting ≡ [] = ap (λ (s : SiteState). s.waiting) is ∙ idle in
     (λ i. record view { waiting = sym none i }) ∙ is
 
--- The site after a record of rows, which its fields show.
-pub logged_view : (view site : SiteState) (journals : ℕ) (placement : Placement) (cut : ℕ) (held items : List Item) (rows other : List PairRow) (table : Table) (ahead : Bool) (at : Spot) → view ≡ site → site.waiting ≡ [] → table ≡ with_rows view.table rows → ahead ≡ false
-    → at ≡ spot_after_record journals placement held view.at → held ≡ items → record view { table = table; is_ahead = ahead; told = cond ahead other table.rows; time = cut; at = at; waiting = [] } ≡ with_logged_rows journals placement cut items rows site
-logged_view view site journals placement cut held items rows other table ahead at is idle table_is level at_is held_is =
-    let none : view.waiting ≡ [] = ap (λ (s : SiteState). s.waiting) is ∙ idle in
-    let told : cond ahead other table.rows ≡ rows = ap (λ (b : Bool). cond b other table.rows) level ∙ ap (λ (t : Table). t.rows) table_is in
-    let there : at ≡ spot_after_record journals placement items view.at = at_is ∙ ap (λ (l : List Item). spot_after_record journals placement l view.at) held_is in
-    (λ i. record view { table = table_is i; is_ahead = level i; told = told i; time = cut; at = there i; waiting = sym none i }) ∙ ap (with_logged_rows journals placement cut items rows) is
-
 -- the rows with the hits of a site's table
 abbrev pub rows_taken : (cut : ℕ) → SiteState → List PairRow
 rows_taken cut site = rows_with_hits site.level cut site.failed site.table.rows
 
--- The same of a site that took the rows with the hits.
+-- The site after a record of rows, which its fields show.
 pub taken_view : (view site : SiteState) (journals : ℕ) (placement : Placement) (cut : ℕ) (held items : List Item) (at : Spot) → view ≡ site → site.waiting ≡ [] → at ≡ spot_after_record journals placement held view.at → held ≡ items
     → record view { table = with_rows view.table (rows_taken cut view); is_ahead = false; told = rows_taken cut view; time = cut; at = at; waiting = [] } ≡ with_logged_rows journals placement cut items (rows_taken cut site) site
 taken_view view site journals placement cut held items at is idle at_is held_is =
@@ -71,11 +51,6 @@ keeps_still controls room still at marked there waits items held due jobs keeps 
   flags = keeps.flags;
   due_is = λ no. absurd (cc no);
 }
-
--- One of two things was answered.
-pub second_of : (result : Bool) (First Second : Type 0) → (result ≡ false → First) → (result ≡ true → Second) → ¬ First → Second
-second_of true First Second first second not = second refl
-second_of false First Second first second not = absurd (not (first refl))
 
 -- What is shown of a record as a site's fields name its place is shown of it there.
 pub shows_there : (tells : Type 0) (placement : Placement) (from marked at there : Spot) (cut : ℕ) (held items : List Item) (old new : PlantState) (result answer : Result (Unit {0}) StoreError) → from ≡ marked → at ≡ there → held ≡ items → result ≡ answer
@@ -102,18 +77,8 @@ module _ (view site : SiteState) (plant : PlantState) (is : view ≡ site) (fits
   here : FitsPlant view plant
   here = subst (λ (s : SiteState). FitsPlant s plant) (sym is) fits
 
-  pub rows_below : are_below 64 view.table.rows ≡ true
-  rows_below = below_volumes plant 64 view.table.rows here.lengths.volumes here.rows
-
   pub flags_below : are_below (length view.failed) view.table.rows ≡ true
   flags_below = below_volumes plant (length view.failed) view.table.rows (omega (arith, here.failed)) here.rows
 
   pub jobs_below : {V : Type 0} (jobs now : List (VolumeJob V)) → view.failed ≡ map has_job_failed jobs → now ≡ jobs → are_below (length now) view.table.rows ≡ true
   jobs_below jobs now failed same = below_volumes plant (length now) view.table.rows (omega (arith, here.failed, ap length failed, length-map jobs has_job_failed, ap length same)) here.rows
-
--- Whatever a crash may leave, the walk ends at the site's spot.
-pub ends_there : (tells : Type 0) (site : SiteState) (plant : PlantState) (cut : ℕ) → StandsFast tells site plant → site.time ≤ cut → site.at.number < 2 ^ 64 → (tells → IsChoice plant plant.clock plant.bytes)
-    → (tells → length (plant.bytes (Journal site.at.set)) ≡ plant.lengths (Journal site.at.set)) → tells → AllEndThrough plant site.mark.at site.at cut
-ends_there tells site plant cut fast late low read size told =
-    let stands = fast.stands told in
-    stands_end stands.0 site plant stands.1 fast.fits plant.bytes (read told) low cut late (size told)

@@ -147,11 +147,6 @@ change_deeds_of change placement site cut failed = elim (changed_items change si
   | i ∷ items ↦ change_deeds placement site cut failed
 ]
 
--- What a change's record does that is placed so.
-pub record DoesRows (tells : Type 0) (placement : Placement) (cut : ℕ) (site next : SiteState) (old new : PlantState) (result : Result (Unit {0}) StoreError) : Type 0 where
-  pub begins : tells → (e : Exceptions) → SiteStands e site old → BeginsDeeds e site.told (change_deeds placement site cut next.failed) old new
-  pub does : tells → OnOk result ((e : Exceptions) → SiteStands e site old → DoesDeeds e site.told (change_deeds placement site cut next.failed) old new)
-
 pub record DoesChange (tells : Type 0) (cut : ℕ) (change : Change) (site next : SiteState) (old new : PlantState)
     (result : Result (Unit {0}) StoreError) : Type 0 where
   pub placement : Placement

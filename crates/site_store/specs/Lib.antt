@@ -19,6 +19,7 @@ pub mod Logging
 pub mod Marking
 pub mod Recording
 pub mod Records
+pub mod RowRecords
 pub mod Sites
 pub mod Standing
 pub mod Placements

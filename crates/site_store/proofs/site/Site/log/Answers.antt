@@ -22,13 +22,13 @@ use Rattle.site_store.specs.Sites.{SiteState}
 use Rattle.site_store.specs.Standing.{MayRecord}
 use Rattle.site_store.specs.Placements.{is_spent, placement_from}
 use Rattle.site_store.proofs.Below.{below_volumes}
-use Rattle.site_store.proofs.LogContent.{read_choice}
 use Rattle.site_store.proofs.LogExits as exits
 use Rattle.site_store.proofs.LogExits.{IsFirst, first_after, is_first, mark_may, mark_number, mark_ready, next_number, plain_group, plain_put, plain_ready, room_there, set_there, some_stands}
 use Rattle.site_store.proofs.LogFails.{none_by_journals, none_fails}
 use Rattle.site_store.proofs.LogPut.{logged_site}
 use Rattle.site_store.proofs.LogReads.{with_failed}
 use Rattle.site_store.proofs.LogStart.{one_more_is, room_formed}
+use Rattle.site_store.proofs.RowRoom.{reads_choice}
 use Rattle.site_store.proofs.VolumesStaying.{stay_logged, stay_read, stay_then}
 use Rattle.site_store.proofs.site.Site.log.Given as given
 use Rattle.site_store.proofs.site.Site.log.Goals as goal
@@ -117,7 +117,7 @@ first g c =
     c.placement_from-placement.result may was_is f.fails f.by_entries f.reads f.home f.only c.controls.ensures.few c.placement_from-placement.ensures
 
 read : (g : given.Over) (c : After-placement_from-placement g) → g.P.Plant.tells → IsChoice (mid g c) (mid g c).clock (mid g c).bytes
-read g c told = read_choice (mid g c) c.form_record-hits.ensures.home (λ d there. g.met.P.Plant.read_is_image c.form_record-hits.new.plant d told there)
+read g c told = reads_choice (mid g c) c.form_record-hits.ensures.home (λ d there. g.met.P.Plant.read_is_image c.form_record-hits.new.plant d told there)
 
 -- ---- the jobs and the flags
 

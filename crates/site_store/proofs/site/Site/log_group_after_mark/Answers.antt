@@ -18,7 +18,6 @@ use Rattle.site_store.specs.Logging.{IsOfEntries, LogsBy}
 use Rattle.site_store.specs.Records.{IsOfMark, one_more}
 use Rattle.site_store.specs.Sites.{SiteState}
 use Rattle.site_store.proofs.Below.{below_volumes}
-use Rattle.site_store.proofs.LogContent.{read_choice}
 use Rattle.site_store.proofs.LogExits as exits
 use Rattle.site_store.proofs.LogExits.{IsAfter, MadeMark, after_entries, after_few, is_after, last_put, last_ready, last_set, last_stands, made_mark, rows_after, rows_come_after}
 use Rattle.site_store.proofs.LogForms as forms
@@ -26,6 +25,7 @@ use Rattle.site_store.proofs.LogPut.{logged_site}
 use Rattle.site_store.proofs.LogReads.{with_failed}
 use Rattle.site_store.proofs.LogStart.{one_more_is, room_formed}
 use Rattle.site_store.proofs.NextMark.{makes_alone}
+use Rattle.site_store.proofs.RowRoom.{reads_choice}
 use Rattle.site_store.proofs.VolumesStaying.{stay_after}
 use Rattle.site_store.proofs.site.Site.log_group_after_mark.Goals as goal
 
@@ -118,7 +118,7 @@ put_record-requires-clause-may g c κs within =
     let first : IsAfter tells group site marked_site old marked mid failed items = is_after tells group site marked_site old marked c.requires.ready c.requires.may c.requires.rows made mid s.body c.form_record-hits.new.body c.form_record-hits.new.due (map has_job_failed c.deref_mut.result.now) failed hits
     f.forms (f.hits (hit_now marked_site.failed site.told) hit_is) c.requires.next was_is f.fails f.by_entries f.reads f.home f.only c.controls.ensures.few in
     let after = rows_after group site marked_site failed in
-    let read = λ (told : tells). read_choice mid f.home (λ d there. g.met.P.Plant.read_is_image c.form_record-hits.new.plant d told there) in
+    let read = λ (told : tells). reads_choice mid f.home (λ d there. g.met.P.Plant.read_is_image c.form_record-hits.new.plant d told there) in
     let size = λ (told : tells). g.met.P.Plant.length_told c.form_record-hits.new.plant (Journal marked_site.at.set) told (last_set tells group site marked_site old marked mid failed items first) in
     exits.end_may tells group placement (with_failed failed marked_site) after mid items (last_ready tells group site marked_site old marked mid failed items first) (last_stands tells group site marked_site old marked mid failed items first) read size s.journal.marked c.cut.result.0 c.self-2.invariant.marked_is (ap (λ (t : Stamp). t.0) c.cut.ensures)
 
@@ -164,7 +164,7 @@ returns-in_err-put_record g c =
     let first : IsAfter tells group site marked_site old marked mid failed items = is_after tells group site marked_site old marked c.requires.ready c.requires.may c.requires.rows made mid s.body c.form_record-hits.new.body c.form_record-hits.new.due (map has_job_failed c.deref_mut.result.now) failed hits
     f.forms (f.hits (hit_now marked_site.failed site.told) hit_is) c.requires.next was_is f.fails f.by_entries f.reads f.home f.only c.controls.ensures.few in
     let after = rows_after group site marked_site failed in
-    let read = λ (told : tells). read_choice mid f.home (λ d there. g.met.P.Plant.read_is_image c.form_record-hits.new.plant d told there) in
+    let read = λ (told : tells). reads_choice mid f.home (λ d there. g.met.P.Plant.read_is_image c.form_record-hits.new.plant d told there) in
     let new = g.P.Plant.state c.put_record.new.plant in
     let stage = last_put tells group site marked_site old marked mid failed items first new in
     let works = c.put_record.ensures.only in
@@ -242,7 +242,7 @@ returns g c =
     let first : IsAfter tells group site marked_site old marked mid failed items = is_after tells group site marked_site old marked c.requires.ready c.requires.may c.requires.rows made mid s.body c.form_record-hits.new.body c.form_record-hits.new.due (map has_job_failed c.deref_mut.result.now) failed hits
     f.forms (f.hits (hit_now marked_site.failed site.told) hit_is) c.requires.next was_is f.fails f.by_entries f.reads f.home f.only c.controls.ensures.few in
     let after = rows_after group site marked_site failed in
-    let read = λ (told : tells). read_choice mid f.home (λ d there. g.met.P.Plant.read_is_image c.form_record-hits.new.plant d told there) in
+    let read = λ (told : tells). reads_choice mid f.home (λ d there. g.met.P.Plant.read_is_image c.form_record-hits.new.plant d told there) in
     let new = g.P.Plant.state c.put_record.new.plant in
     let stage = last_put tells group site marked_site old marked mid failed items first new in
     let works = c.put_record.ensures.only in
