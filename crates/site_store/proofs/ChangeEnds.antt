@@ -34,12 +34,13 @@ use Rattle.site_store.specs.Hits.{pairs_with_next, with_hits}
 use Rattle.site_store.specs.Marking.{MakesMark}
 use Rattle.site_store.specs.Recording.{HasRoomBy, MayPutRecord, ShowsRecord, group_with}
 use Rattle.site_store.specs.Records.{IsJournal, IsOfMark, after_mark, after_record}
-use Rattle.site_store.specs.RowRecords.{DoesRows, IsAfterRows, LogsRecord, are_rows_spent, has_items, names_rows, rows_deeds}
+use Rattle.site_store.specs.InTurn.{DoesInTurn}
+use Rattle.site_store.specs.RowRecords.{IsAfterRows, LogsRecord, are_rows_spent, has_items, names_rows, rows_deeds}
 use Rattle.site_store.specs.Sites.{SiteState, meant_for}
 use Rattle.site_store.specs.Standing.{FitsPlant, Leaves, SiteStands, none_excepted, row_has_volume}
 use Rattle.site_store.specs.Placements.{is_spent, placement_of}
 use Rattle.site_store.proofs.Below.{below_volumes}
-use Rattle.site_store.proofs.ChangeFirst.{ComesFirst, mark_done, mark_first, nothing_first, rows_do, rows_leave}
+use Rattle.site_store.proofs.ComesFirst.{ComesFirst, mark_done, mark_first, nothing_first, record_do, rows_leave}
 use Rattle.site_store.proofs.MarkFirst.{Suffice, mark_begins, room_after_mark, suffice}
 use Rattle.site_store.proofs.HitsLead.{change_leads, near_leads, near_marked}
 use Rattle.site_store.proofs.LogForms.{HasPlace, plain_place}
@@ -184,18 +185,18 @@ module _ (tells : Type 0) (cut : Stamp) (change : Change) (site : SiteState) (ol
 
     module _ (enough : are_rows_spent follows placement site ≡ false) (next : SiteState) (new : PlantState) (result : Result (Unit {0}) StoreError) (unspent : ¬ IsErrOf result Spent) where
       -- What follows from whether a record follows a mark, and from the placement, is so of the record.
-      logs_by : (f : Bool) → follows ≡ f → (w : Placement) → placement ≡ w → OnOk result (IsAfterRows f cut.0 change w now.items site next old) → DoesRows tells (rows_deeds f w site cut.0 next.failed) site old new result → LogsRecord tells cut.0 change site next old new result
+      logs_by : (f : Bool) → follows ≡ f → (w : Placement) → placement ≡ w → OnOk result (IsAfterRows f cut.0 change w now.items site next old) → DoesInTurn tells (rows_deeds f w site cut.0 next.failed) site old new result → LogsRecord tells cut.0 change site next old new result
       unfolding is_placement
       logs_by f f_is w w_is after does = record {
         placement = w;
         is_placement = is_placement w w_is;
         spent = (λ e. absurd (unspent e), λ spent. absurd (cc (spent, subst (λ (v : Placement). are_rows_spent follows v site ≡ false) w_is enough)));
         after = subst (λ (b : Bool). OnOk result (IsAfterRows b cut.0 change w now.items site next old)) (sym f_is) after;
-        does = subst (λ (b : Bool). DoesRows tells (rows_deeds b w site cut.0 next.failed) site old new result) (sym f_is) does;
+        does = subst (λ (b : Bool). DoesInTurn tells (rows_deeds b w site cut.0 next.failed) site old new result) (sym f_is) does;
       }
 
       -- The record came after a mark.
-      pub after_logs : follows ≡ true → placement ≡ Marked → OnOk result (IsAfterChange cut.0 change Marked site next old) → DoesRows tells (change_deeds Marked site cut.0 next.failed) site old new result → LogsRecord tells cut.0 change site next old new result
+      pub after_logs : follows ≡ true → placement ≡ Marked → OnOk result (IsAfterChange cut.0 change Marked site next old) → DoesInTurn tells (change_deeds Marked site cut.0 next.failed) site old new result → LogsRecord tells cut.0 change site next old new result
       after_logs follow marked after does = logs_by true follow Marked marked after does
 
       -- A mark was made in place of the hits' record.
@@ -226,10 +227,10 @@ module _ (tells : Type 0) (cut : Stamp) (change : Change) (site : SiteState) (ol
         makes told e stands = rows_make tells cut.0 site old now.items rows are_rows_alone formed.lead
 
         pub record_leaves : OnOk result (Leaves tells (λ e. e) site next old new)
-        record_leaves = rows_leave tells [] site site old old new (nothing_first tells site old) placement cut.0 now.items rows are_rows_alone ready makes read works result shows
+        record_leaves = rows_leave tells [] site site old old new (nothing_first tells site old) placement cut.0 (Changed cut.0 rows) now.items rows ready makes read works result shows are_rows_alone
 
-        does_by : (deeds : List Deed) → Changed cut.0 rows ∷ [] ≡ deeds → DoesRows tells deeds site old new result
-        does_by deeds is = subst (λ (d : List Deed). DoesRows tells d site old new result) is (rows_do tells [] site site old old new (nothing_first tells site old) placement cut.0 now.items rows are_rows_alone ready makes read works result shows)
+        does_by : (deeds : List Deed) → Changed cut.0 rows ∷ [] ≡ deeds → DoesInTurn tells deeds site old new result
+        does_by deeds is = subst (λ (d : List Deed). DoesInTurn tells d site old new result) is (record_do tells [] site site old old new (nothing_first tells site old) placement cut.0 (Changed cut.0 rows) now.items rows ready makes read works result shows)
 
         module _ (then : SiteState) (unspent : ¬ IsErrOf result Spent) (still : then.failed ≡ failed) where
           after_by : OnOk result (then ≡ next) → OnOk result (then ≡ after_record old.journals placement cut.0 now.items rows site.failed site)
@@ -305,17 +306,17 @@ module _ (tells : Type 0) (cut : Stamp) (change : Change) (site : SiteState) (ol
         next_on = with_logged_rows mid.journals Marked cut.0 now.items rows here
 
         pub after_leaves : OnOk result (Leaves tells (λ e. e) site next_on old new)
-        after_leaves = rows_leave tells (MarkedDeed site.at site.mark.ended marked ∷ []) site here old mid new before Marked cut.0 now.items rows are_rows_alone ready_on makes_on read works result shows
+        after_leaves = rows_leave tells (MarkedDeed site.at site.mark.ended marked ∷ []) site here old mid new before Marked cut.0 (Changed cut.0 rows) now.items rows ready_on makes_on read works result shows are_rows_alone
 
-        pub after_done : (then : SiteState) → then.failed ≡ failed → DoesRows tells (change_deeds Marked site cut.0 then.failed) site old new result
-        after_done then still = subst (λ (f : List Bool). DoesRows tells (change_deeds Marked site cut.0 f) site old new result) (sym still)
-            (rows_do tells (MarkedDeed site.at site.mark.ended marked ∷ []) site here old mid new before Marked cut.0 now.items rows are_rows_alone ready_on makes_on read works result shows)
+        pub after_done : (then : SiteState) → then.failed ≡ failed → DoesInTurn tells (change_deeds Marked site cut.0 then.failed) site old new result
+        after_done then still = subst (λ (f : List Bool). DoesInTurn tells (change_deeds Marked site cut.0 f) site old new result) (sym still)
+            (record_do tells (MarkedDeed site.at site.mark.ended marked ∷ []) site here old mid new before Marked cut.0 (Changed cut.0 rows) now.items rows ready_on makes_on read works result shows)
 
 -- ---- the mark isn't made
 
 -- The mark's rows tell the hits of the jobs that have failed by then.
 pub mark_fails : (tells : Type 0) (cut : ℕ) (site next : SiteState) (old new : PlantState) (error : StoreError) → site.waiting ≡ [] → MakesMark tells site.mark.ended (rows_marked site.time (hit_now next.failed site.told) site.told) site next old new (Err error)
-    → DoesRows tells (change_deeds Marked site cut next.failed) site old new (Err error)
+    → DoesInTurn tells (change_deeds Marked site cut next.failed) site old new (Err error)
 mark_fails tells cut site next old new error idle makes =
     let marked = rows_marked site.time (hit_now next.failed site.told) site.told in
     record {
@@ -347,6 +348,6 @@ module _ (tells : Type 0) (cut : ℕ) (change : Change) (site next : SiteState) 
 
   pub change_does : DoesChange tells cut change site next old new result
   change_does =
-      let does : DoesRows tells (change_deeds_of change logs.placement site cut next.failed) site old new result =
-      subst (λ (d : List Deed). DoesRows tells d site old new result) (ap (λ (b : Bool). rows_deeds b logs.placement site cut next.failed) follow ∙ sym (change_is site cut next.failed change logs.placement some)) logs.does in
+      let does : DoesInTurn tells (change_deeds_of change logs.placement site cut next.failed) site old new result =
+      subst (λ (d : List Deed). DoesInTurn tells d site old new result) (ap (λ (b : Bool). rows_deeds b logs.placement site cut next.failed) follow ∙ sym (change_is site cut next.failed change logs.placement some)) logs.does in
       record { placement = logs.placement; is_placement = λ more. logs.is_placement; begins = does.begins; does = does.does }

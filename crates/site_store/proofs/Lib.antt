@@ -65,7 +65,7 @@ pub mod HitsLead
 pub mod MeantRows
 pub mod RowsLogged
 pub mod RowRoom
-pub mod ChangeFirst
+pub mod ComesFirst
 pub mod HitItems
 pub mod RowEnds
 pub mod SuspensionEnds

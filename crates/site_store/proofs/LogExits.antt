@@ -49,7 +49,7 @@ use Rattle.site_store.proofs.RecordPuts.{on_ok}
 
 -- ---- a record put, from any stage
 
-module _ (tells : Type 0) (group : FormedGroup) (placement : Placement) (site last : SiteState) (after : List PairRow) (old plant new : PlantState) (items : List Item) (stage : PutStage tells group placement site last after old plant new items)
+module _ (tells : Type 0) (group : FormedGroup) (placement : Placement) (site last : SiteState) (after : List PairRow) (old plant new : PlantState) (items : List Item) (stage : PutStage tells group placement site last after old plant items)
     (read : tells → IsChoice plant plant.clock plant.bytes) (works : WorksOn tells IsJournal plant new) (start : SiteState) (is : site ≡ start) where
   -- The journal was marked at this spot, and the group has this time.
   module _ (from : Spot) (cut : ℕ) (from_is : from ≡ last.mark.at) (cut_is : cut ≡ group.cut.0) where
@@ -230,8 +230,8 @@ module _ (tells : Type 0) (group : FormedGroup) (site : SiteState) (old mid : Pl
         formed_ready tells group site old mid failed items (rows_with_record site.level group failed site.told) first.ready.fast.fits first.ready.idle first.may.cut first.by.are first.by.fit first.by.have first.by.told_by first.works first.reads first.home first.fails first.short
         placement (plain_place site.controls site.mark.number mid site.at site.mark.at items placement fits_then.lengths fits_then.set first.short first.placement_is plain enough)
 
-    pub plain_put : (new : PlantState) → PutStage tells group placement site (with_failed failed site) (rows_with_record site.level group failed site.told) old mid new items
-    plain_put new = plain_stage tells group placement site old mid new failed items plain first.works first.reads first.fails first.by_entries plain_ready stands_then
+    pub plain_put : PutStage tells group placement site (with_failed failed site) (rows_with_record site.level group failed site.told) old mid items
+    plain_put = plain_stage tells group placement site old mid failed items plain first.works first.reads first.fails first.by_entries plain_ready stands_then
 
     -- The group is logged as the parts say.
     pub plain_group : (start next : SiteState) (new : PlantState) (result : Result (Unit {0}) StoreError) → site ≡ start → ¬ IsErrOf result Spent → FailByCounts failed next.failed mid.faults new.faults → (placement ≢ MarkedFirst → OnOk result (next.waiting ≡ items))
@@ -368,6 +368,6 @@ module _ (tells : Type 0) (group : FormedGroup) (site marked_site : SiteState) (
       ap (λ (rows : List PairRow). rows_after_mark marked_site.level (hit_now marked_site.failed site.told) group failed rows) (ap (λ (s : SiteState). s.told) b.mark.is)
       ∙ ap (λ (level : Level). rows_after_mark level (hit_now marked_site.failed site.told) group failed (rows_before MarkedFirst site marked_site.failed)) (ap (λ (s : SiteState). s.level) b.mark.is)
 
-  pub last_put : (new : PlantState) → PutStage tells group MarkedFirst site (with_failed failed marked_site) (rows_after group site marked_site failed) old last new items
-  last_put new =
-      marked_stage tells group site marked_site.failed old marked marked_site (Ok tt) b.idle b.mark.makes b.mark.works b.mark.fails last new refl b.told_is failed items (rows_after group site marked_site failed) b.mark.is b.mark.leaves b.mark.quiet b.works b.reads b.fails b.by_entries after_logged last_ready stands_last
+  pub last_put : PutStage tells group MarkedFirst site (with_failed failed marked_site) (rows_after group site marked_site failed) old last items
+  last_put =
+      marked_stage tells group site marked_site.failed old marked marked_site (Ok tt) b.idle b.mark.makes b.mark.works b.mark.fails last refl b.told_is failed items (rows_after group site marked_site failed) b.mark.is b.mark.leaves b.mark.quiet b.works b.reads b.fails b.by_entries after_logged last_ready stands_last

@@ -25,8 +25,9 @@ use Rattle.record_rows.specs.Deeds.Deed.{Logged, Marked}
 use Rattle.record_rows.specs.Hits.{hit_now, is_down, rows_marked}
 use Rattle.record_rows.specs.Records.{rows_with_record}
 use Rattle.record_rows.specs.ToldRows.{AreTold}
-use Rattle.site_store.specs.DoneDeeds.{BeginsDeeds, DoesDeeds}
+use Rattle.site_store.specs.DoneDeeds.{DoesDeeds}
 use Rattle.site_store.specs.Exceptions.{Exceptions, excepted_by_deed}
+use Rattle.site_store.proofs.ComesFirst.{ComesFirst}
 use Rattle.site_store.proofs.Composing.{go_on}
 use Rattle.site_store.proofs.Moments.{have_begun, more_follow}
 use Rattle.site_means.specs.Walk.{first_unfit}
@@ -48,9 +49,9 @@ use Rattle.site_store.proofs.LogContent.{group_leaves, items_lead, logged_means}
 use Rattle.site_store.proofs.LogPut.{logged_site}
 use Rattle.site_store.proofs.LogReads.{fits_failed, fits_still, items_still, rows_still, stands_read, with_failed}
 use Rattle.site_store.proofs.LogRows.{kept_good}
-use Rattle.site_store.proofs.LogStage.{IsGroupReady, PutStage, SeenFrom, site_back}
+use Rattle.site_store.proofs.LogStage.{IsGroupReady, PutStage, site_back, stands_more}
 use Rattle.site_store.proofs.RecordPuts.{on_ok}
-use Rattle.site_store.proofs.MarkFirst.{begins_after_mark, begins_after_none, does_after_mark, does_after_none, first_begins, fits_front, mark_begins, mark_does, next_there, reads_do}
+use Rattle.site_store.proofs.MarkFirst.{begins_after_none, does_after_none, first_begins, fits_front, mark_begins, mark_does, next_there, reads_do}
 
 -- ---- the record's room
 
@@ -151,24 +152,14 @@ plain_next Here sets cut site items after failed plain = refl
 plain_next Switched sets cut site items after failed plain = refl
 plain_next MarkedFirst sets cut site items after failed plain = absurd (plain refl)
 
-module _ (tells : Type 0) (group : FormedGroup) (placement : Placement) (site : SiteState) (old mid new : PlantState) (failed : List Bool) (items : List Item) (plain : placement ≢ MarkedFirst)
+module _ (tells : Type 0) (group : FormedGroup) (placement : Placement) (site : SiteState) (old mid : PlantState) (failed : List Bool) (items : List Item) (plain : placement ≢ MarkedFirst)
     (works : WorksOnLent tells (λ device. (d : ℕ) × (device ≡ Volume d) × HasEntryOn site.table.rows group.entries d) old mid) (reads : OnlyReads tells old mid) (fails : FailByCounts site.failed failed old.faults mid.faults)
     (enters : FailByEntries site.table.rows group.entries site.failed failed) (ready : IsGroupReady tells group placement (with_failed failed site) (rows_with_record site.level group failed site.told) mid items)
     (stands : tells → (e : Exceptions) → SiteStands e site old → SiteStands e (with_failed failed site) mid) where
-  plain_seen : tells → (e : Exceptions) → SiteStands e site old → SeenFrom group placement failed site (with_failed failed site) (rows_with_record site.level group failed site.told) old mid new e
-  plain_seen told e stood = record {
-    excepted = e;
-    stands = stands told e stood;
-    fewer = λ d x is. is;
-    begins = λ begins.
-        subst (λ (deeds : List Deed). BeginsDeeds e site.told deeds old new) (plain_deeds placement site group failed failed plain)
-        (begins_after_none old mid new e site.told (Logged group.cut.0 group.entries (rows_with_record site.level group failed site.told) ∷ []) (reads_do tells _ old mid works reads told e site.told) begins);
-    does = λ does.
-        subst (λ (deeds : List Deed). DoesDeeds e site.told deeds old new) (plain_deeds placement site group failed failed plain)
-        (does_after_none old mid new e site.told (Logged group.cut.0 group.entries (rows_with_record site.level group failed site.told) ∷ []) (reads_do tells _ old mid works reads told e site.told) does);
-  }
+  reads_first : ComesFirst tells [] site (with_failed failed site) old mid
+  reads_first = record { does = λ told e stood. reads_do tells _ old mid works reads told e site.told; stands = stands; after = stands; rows = refl }
 
-  pub plain_stage : PutStage tells group placement site (with_failed failed site) (rows_with_record site.level group failed site.told) old mid new items
+  pub plain_stage : PutStage tells group placement site (with_failed failed site) (rows_with_record site.level group failed site.told) old mid items
   plain_stage = record {
     ready = ready;
     early = failed;
@@ -178,7 +169,9 @@ module _ (tells : Type 0) (group : FormedGroup) (placement : Placement) (site : 
     after_is = plain_after placement site group failed failed plain;
     bytes = λ told d. reads.bytes told (Volume d);
     next_is = λ sets. plain_next placement sets group.cut.0 site items (rows_with_record site.level group failed site.told) failed plain;
-    seen = plain_seen;
+    first = [];
+    before = reads_first;
+    deeds_are = plain_deeds placement site group failed failed plain;
     fails = fails;
     quiet = quiet_reads tells (λ d. HasEntryOn site.table.rows group.entries d) old mid works;
     works = works_lent_more tells _ (IsOfLog site group) old mid (λ d is. inr is) works;
@@ -259,15 +252,12 @@ module _ (tells : Type 0) (group : FormedGroup) (site : SiteState) (early : List
     }
 
     -- The mark was made, and the record formed after it.
-    module _ (last new : PlantState) (made : result ≡ Ok tt) (told_is : site.told ≡ site.table.rows) (failed_last : List Bool) (items_last : List Item) (after : List PairRow)
+    module _ (last : PlantState) (made : result ≡ Ok tt) (told_is : site.told ≡ site.table.rows) (failed_last : List Bool) (items_last : List Item) (after : List PairRow)
         (is : marked_site ≡ after_mark site.mark.ended mark_rows early site) (leaves : Leaves tells (λ e. none_excepted) site marked_site old marked) (quiet_mark : StoresQuiet old.faults marked.faults)
         (works_last : WorksOnLent tells (λ device. (d : ℕ) × (device ≡ Volume d) × HasEntryOn marked_site.table.rows group.entries d) marked last) (reads_last : OnlyReads tells marked last) (fails_last : FailByCounts early failed_last marked.faults last.faults)
         (enters_last : FailByEntries marked_site.table.rows group.entries early failed_last)
         (after_is : after ≡ rows_logged MarkedFirst site group early failed_last) (ready : IsGroupReady tells group MarkedFirst (with_failed failed_last marked_site) after last items_last)
         (stands_last : tells → (e : Exceptions) → SiteStands e marked_site marked → SiteStands e (with_failed failed_last marked_site) last) where
-      abbrev deed : Deed
-      deed = Logged group.cut.0 group.entries after
-
       told_marked : marked_site.told ≡ mark_rows
       told_marked = ap (λ (s : SiteState). s.told) is
 
@@ -276,17 +266,15 @@ module _ (tells : Type 0) (group : FormedGroup) (site : SiteState) (early : List
           let did : DoesDeeds e site.told (mark_deed ∷ []) old marked = subst (λ (r : Result (Unit {0}) StoreError). OnOk r (DoesDeeds e site.told (mark_deed ∷ []) old marked)) made (mark_does tells site.mark.ended mark_rows site marked_site old marked result makes idle told e stood) in
           go_on old marked last e site.told (mark_deed ∷ []) [] did (reads_do tells _ marked last works_last reads_last told (excepted_by_deed site.told mark_deed e) mark_rows)
 
-      marked_seen : tells → (e : Exceptions) → SiteStands e site old → SeenFrom group MarkedFirst early site (with_failed failed_last marked_site) after old last new e
-      marked_seen told e stood = record {
-        excepted = none_excepted;
-        stands = stands_last told none_excepted (leaves.stands told e stood);
-        fewer = λ d x kept. refl;
-        begins = λ begins.
-            let here : BeginsDeeds none_excepted mark_rows (deed ∷ []) last new = subst (λ (rows : List PairRow). BeginsDeeds none_excepted rows (deed ∷ []) last new) told_marked begins in
-            subst (λ (rows : List PairRow). BeginsDeeds e site.told (mark_deed ∷ Logged group.cut.0 group.entries rows ∷ []) old new) after_is (begins_after_mark old last new e site.told mark_deed deed (does_mark told e stood) here);
-        does = λ does.
-            let here : DoesDeeds none_excepted mark_rows (deed ∷ []) last new = subst (λ (rows : List PairRow). DoesDeeds none_excepted rows (deed ∷ []) last new) told_marked does in
-            subst (λ (rows : List PairRow). DoesDeeds e site.told (mark_deed ∷ Logged group.cut.0 group.entries rows ∷ []) old new) after_is (does_after_mark old last new e site.told mark_deed deed (does_mark told e stood) here);
+      stands_marked : (f : Exceptions) → tells → (e : Exceptions) → SiteStands e site old → SiteStands f (with_failed failed_last marked_site) last
+      stands_marked f told e stood = stands_more f none_excepted (with_failed failed_last marked_site) last (λ d x kept. refl) (stands_last told none_excepted (leaves.stands told e stood))
+
+      mark_comes : ComesFirst tells (mark_deed ∷ []) site (with_failed failed_last marked_site) old last
+      mark_comes = record {
+        does = does_mark;
+        stands = λ told e stood. stands_marked e told e stood;
+        after = λ told e stood. stands_marked (excepted_by_deed site.told mark_deed e) told e stood;
+        rows = sym told_marked;
       }
 
       has_entry : (d : ℕ) → HasEntryOn marked_site.table.rows group.entries d → HasEntryOn site.table.rows group.entries d
@@ -294,7 +282,7 @@ module _ (tells : Type 0) (group : FormedGroup) (site : SiteState) (early : List
           ap (λ (rows : List PairRow). list_any (is_entry_of_device rows d) group.entries) (sym told_is) ∙ sym (has_on_still (hit_now early site.told) site.time site.told group.entries d)
           ∙ sym (ap (λ (s : SiteState). list_any (is_entry_of_device s.table.rows d) group.entries) is) ∙ has
 
-      pub marked_stage : PutStage tells group MarkedFirst site (with_failed failed_last marked_site) after old last new items_last
+      pub marked_stage : PutStage tells group MarkedFirst site (with_failed failed_last marked_site) after old last items_last
       marked_stage = record {
         ready = ready;
         early = early;
@@ -307,7 +295,9 @@ module _ (tells : Type 0) (group : FormedGroup) (site : SiteState) (early : List
         after_is = after_is;
         bytes = λ told d. reads_last.bytes told (Volume d) ∙ makes.volumes.bytes told d;
         next_is = λ sets. ap (λ (s : SiteState). logged_site sets MarkedFirst group.cut.0 items_last after (one_more s.since) (with_failed failed_last s)) is;
-        seen = marked_seen;
+        first = mark_deed ∷ [];
+        before = mark_comes;
+        deeds_are = ap (λ (rows : List PairRow). mark_deed ∷ Logged group.cut.0 group.entries rows ∷ []) after_is;
         fails = fails_trans site.failed early failed_last old.faults marked.faults last.faults fails_mark fails_last;
         quiet = quiet_trans old.faults marked.faults last.faults quiet_mark (quiet_reads tells (λ d. HasEntryOn marked_site.table.rows group.entries d) marked last works_last);
         works = works_lent_trans tells (IsOfLog site group) old marked last marked_works (works_lent_more tells _ (IsOfLog site group) marked last (λ d is. inr (is.0, is.1, has_entry is.0 is.2)) works_last);

@@ -1,5 +1,5 @@
 -- What is known of a group before its record is put, and what follows once it was put or failed.
-use Rattle.std.proofs.Common.{◌≡◌, ◌⊎◌, inl, inr, ℕ, Bool, true, false, List, [], ◌∷◌, Ok, Err, Result, refl, sym, ap, subst, ◌∙◌}
+use Rattle.std.proofs.Common.{◌≡◌, inl, ℕ, ◌++◌, Bool, List, [], ◌∷◌, Ok, Err, Result, sym, ap, subst, ◌∙◌}
 use Rattle.crash_plant.specs.declared.device.Device.TheVariants.{Volume}
 use Rattle.crash_plant.specs.Calls.{SameSite, WorksOn}
 use Rattle.crash_plant.specs.Choices.{IsChoice}
@@ -9,56 +9,25 @@ use Rattle.applier.proofs.Works.{lent_of_works, none_lent_lent, works_lent_more,
 use Rattle.pair_table.specs.declared.row.PairRow.{PairRow}
 use Rattle.pending_queue.specs.Groups.{FormedGroup}
 use Rattle.xrc_journal.specs.Items.{Item}
+use Rattle.record_rows.specs.Deeds.{Deed}
 use Rattle.record_rows.specs.Deeds.Deed.{Logged}
-use Rattle.site_store.specs.DoneDeeds.{BeginsDeeds, DoesDeeds}
-use Rattle.site_store.specs.Exceptions.{Exceptions}
 use Rattle.site_store.specs.declared.store_error.StoreError.{StoreError}
 use Rattle.site_store.specs.declared.placement.Placement.{Placement}
 use Rattle.site_store.specs.Causes.{FailByCounts, HasStoreCause}
-use Rattle.site_store.specs.Logging.{AreItemsOf, FailByEntries, FailedBetween, IsOfLog, LogsBy, failed_before, log_deeds, rows_before, rows_logged}
+use Rattle.site_store.specs.InTurn.{DoesInTurn}
+use Rattle.site_store.specs.Logging.{AreItemsOf, DoesLog, FailByEntries, FailedBetween, IsOfLog, LogsBy, failed_before, log_deeds, rows_before, rows_logged}
 use Rattle.site_store.specs.Recording.{ShowsRecord, group_with}
 use Rattle.site_store.specs.Records.{IsJournal, after_record, after_placement, one_more}
-use Rattle.site_store.specs.Sites.{SiteState, has_failed}
-use Rattle.site_store.specs.Standing.{Leaves, SiteStands}
+use Rattle.site_store.specs.Sites.{SiteState}
+use Rattle.site_store.specs.Standing.{Leaves}
+use Rattle.site_store.proofs.ComesFirst.{ComesFirst, record_do}
 use Rattle.site_store.proofs.LogFails.{StoresQuiet, cause_then, fails_still, none_by_journals}
-use Rattle.site_store.proofs.LogPut.{IsReady, MakesDeed, fits_logged, logged_site, put_begins, put_does, put_stands}
+use Rattle.site_store.proofs.LogPut.{IsReady, MakesDeed, fits_logged, logged_site, put_stands}
 use Rattle.site_store.proofs.LogReads.{items_still}
-
--- A site that stands with some exceptions stands with more.
-pub stands_more : (e f : Exceptions) (site : SiteState) (plant : PlantState) → ((d x : ℕ) → e d x ≡ false → f d x ≡ false) → SiteStands f site plant → SiteStands e site plant
-stands_more e f site plant fewer stands = record {
-  walk = stands.walk;
-  meant = stands.meant;
-  chosen = stands.chosen;
-  at = stands.at;
-  last = stands.last;
-  control = stands.control;
-  state = stands.state;
-  journals = stands.journals;
-  done = stands.done;
-  items = stands.items;
-  applied = λ d lt good x kept. stands.applied d lt good x (fewer d x kept);
-  unwritten = λ d lt not x has. by_case d x (stands.unwritten d lt not x has);
-}
-  where
-    by_flag : (d x : ℕ) (b : Bool) → e d x ≡ b → f d x ≡ true → (has_failed site d ≡ true) ⊎ (e d x ≡ true)
-    by_flag d x true is excepted = inr is
-    by_flag d x false is excepted = let none = fewer d x is in absurd (cc (none, excepted))
-
-    by_case : (d x : ℕ) → (has_failed site d ≡ true) ⊎ (f d x ≡ true) → (has_failed site d ≡ true) ⊎ (e d x ≡ true)
-    by_case d x (inl failed) = inl failed
-    by_case d x (inr excepted) = by_flag d x (e d x) refl excepted
+pub use Rattle.site_store.proofs.RecordStands.{stands_more}
 
 pub site_back : (old new : PlantState) → SameSite old new → SameSite new old
 site_back old new same = record { journals = sym same.journals; volumes = sym same.volumes; lengths = λ d. sym (same.lengths d) }
-
--- What stands before the record is put, and how its deed goes on from there.
-pub record SeenFrom (group : FormedGroup) (placement : Placement) (early : List Bool) (site last : SiteState) (after : List PairRow) (old plant new : PlantState) (e : Exceptions) : Type 0 where
-  pub excepted : Exceptions
-  pub stands : SiteStands excepted last plant
-  pub fewer : (d x : ℕ) → e d x ≡ false → excepted d x ≡ false
-  pub begins : BeginsDeeds excepted last.told (Logged group.cut.0 group.entries after ∷ []) plant new → BeginsDeeds e site.told (log_deeds placement site group early last.failed) old new
-  pub does : DoesDeeds excepted last.told (Logged group.cut.0 group.entries after ∷ []) plant new → DoesDeeds e site.told (log_deeds placement site group early last.failed) old new
 
 -- What is known of a group's record before it is put.
 pub record IsGroupReady (tells : Type 0) (group : FormedGroup) (placement : Placement) (site : SiteState) (after : List PairRow) (plant : PlantState) (items : List Item) : Type 0 where
@@ -67,7 +36,7 @@ pub record IsGroupReady (tells : Type 0) (group : FormedGroup) (placement : Plac
   pub makes : MakesDeed tells (Logged group.cut.0 group.entries after) group.cut.0 site after plant items
 
 -- Before the record is put: `site` is the site at the start, and `last` the one then, after a mark where one was made first.
-pub record PutStage (tells : Type 0) (group : FormedGroup) (placement : Placement) (site last : SiteState) (after : List PairRow) (old plant new : PlantState) (items : List Item) : Type 0 where
+pub record PutStage (tells : Type 0) (group : FormedGroup) (placement : Placement) (site last : SiteState) (after : List PairRow) (old plant : PlantState) (items : List Item) : Type 0 where
   pub ready : IsGroupReady tells group placement last after plant items
   pub early : List Bool
   pub early_failed : FailedBetween site.failed early last.failed
@@ -76,17 +45,18 @@ pub record PutStage (tells : Type 0) (group : FormedGroup) (placement : Placemen
   pub after_is : after ≡ rows_logged placement site group early last.failed
   pub bytes : tells → (d : ℕ) → plant.bytes (Volume d) ≡ old.bytes (Volume d)
   pub next_is : (sets : ℕ) → logged_site sets placement group.cut.0 items after (one_more last.since) last ≡ record (after_record sets placement group.cut.0 items after last.failed site) { since = one_more (after_placement placement site).since; waiting = items }
-  pub seen : tells → (e : Exceptions) → SiteStands e site old → SeenFrom group placement early site last after old plant new e
+  pub first : List Deed
+  pub before : ComesFirst tells first site last old plant
+  pub deeds_are : first ++ Logged group.cut.0 group.entries after ∷ [] ≡ log_deeds placement site group early last.failed
   pub fails : FailByCounts site.failed last.failed old.faults plant.faults
   pub quiet : StoresQuiet old.faults plant.faults
   pub works : WorksOnLent tells (IsOfLog site group) old plant
 
-module _ (tells : Type 0) (group : FormedGroup) (placement : Placement) (site last : SiteState) (after : List PairRow) (old plant new : PlantState) (items : List Item) (stage : PutStage tells group placement site last after old plant new items)
+module _ (tells : Type 0) (group : FormedGroup) (placement : Placement) (site last : SiteState) (after : List PairRow) (old plant new : PlantState) (items : List Item) (stage : PutStage tells group placement site last after old plant items)
     (read : tells → IsChoice plant plant.clock plant.bytes) (works : WorksOn tells IsJournal plant new) where
-  begins_by : (result : Result (Unit {0}) StoreError) → ShowsRecord tells placement last.mark.at last.at (group_with group.cut.0 items) plant new result → tells → (e : Exceptions) → SiteStands e site old → BeginsDeeds e site.told (log_deeds placement site group stage.early last.failed) old new
-  begins_by result shows told e stands =
-      let s = stage.seen told e stands in
-      s.begins (put_begins group.cut.0 placement last after plant items stage.ready.place tells (Logged group.cut.0 group.entries after) stage.ready.makes told s.excepted s.stands (read told) new works result shows)
+  does_by : (result : Result (Unit {0}) StoreError) → ShowsRecord tells placement last.mark.at last.at (group_with group.cut.0 items) plant new result → DoesLog tells group placement stage.early site last old new result
+  does_by result shows = subst (λ (deeds : List Deed). DoesInTurn tells deeds site old new result) stage.deeds_are
+      (record_do tells stage.first site last old plant new stage.before placement group.cut.0 (Logged group.cut.0 group.entries after) items after stage.ready.place (λ told e stands. stage.ready.makes) read works result shows)
 
   -- Where it isn't put, the deeds have begun.
   pub put_fails : (next : SiteState) (error : StoreError) → next.failed ≡ last.failed → ShowsRecord tells placement last.mark.at last.at (group_with group.cut.0 items) plant new (Err error) → LogsBy tells group placement site next old new (Err error)
@@ -96,10 +66,7 @@ module _ (tells : Type 0) (group : FormedGroup) (placement : Placement) (site la
     by_entries = subst (λ (f : List Bool). FailByEntries site.table.rows group.entries (failed_before placement site stage.early) f) (sym is) stage.by_entries;
     items = tt;
     next_is = tt;
-    does = record {
-      begins = λ told e stands. subst (λ (f : List Bool). BeginsDeeds e site.told (log_deeds placement site group stage.early f) old new) (sym is) (begins_by (Err error) shows told e stands);
-      does = λ told. tt;
-    };
+    does = subst (λ (f : List Bool). DoesInTurn tells (log_deeds placement site group stage.early f) site old new (Err error)) (sym is) (does_by (Err error) shows);
   }
 
   pub put_others : WorksOnLent tells (IsOfLog site group) old new
@@ -130,10 +97,7 @@ module _ (tells : Type 0) (group : FormedGroup) (placement : Placement) (site la
       next_is =
           ap (λ (sets : ℕ). logged_site sets placement group.cut.0 items after (one_more last.since) last) stage.works.site.journals ∙ stage.next_is old.journals
           ∙ ap (λ (rows : List PairRow). record (after_record old.journals placement group.cut.0 items rows last.failed site) { since = one_more (after_placement placement site).since; waiting = items }) stage.after_is;
-      does = record {
-        begins = begins_by (Ok tt) shows;
-        does = λ told e stands. let s = stage.seen told e stands in s.does (put_does group.cut.0 placement last after plant items stage.ready.place tells (Logged group.cut.0 group.entries after) stage.ready.makes told s.excepted s.stands (read told) new works shows);
-      };
+      does = does_by (Ok tt) shows;
     }
 
     -- The site goes on after it.
@@ -141,6 +105,5 @@ module _ (tells : Type 0) (group : FormedGroup) (placement : Placement) (site la
     put_leaves = record {
       fits = fits_logged group.cut.0 placement last after plant items stage.ready.place (one_more last.since) items stage.ready.place.keep new works.site (none_lent_lent tells IsJournal plant new (lent_of_works tells IsJournal plant new works) stage.ready.place.fits.home);
       stands = λ told e stands.
-          let s = stage.seen told e stands in
-          stands_more e s.excepted next new s.fewer (put_stands group.cut.0 placement last after plant items stage.ready.place tells (Logged group.cut.0 group.entries after) stage.ready.makes told s.excepted s.stands (read told) new works shows (one_more last.since));
+          put_stands group.cut.0 placement last after plant items stage.ready.place tells (Logged group.cut.0 group.entries after) stage.ready.makes told e (stage.before.stands told e stands) (read told) new works shows (one_more last.since);
     }

@@ -13,21 +13,20 @@ use Rattle.xrc_journal.specs.Appending.{room_for}
 use Rattle.xrc_journal.specs.Contents.{is_of_track}
 use Rattle.xrc_journal.specs.Items.{Item, body_spelling}
 use Rattle.xrc_journal.specs.Records.{next_set}
-use Rattle.record_rows.specs.Deeds.{Deed, rows_by_deed}
+use Rattle.record_rows.specs.Deeds.{Deed}
 use Rattle.record_rows.specs.Deeds.Deed.{Marked}
 use Rattle.site_store.specs.DoneDeeds.{BeginsDeeds, DoesDeeds}
-use Rattle.site_store.specs.Exceptions.{Exceptions, excepted_by_deed}
+use Rattle.site_store.specs.Exceptions.{Exceptions}
 use Rattle.site_store.proofs.Composing.{begin_after, go_on}
 use Rattle.site_store.proofs.Moments.{more_follow}
 use Rattle.site_store.proofs.Single.{reads_and_syncs}
-use Rattle.site_store.proofs.Widening.{begins_still, does_still}
 use Rattle.site_store.specs.declared.store_error.StoreError.{StoreError}
 use Rattle.site_store.specs.declared.placement.Placement.TheVariants.{Marked as MarkedFirst}
 use Rattle.site_store.specs.Jobs.{body_room}
 use Rattle.site_store.specs.Marking.{MakesMark, excepted_with_waiting}
 use Rattle.site_store.specs.Recording.{HasRoomAfterSwitch}
 use Rattle.site_store.specs.Sites.{SiteState}
-use Rattle.site_store.specs.Standing.{HasLengths, SiteStands, none_excepted}
+use Rattle.site_store.specs.Standing.{HasLengths, SiteStands}
 use Rattle.site_store.specs.Placements.{most, record_needs_more}
 use Rattle.site_store.proofs.RecordPuts.{on_ok}
 
@@ -57,14 +56,6 @@ module _ (tells : Type 0) (ended : Bool) (rows : List PairRow) (site next : Site
 -- A deed that begins may be the first of two.
 pub first_begins : (old new : PlantState) (e : Exceptions) (rows : List PairRow) (first deed : Deed) → BeginsDeeds e rows (first ∷ []) old new → BeginsDeeds e rows (first ∷ deed ∷ []) old new
 first_begins old new e rows first deed begins = more_follow old new e rows (first ∷ []) (deed ∷ []) begins
-
--- After a mark no track is excepted. The record after it begins, and is done, with the mark's own exceptions too.
-module _ (old mid new : PlantState) (e : Exceptions) (rows : List PairRow) (mark deed : Deed) (did : DoesDeeds e rows (mark ∷ []) old mid) where
-  pub begins_after_mark : BeginsDeeds none_excepted (rows_by_deed mark) (deed ∷ []) mid new → BeginsDeeds e rows (mark ∷ deed ∷ []) old new
-  begins_after_mark begins = begin_after old mid new e rows (mark ∷ []) (deed ∷ []) did (begins_still mid new none_excepted (excepted_by_deed rows mark e) (rows_by_deed mark) (λ d x is. refl) (deed ∷ []) begins)
-
-  pub does_after_mark : DoesDeeds none_excepted (rows_by_deed mark) (deed ∷ []) mid new → DoesDeeds e rows (mark ∷ deed ∷ []) old new
-  does_after_mark does = go_on old mid new e rows (mark ∷ []) (deed ∷ []) did (does_still mid new none_excepted (excepted_by_deed rows mark e) (rows_by_deed mark) (λ d x is. refl) (deed ∷ []) does)
 
 -- ---- reads between
 

@@ -84,3 +84,28 @@ module _ (tells : Type 0) (told : tells) (e : Exceptions) (site next : SiteState
     applied = applied_still;
     unwritten = unwritten_still;
   }
+
+-- A site that stands with some exceptions stands with more.
+pub stands_more : (e f : Exceptions) (site : SiteState) (plant : PlantState) → ((d x : ℕ) → e d x ≡ false → f d x ≡ false) → SiteStands f site plant → SiteStands e site plant
+stands_more e f site plant fewer stands = record {
+  walk = stands.walk;
+  meant = stands.meant;
+  chosen = stands.chosen;
+  at = stands.at;
+  last = stands.last;
+  control = stands.control;
+  state = stands.state;
+  journals = stands.journals;
+  done = stands.done;
+  items = stands.items;
+  applied = λ d lt good x kept. stands.applied d lt good x (fewer d x kept);
+  unwritten = λ d lt not x has. by_case d x (stands.unwritten d lt not x has);
+}
+  where
+    by_flag : (d x : ℕ) (b : Bool) → e d x ≡ b → f d x ≡ true → (has_failed site d ≡ true) ⊎ (e d x ≡ true)
+    by_flag d x true is excepted = inr is
+    by_flag d x false is excepted = let none = fewer d x is in absurd (cc (none, excepted))
+
+    by_case : (d x : ℕ) → (has_failed site d ≡ true) ⊎ (f d x ≡ true) → (has_failed site d ≡ true) ⊎ (e d x ≡ true)
+    by_case d x (inl failed) = inl failed
+    by_case d x (inr excepted) = by_flag d x (e d x) refl excepted

@@ -22,7 +22,7 @@ use Rattle.site_store.specs.Placements.{record_needs_more}
 use Rattle.site_store.specs.RowRecords.{rows_need_more}
 use Rattle.site_store.specs.Sites.{SiteState}
 use Rattle.site_store.specs.Standing.{Leaves, none_excepted}
-use Rattle.site_store.proofs.LogStage.{stands_more}
+use Rattle.site_store.proofs.RecordStands.{stands_more}
 use Rattle.site_store.proofs.RowsLogged.{with_logged_rows}
 
 -- ---- what is left after an answer

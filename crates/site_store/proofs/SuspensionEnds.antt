@@ -11,7 +11,8 @@ use Rattle.site_store.proofs.Single.{no_call}
 use Rattle.site_store.specs.declared.store_error.StoreError.{StoreError}
 use Rattle.site_store.specs.Changing.{DoesSuspend, IsPlacementOfHits, Suspends, suspension_deeds_of}
 use Rattle.site_store.specs.Hits.{are_some}
-use Rattle.site_store.specs.RowRecords.{DoesRows, LogsRecord, MayLogRows}
+use Rattle.site_store.specs.InTurn.{DoesInTurn}
+use Rattle.site_store.specs.RowRecords.{LogsRecord, MayLogRows}
 use Rattle.site_store.specs.Sites.{SiteState}
 use Rattle.site_store.specs.Standing.{MayRecord}
 use Rattle.site_store.specs.Placements.{placement_of}
@@ -78,6 +79,6 @@ module _ (tells : Type 0) (cut : ℕ) (site : SiteState) (old : PlantState) (tol
 
     pub suspends_does : DoesSuspend tells cut site next old new result
     suspends_does =
-        let does : DoesRows tells (suspension_deeds_of logs.placement site cut next.failed) site old new result =
-        subst (λ (d : List Deed). DoesRows tells d site old new result) (sym (suspension_is site cut next.failed logs.placement hit)) logs.does in
+        let does : DoesInTurn tells (suspension_deeds_of logs.placement site cut next.failed) site old new result =
+        subst (λ (d : List Deed). DoesInTurn tells d site old new result) (sym (suspension_is site cut next.failed logs.placement hit)) logs.does in
         record { placement = logs.placement; items = logs.is_placement.first; is_placement = is_placement; left = λ more. logs.after; begins = does.begins; does = does.does }

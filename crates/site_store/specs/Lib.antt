@@ -9,6 +9,7 @@ pub mod RingLaws
 pub mod RingPlants
 pub mod Applying
 pub mod IdleSites
+pub mod InTurn
 pub mod Causes
 pub mod Changing
 pub mod Commands

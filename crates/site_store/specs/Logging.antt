@@ -31,11 +31,10 @@ use Rattle.site_store.specs.declared.store_error.StoreError.TheVariants.{Spent}
 use Rattle.site_store.specs.declared.placement.Placement.{Placement}
 use Rattle.site_store.specs.declared.placement.Placement.TheVariants.{Here, Switched, Marked as MarkedFirst}
 use Rattle.site_store.specs.Sites.{SiteState}
-use Rattle.site_store.specs.Standing.{Leaves, SiteStands, row_has_volume}
+use Rattle.site_store.specs.Standing.{Leaves, row_has_volume}
 use Rattle.record_rows.specs.Deeds.{Deed}
 use Rattle.site_store.specs.Deeds.{kinds_of}
-use Rattle.site_store.specs.DoneDeeds.{BeginsDeeds, DoesDeeds}
-use Rattle.site_store.specs.Exceptions.{Exceptions}
+use Rattle.site_store.specs.InTurn.{DoesInTurn}
 use Rattle.record_rows.specs.Deeds.Deed.{Logged, Marked}
 use Rattle.site_store.specs.declared.hits.Hits.{Hits}
 use Rattle.site_store.specs.Hits.{NextStates, pairs_with_next, with_group_and_hits}
@@ -196,11 +195,9 @@ log_deeds MarkedFirst site group early failed =
     Marked site.at site.mark.ended (rows_before MarkedFirst site early)
     ∷ Logged group.cut.0 group.entries (rows_logged MarkedFirst site group early failed) ∷ []
 
--- At every moment the first of these deeds are seen, and after Ok all of them. `early` are the jobs that had failed by the mark.
-pub record DoesLog (tells : Type 0) (group : FormedGroup) (placement : Placement) (early : List Bool) (site next : SiteState) (old new : PlantState)
-    (result : Result (Unit {0}) StoreError) : Type 0 where
-  pub begins : tells → (e : Exceptions) → SiteStands e site old → BeginsDeeds e site.told (log_deeds placement site group early next.failed) old new
-  pub does : tells → OnOk result ((e : Exceptions) → SiteStands e site old → DoesDeeds e site.told (log_deeds placement site group early next.failed) old new)
+-- `early` are the jobs that had failed by the mark.
+abbrev pub DoesLog : (tells : Type 0) → FormedGroup → Placement → (early : List Bool) → (site next : SiteState) → (old new : PlantState) → Result (Unit {0}) StoreError → Type 0
+DoesLog tells group placement early site next old new result = DoesInTurn tells (log_deeds placement site group early next.failed) site old new result
 
 -- the site after the record of a group with these items, once these jobs have failed
 abbrev pub after_group : (journals : ℕ) → Placement → FormedGroup → List Item → (early failed : List Bool) → SiteState → SiteState

@@ -9,11 +9,9 @@ use Rattle.site_store.specs.declared.store_error.StoreError.{StoreError}
 use Rattle.site_store.specs.declared.store_error.StoreError.TheVariants.{Spent}
 use Rattle.site_store.specs.declared.placement.Placement.{Placement}
 use Rattle.site_store.specs.Changing.{IsAfterChange, IsPlacementOfChange, MayChange, change_deeds, changed_items, suspension_deeds, with_suspensions}
-use Rattle.site_store.specs.DoneDeeds.{BeginsDeeds, DoesDeeds}
-use Rattle.site_store.specs.Exceptions.{Exceptions}
+use Rattle.site_store.specs.InTurn.{DoesInTurn}
 use Rattle.site_store.specs.Placements.{record_needs_more, suspension_needs_more}
 use Rattle.site_store.specs.Sites.{SiteState}
-use Rattle.site_store.specs.Standing.{SiteStands}
 
 -- ---- what follows a mark
 
@@ -49,15 +47,10 @@ pub record MayLogRows (tells : Type 0) (cut : ℕ) (change : Change) (site : Sit
   pub may : MayChange tells cut change site plant
   pub level : names_rows change site.table.rows ≡ false → site.is_ahead ≡ false
 
--- At every moment the first of some deeds are seen, and after Ok all of them.
-pub record DoesRows (tells : Type 0) (deeds : List Deed) (site : SiteState) (old new : PlantState) (result : Result (Unit {0}) StoreError) : Type 0 where
-  pub begins : tells → (e : Exceptions) → SiteStands e site old → BeginsDeeds e site.told deeds old new
-  pub does : tells → OnOk result ((e : Exceptions) → SiteStands e site old → DoesDeeds e site.told deeds old new)
-
 -- It is logged. As it is formed first it decides the placement, and the numbers by that decide whether it is logged at all.
 pub record LogsRecord (tells : Type 0) (cut : ℕ) (change : Change) (site next : SiteState) (old new : PlantState) (result : Result (Unit {0}) StoreError) : Type 0 where
   pub placement : Placement
   pub is_placement : IsPlacementOfChange cut change site old placement
   pub spent : IsErrOf result Spent ↔ (are_rows_spent (names_rows change site.table.rows) placement site ≡ true)
   pub after : OnOk result (IsAfterRows (names_rows change site.table.rows) cut change placement is_placement.first site next old)
-  pub does : DoesRows tells (rows_deeds (names_rows change site.table.rows) placement site cut next.failed) site old new result
+  pub does : DoesInTurn tells (rows_deeds (names_rows change site.table.rows) placement site cut next.failed) site old new result

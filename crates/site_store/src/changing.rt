@@ -11,7 +11,8 @@ ghost use Rattle.site_store.specs.declared.store_error.StoreError.TheVariants.{S
 ghost use Rattle.site_store.specs.declared.placement.Placement.TheVariants.{Marked};
 ghost use Rattle.site_store.specs.Causes.{FailByCounts, HasStoreCause};
 ghost use Rattle.site_store.specs.Changing.{DoesChange, FormsChange, IsAfterChange, LogsChange, MayChange, change_deeds, changed_items, gone_of, named_devices, pairs_of};
-ghost use Rattle.site_store.specs.RowRecords.{DoesRows, LogsRecord, MayLogRows, has_items, names_rows, rows_need_more};
+ghost use Rattle.site_store.specs.InTurn.{DoesInTurn};
+ghost use Rattle.site_store.specs.RowRecords.{LogsRecord, MayLogRows, has_items, names_rows, rows_need_more};
 ghost use Rattle.pair_table.specs.Tables.{AreRowsSound, are_below, with_rows};
 ghost use Rattle.record_rows.specs.Records.{rows_with_hits};
 ghost use Rattle.site_store.specs.Jobs.{has_job_failed};
@@ -166,7 +167,7 @@ impl<V> Site<V> {
         requires numbers { is_spent Marked self.old ≡ false }
         ensures ok { OnOk result (IsAfterChange cut.0 change.now Marked self.old self.new (P.state plant.old)) }
         ensures leaves { OnOk result (Leaves P.tells (λ e. e) self.old self.new (P.state plant.old) (P.state plant.new)) }
-        ensures moments { DoesRows P.tells (change_deeds Marked self.old cut.0 self.new.failed) self.old (P.state plant.old) (P.state plant.new) result }
+        ensures moments { DoesInTurn P.tells (change_deeds Marked self.old cut.0 self.new.failed) self.old (P.state plant.old) (P.state plant.new) result }
         ensures only { WorksOn P.tells (IsOfRecord self.old) (P.state plant.old) (P.state plant.new) }
         ensures cause { HasStoreCause (P.state plant.old).faults (P.state plant.new).faults result }
         ensures unspent { ¬ IsErrOf result Spent }

@@ -1,4 +1,4 @@
-use Rattle.std.proofs.Common.{rules, ◌≡◌, List, Some, None, sym, ap, ◌∙◌, ◌<◌, ℕ, length, arith}
+use Rattle.std.proofs.Common.{rules, ◌≡◌, List, Some, None, sym, ap, ◌∙◌, ◌<◌, length, arith}
 use Rattle.std.specs.Prelude.{slice_get}
 use Rattle.std.specs.List.{list_any}
 use Rattle.image_former.proofs.Lists.{item_there}

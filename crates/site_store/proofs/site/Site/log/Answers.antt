@@ -293,7 +293,7 @@ returns-in_err-put_record g c =
     let enough : is_spent placement (site g f) ≡ false = sym c.record_needs_more.ensures ∙ c.if-record_needs_more.false in
     let plain : placement ≢ MarkedFirst = λ marked. elim c.in-Here.is [ inl here ↦ cc (here, marked) | inr switched ↦ cc (switched, marked) ] in
     let new = g.P.Plant.state c.put_record.new.plant in
-    let stage = plain_put tells group (site g f) (old g f) (mid g f) (failed g f) items placement (first g f) plain enough new in
+    let stage = plain_put tells group (site g f) (old g f) (mid g f) (failed g f) items placement (first g f) plain enough in
     let works = c.put_record.ensures.only in
     let last : SiteState = record { controls = s.controls; level = s.level; table = s.table; is_ahead = s.ahead; told = cond s.ahead s.told.rows s.table.rows; time = s.time.0; mark = s.mark; at = c.put_record.new.journal.at; since = s.since; waiting = []; failed = map has_job_failed (with_items s.jobs c.form_record-hits.new.jobs).items; written = s.written.items } in
     let error = c.in_err-put_record.field-0.0 in
@@ -358,7 +358,7 @@ returns g c =
     let enough : is_spent placement (site g f) ≡ false = sym c.record_needs_more.ensures ∙ c.if-record_needs_more.false in
     let plain : placement ≢ MarkedFirst = λ marked. elim c.in-Here.is [ inl here ↦ cc (here, marked) | inr switched ↦ cc (switched, marked) ] in
     let new = g.P.Plant.state c.put_record.new.plant in
-    let stage = plain_put tells group (site g f) (old g f) (mid g f) (failed g f) items placement (first g f) plain enough new in
+    let stage = plain_put tells group (site g f) (old g f) (mid g f) (failed g f) items placement (first g f) plain enough in
     let works = c.put_record.ensures.only in
     let table_is : c.take_changed.new.table ≡ with_rows s.table (after g f) = c.take_changed.ensures ∙ ap (with_rows s.table) (first_after tells group (site g f) (old g f) (mid g f) s.body c.form_record-hits.new.body c.form_record-hits.new.due (map has_job_failed c.deref_mut.result.now) (failed g f) hits (ready g f) (told_is g f) c.form_record-hits.ensures.forms (c.form_record-hits.ensures.hits [] c.no_devices-none.ensures)) in
     let ahead_is : s.ahead ≡ false = (ready g f).level in

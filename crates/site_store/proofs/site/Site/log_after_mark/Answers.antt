@@ -13,11 +13,11 @@ use Rattle.crash_plant.specs.Choices.{Choice, IsChoice}
 use Rattle.site_store.specs.Changing.{FormsChange, change_deeds, changed_items, told_by_mark}
 use Rattle.site_store.specs.Jobs.{has_job_failed}
 use Rattle.site_store.specs.Marking.{MakesMark, rows_at_mark, unit_of}
-use Rattle.site_store.specs.RowRecords.{DoesRows}
+use Rattle.site_store.specs.InTurn.{DoesInTurn}
 use Rattle.site_store.specs.Sites.{SiteState}
 use Rattle.site_store.specs.Standing.{Leaves, none_excepted}
 use Rattle.site_store.proofs.ChangeEnds.{after_done, after_leaves, change_after, forms_there, mark_fails, may_put_after, some_items}
-use Rattle.site_store.proofs.ChangeFirst.{record_works}
+use Rattle.site_store.proofs.ComesFirst.{record_works}
 use Rattle.site_store.proofs.LogFails.{cause_then, fails_still, none_by_journals, quiet_ok}
 use Rattle.site_store.proofs.MarkRows.{hits_alone}
 use Rattle.site_store.proofs.NextMark.{after_ahead, makes_alone}
@@ -41,7 +41,7 @@ returns-in_err-mark_first-clause-moments g c =
     let error = c.in_err-mark_first.field-0.0 in
     let is : c.from_residual.result ≡ Err error = search rules in
     let makes = makes_alone tells site.mark.ended k.new.self.failed site k.new.self old mid (Err error) (subst (λ (r : Result (Unit {0}) StoreError). MakesMark tells site.mark.ended (rows_at_mark VolumeLevel site k.new.self.failed) site k.new.self old mid r) (ap unit_of c.in_err-mark_first.was) k.ensures.makes) in
-    subst (λ (r : Result (Unit {0}) StoreError). DoesRows tells (change_deeds Marked site c.args.cut.0 k.new.self.failed) site old mid r) (sym is) (mark_fails tells c.args.cut.0 site k.new.self old mid error c.requires.may.idle makes)
+    subst (λ (r : Result (Unit {0}) StoreError). DoesInTurn tells (change_deeds Marked site c.args.cut.0 k.new.self.failed) site old mid r) (sym is) (mark_fails tells c.args.cut.0 site k.new.self old mid error c.requires.may.idle makes)
 
 -- ---- the mark is made, and the record is formed after it
 

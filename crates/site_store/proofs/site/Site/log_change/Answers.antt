@@ -1,4 +1,4 @@
-use Rattle.std.proofs.Common.{◌≡◌, Bool, false, true, List, [], refl, sym, ap, subst, ◌∙◌}
+use Rattle.std.proofs.Common.{◌≡◌, Bool, false, List, [], refl, sym, ap, subst, ◌∙◌}
 use Rattle.applier.proofs.Works.{lent_of_works}
 use Rattle.pair_table.specs.Tables.{Table}
 use Rattle.site_store.specs.Causes.{FailByCounts}

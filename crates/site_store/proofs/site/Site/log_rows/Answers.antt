@@ -1,4 +1,4 @@
-use Rattle.std.proofs.Common.{◌≡◌, ◌≢◌, inl, inr, ◌-◌, ◌^◌, Bool, false, true, List, map, Result, Ok, Err, refl, sym, ap, subst, ◌∙◌, arith}
+use Rattle.std.proofs.Common.{◌≡◌, ◌≢◌, inl, inr, ◌-◌, ◌^◌, Bool, false, List, map, Result, Ok, Err, refl, sym, ap, subst, ◌∙◌, arith}
 use Rattle.std.specs.Prelude.{OnOk, IsErrOf}
 use Rattle.std.proofs.lemmas.Bool.{eqb-false}
 use Rattle.std.proofs.lemmas.Result.{err_from_is_err_and}
@@ -15,7 +15,8 @@ use Rattle.site_store.specs.Changing.{FormsChange, IsAfterChange, change_deeds}
 use Rattle.site_store.specs.Jobs.{has_job_failed}
 use Rattle.site_store.specs.Marking.{MakesMark, after_next_mark, rows_at_mark}
 use Rattle.site_store.specs.Records.{IsJournal, IsOfMark, IsOfRecord}
-use Rattle.site_store.specs.RowRecords.{DoesRows, are_rows_spent, names_rows, rows_need_more}
+use Rattle.site_store.specs.InTurn.{DoesInTurn}
+use Rattle.site_store.specs.RowRecords.{are_rows_spent, names_rows, rows_need_more}
 use Rattle.site_store.specs.Sites.{SiteState}
 use Rattle.site_store.specs.Standing.{Leaves, none_excepted}
 use Rattle.site_store.specs.Placements.{is_spent, placement_from, placement_of}
@@ -210,7 +211,7 @@ returns-then-eq g c =
     let new = g.P.Plant.state k.new.plant in
     record {
       logs = after_logs tells c.args.cut change site old may site.failed s.body now (forms g f) refl placement (placement_is g f) enough k.new.self new k.result k.ensures.unspent follow marked (subst (λ (x : SiteState). OnOk k.result (IsAfterChange c.args.cut.0 change Marked x k.new.self old)) there k.ensures.ok)
-          (subst (λ (x : SiteState). DoesRows tells (change_deeds Marked x c.args.cut.0 k.new.self.failed) x old new k.result) there k.ensures.moments);
+          (subst (λ (x : SiteState). DoesInTurn tells (change_deeds Marked x c.args.cut.0 k.new.self.failed) x old new k.result) there k.ensures.moments);
       leaves = subst (λ (x : SiteState). OnOk k.result (Leaves tells (λ e. e) x k.new.self old new)) there k.ensures.leaves;
       only = subst (λ (x : SiteState). WorksOn tells (IsOfRecord x) old new) there k.ensures.only;
       volumes = k.ensures.volumes;

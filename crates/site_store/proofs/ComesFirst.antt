@@ -1,4 +1,4 @@
--- A change of rows after what comes first, nothing or a mark: the deeds and the site after both, over plain states.
+-- A record after what comes first, nothing or a mark: the deeds and the site after both, over plain states.
 use Rattle.std.proofs.Common.{◌≡◌, inl, inr, ℕ, ◌++◌, Bool, List, [], ◌∷◌, Result, Ok, Err, refl, sym, subst}
 use Rattle.std.specs.Prelude.{OnOk}
 use Rattle.crash_plant.specs.declared.spot.Spot.{Spot}
@@ -8,7 +8,7 @@ use Rattle.crash_plant.specs.Moments.{PlantState}
 use Rattle.crash_plant.proofs.Steps.{none_lent_then, works_on_more, works_on_trans}
 use Rattle.pair_table.specs.declared.row.PairRow.{PairRow}
 use Rattle.record_rows.specs.Deeds.{Deed, rows_after_deeds}
-use Rattle.record_rows.specs.Deeds.Deed.{Changed, Marked as MarkedDeed}
+use Rattle.record_rows.specs.Deeds.Deed.{Marked as MarkedDeed}
 use Rattle.site_store.specs.DoneDeeds.{BeginsDeeds, DoesDeeds}
 use Rattle.site_store.specs.Exceptions.{Exceptions, excepted_after}
 use Rattle.site_store.proofs.Composing.{begin_after, go_on}
@@ -20,12 +20,12 @@ use Rattle.site_store.specs.declared.placement.Placement.{Placement}
 use Rattle.site_store.specs.Marking.{MakesMark}
 use Rattle.site_store.specs.Recording.{ShowsRecord, group_with}
 use Rattle.site_store.specs.Records.{IsJournal, IsOfMark, IsOfRecord}
-use Rattle.site_store.specs.RowRecords.{DoesRows}
+use Rattle.site_store.specs.InTurn.{DoesInTurn}
 use Rattle.site_store.specs.Sites.{SiteState}
 use Rattle.site_store.specs.Standing.{Leaves, SiteStands, none_excepted}
 use Rattle.site_store.proofs.LogPut.{IsReady, MakesDeed, fits_logged, put_begins, put_does, put_stands}
-use Rattle.site_store.proofs.LogStage.{stands_more}
 use Rattle.site_store.proofs.MarkFirst.{mark_does}
+use Rattle.site_store.proofs.RecordStands.{stands_more}
 use Rattle.site_store.proofs.RowItems.{AreRowItems}
 use Rattle.site_store.proofs.RowsLogged.{rows_stand, with_logged_rows}
 
@@ -66,21 +66,19 @@ module _ (tells : Type 0) (site here : SiteState) (old mid : PlantState) (ended 
   pub mark_done : (result : Result (Unit {0}) StoreError) → MakesMark tells ended rows site here old mid result → tells → OnOk result ((e : Exceptions) → SiteStands e site old → DoesDeeds e site.told (MarkedDeed site.at ended rows ∷ []) old mid)
   mark_done result makes told = all_ok result site old (λ e. DoesDeeds e site.told (MarkedDeed site.at ended rows ∷ []) old mid) (λ e stands. mark_does tells ended rows site here old mid result makes idle told e stands)
 
--- ---- the change after it
+-- ---- the record after it
 
 -- What is so once a record was put.
 put_ok : (tells A : Type 0) (placement : Placement) (from at : Spot) (g : Logged) (old new : PlantState) (result : Result (Unit {0}) StoreError) → ShowsRecord tells placement from at g old new result → (ShowsRecord tells placement from at g old new (Ok tt) → A) → OnOk result A
 put_ok tells A placement from at g old new (Ok value) shows then = then shows
 put_ok tells A placement from at g old new (Err error) shows then = tt
 
-module _ (tells : Type 0) (first : List Deed) (site here : SiteState) (old mid new : PlantState) (before : ComesFirst tells first site here old mid) (placement : Placement) (cut : ℕ) (items : List Item) (rows : List PairRow) (are : AreRowItems items) (ready : IsReady cut placement here rows mid items)
-    (makes : tells → (e : Exceptions) → SiteStands e site old → MakesDeed tells (Changed cut rows) cut here rows mid items) (read : tells → IsChoice mid mid.clock mid.bytes) (works : WorksOn tells IsJournal mid new) (result : Result (Unit {0}) StoreError)
+module _ (tells : Type 0) (first : List Deed) (site here : SiteState) (old mid new : PlantState) (before : ComesFirst tells first site here old mid) (placement : Placement) (cut : ℕ) (deed : Deed) (items : List Item) (rows : List PairRow) (ready : IsReady cut placement here rows mid items)
+    (makes : tells → (e : Exceptions) → SiteStands e site old → MakesDeed tells deed cut here rows mid items) (read : tells → IsChoice mid mid.clock mid.bytes) (works : WorksOn tells IsJournal mid new) (result : Result (Unit {0}) StoreError)
     (shows : ShowsRecord tells placement here.mark.at here.at (group_with cut items) mid new result) where
-  abbrev deed : Deed
-  deed = Changed cut rows
-
-  pub rows_do : DoesRows tells (first ++ deed ∷ []) site old new result
-  rows_do = record {
+  -- The deeds that came first are done, and then the record's.
+  pub record_do : DoesInTurn tells (first ++ deed ∷ []) site old new result
+  record_do = record {
     begins = λ told e stands.
         let f = excepted_after site.told first e in
         begin_after old mid new e site.told first (deed ∷ []) (before.does told e stands)
@@ -91,8 +89,9 @@ module _ (tells : Type 0) (first : List Deed) (site here : SiteState) (old mid n
         (subst (λ (l : List PairRow). DoesDeeds f l (deed ∷ []) mid new) (sym before.rows) (put_does cut placement here rows mid items ready tells deed (makes told e stands) told f (before.after told e stands) (read told) new works ok)));
   }
 
-  pub rows_leave : OnOk result (Leaves tells (λ e. e) site (with_logged_rows mid.journals placement cut items rows here) old new)
-  rows_leave = put_ok tells (Leaves tells (λ e. e) site (with_logged_rows mid.journals placement cut items rows here) old new) placement here.mark.at here.at (group_with cut items) mid new result shows (λ ok. record {
+  -- Items of rows alone needn't wait then.
+  pub rows_leave : AreRowItems items → OnOk result (Leaves tells (λ e. e) site (with_logged_rows mid.journals placement cut items rows here) old new)
+  rows_leave are = put_ok tells (Leaves tells (λ e. e) site (with_logged_rows mid.journals placement cut items rows here) old new) placement here.mark.at here.at (group_with cut items) mid new result shows (λ ok. record {
     fits = fits_logged cut placement here rows mid items ready here.since here.waiting ready.fits.items new works.site (none_lent_then tells IsJournal mid new works ready.fits.home);
     stands = λ told e stands. rows_stand e mid.journals placement cut items rows here new are ready.idle
         (put_stands cut placement here rows mid items ready tells deed (makes told e stands) told e (before.stands told e stands) (read told) new works ok here.since);
