@@ -75,3 +75,17 @@ check_slot 0 3 000301000002595a020000025800040100034b474849 "record 1 with YZ, r
 check_slot 0 5 0001010000014e "record 1 with N"
 check_slot 0 0 0000 "no record"
 echo "The volume was copied and followed. The write of 91 came after the session's end at 90."
+echo
+
+# A trace that is cut within its header.
+head -c 3 trace.0 >front
+mv front trace.0
+new_devices 1 1
+status=0
+"$program" run ABC 1 <script >replies 2>why || status=$?
+[ "$status" -eq 8 ] || fail "the status is $status and not 8"
+echo 'STATUS 8 0 0' >wanted
+echo 'xrc: trace 0 breaks a rule at byte 0: mend the trace and run again' >wanted_why
+echo "Of a trace that is cut within its header it says on standard output and on standard error:"
+check_said replies wanted
+check_said why wanted_why

@@ -15,7 +15,7 @@ must_be_refused() {
     "$program" "$@" </dev/null >said 2>why || status=$?
     [ "$status" -eq 27 ] || fail "xrc $* ends with $status beside a running session"
     [ ! -s said ] || fail "xrc $* says: $(cat said)"
-    [ "$(cat why)" = "xrc: another program works on this site: control is locked" ] || fail "xrc $* says why: $(cat why)"
+    [ "$(cat why)" = "xrc: another program works on this site: wait until it has ended" ] || fail "xrc $* says why: $(cat why)"
     echo "xrc $*: status 27, $(cat why)"
 }
 

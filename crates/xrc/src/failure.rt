@@ -6,6 +6,8 @@ use xrc_edge::NoMemory;
 #[derive(Debug, Drop)]
 pub enum Failure {
     NoMemory,
+    /// Another program works on the site.
+    Locked,
     File(anyhow::Error),
 }
 

@@ -6,6 +6,7 @@ use crate::failure::Failure;
 use anyhow::Context;
 use crash_plant::{FileDisk, FilePlant, Plant};
 use mover::Lane;
+use status_words::Overheard;
 use std::alloc::Global;
 use std::fs;
 use std::fs::{File, OpenOptions};
@@ -13,8 +14,11 @@ use std::io::{Stdin, Stdout};
 use std::rt::Files;
 use xrc_edge::FileSource;
 
+/// What the program says on standard output, where the last of it is kept.
+pub type Output<'a> = Overheard<'a, Stdout>;
+
 /// The devices and the console of the program.
-pub type Site = FilePlant<Stdin, Stdout>;
+pub type Site<'a> = FilePlant<Stdin, Output<'a>>;
 
 fn open_disk<R: Files<File = File>>(rt: &R, name: &str) -> Result<FileDisk, Failure> {
     let file = OpenOptions::new()
@@ -46,13 +50,13 @@ fn open_row<R: Files<File = File>>(
 }
 
 /// The site of the current folder: `control`, `state`, the journals and the volumes.
-pub fn open_site<R: Files<File = File>>(
+pub fn open_site<'a, R: Files<File = File>>(
     rt: &R,
     alloc: Global,
     input: Stdin,
-    output: Stdout,
-) -> Result<Site, Failure>
-    ensures { IfOk result (λ site. NoneLent (⟦<FilePlant<Stdin, Stdout> as Plant>⟧.state site)) }
+    output: Output<'a>,
+) -> Result<Site<'a>, Failure>
+    ensures { IfOk result (λ site. NoneLent (⟦<FilePlant<Stdin, Overheard<'a, Stdout>> as Plant>⟧.state site)) }
 {
     let control = open_disk(rt, "control")?;
     let state = open_disk(rt, "state")?;
@@ -63,8 +67,8 @@ pub fn open_site<R: Files<File = File>>(
 }
 
 /// A console alone: no journals, no volumes, and a control and a state of length 0.
-pub fn no_site(alloc: Global, input: Stdin, output: Stdout) -> Result<Site, Failure>
-    ensures { IfOk result (λ site. NoneLent (⟦<FilePlant<Stdin, Stdout> as Plant>⟧.state site)) }
+pub fn no_site<'a>(alloc: Global, input: Stdin, output: Output<'a>) -> Result<Site<'a>, Failure>
+    ensures { IfOk result (λ site. NoneLent (⟦<FilePlant<Stdin, Overheard<'a, Stdout>> as Plant>⟧.state site)) }
 {
     let control = FileDisk::absent();
     let state = FileDisk::absent();

@@ -1,7 +1,7 @@
 //! The lock on a site, by which one program works on it at a time.
 
 use crate::failure::Failure;
-use anyhow::{Context, anyhow};
+use anyhow::Context;
 use std::fs::{File, OpenOptions, TryLockError};
 use std::rt::Files;
 
@@ -31,9 +31,7 @@ pub fn lock_site<R: Files<File = File>>(rt: &R, words: &[String]) -> Result<File
     };
     match locked {
         Ok(()) => Ok(file),
-        Err(TryLockError::WouldBlock) => Err(Failure::File(anyhow!(
-            "another program works on this site: {LOCKED} is locked"
-        ))),
+        Err(TryLockError::WouldBlock) => Err(Failure::Locked),
         Err(TryLockError::Error(error)) => Err(error.into()),
     }
 }
