@@ -1,8 +1,9 @@
 # What the examples share, which read it with `.` at their beginning: the program, a temporary folder, in which they then are, new devices
-# in it, and what it takes to kill the program and to recover. $0 names the example.
+# in it, and what it takes to kill the program and to recover. $0 names the example. The program is that of the folder PROGRAMS, if it is
+# set; else the one that the repository builds.
 
 repository=$(cd "$(dirname "$0")/../.." && pwd)
-program=$repository/crates/xrc/out/xrc
+program=${PROGRAMS:-$repository/crates/xrc/out}/xrc
 
 fail() {
     printf '%s: %s\n' "$(basename "$(dirname "$0")")" "$1" >&2
@@ -103,7 +104,7 @@ recover() {
     cat recovered
 }
 
-if [ ! -x "$program" ]; then
+if [ -z "${PROGRAMS:-}" ] && [ ! -x "$program" ]; then
     command -v rt >/dev/null || fail "the toolchain's command rt is not installed"
     echo "Proving and building the program; from a fresh clone this takes an hour or more."
     (cd "$repository/crates/xrc" && rt run </dev/null >out.log 2>&1) || true
