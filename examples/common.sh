@@ -104,15 +104,60 @@ recover() {
     cat recovered
 }
 
-if [ -z "${PROGRAMS:-}" ] && [ ! -x "$program" ]; then
+# The libraries that a crate stands on, each once.
+libraries_below() {
+    awk -v top="$1" -F: '
+        !/^#/ && NF > 1 { split($1, name, " "); below[name[1]] = $2 }
+        function visit(crate,    count, i, names) {
+            if (crate in seen || !(crate in below)) return
+            seen[crate] = 1
+            count = split(below[crate], names, " ")
+            for (i = 1; i <= count; i++) visit(names[i])
+            if (crate != top) print crate
+        }
+        END { visit(top) }' "$repository/crates.txt"
+}
+
+# How far the proof of a crate is: which libraries that it stands on are proved, of how many, how long it took so far, and what comes.
+say_progress() {
+    proved=0 all=0 next=$1
+    for library in $(libraries_below "$1"); do
+        all=$((all + 1))
+        if [ -e "$repository/crates/$library/out/rlib/stamp" ]; then
+            proved=$((proved + 1))
+        elif [ "$next" = "$1" ]; then
+            next=$library
+        fi
+    done
+    [ "$proved $next" != "${said_before:-}" ] || return 0
+    said_before="$proved $next"
+    echo "$proved of $all libraries below $1 are proved after $((($(date +%s) - begun) / 60)) minutes; now $next"
+}
+
+# Proves and builds a program, and what it stands on, without tests, and says how far it is.
+build() {
+    [ ! -x "$repository/crates/$1/out/$1" ] || return 0
     command -v rt >/dev/null || fail "the toolchain's command rt is not installed"
-    echo "Proving and building the program; from a fresh clone this takes an hour or more."
-    (cd "$repository/crates/xrc" && rt run </dev/null >out.log 2>&1) || true
-    if [ ! -x "$program" ]; then
-        cat "$repository/crates/xrc/out.log" >&2
-        fail "the program was not built"
+    echo "Proving and building $1 and the libraries below it, without tests. In a fresh clone that is long; what is proved is kept."
+    begun=$(date +%s)
+    while kill -0 $$ 2>/dev/null; do
+        say_progress "$1"
+        sleep 2
+    done &
+    saying=$!
+    (cd "$repository/crates/$1" && rt run </dev/null >out.log 2>&1) || true
+    kill "$saying" 2>/dev/null || true
+    wait "$saying" 2>/dev/null || true
+    if [ ! -x "$repository/crates/$1/out/$1" ]; then
+        cat "$repository/crates/$1/out.log" >&2
+        fail "$1 was not built"
     fi
-    rm -f "$repository/crates/xrc/out.log"
+    rm -f "$repository/crates/$1/out.log"
+    echo "$1 is built, after $((($(date +%s) - begun) / 60)) minutes."
+}
+
+if [ -z "${PROGRAMS:-}" ]; then
+    build xrc
 fi
 
 site=$(mktemp -d)
