@@ -4,7 +4,7 @@
 set -eu
 cd "$(dirname "$0")"
 
-programs='xrc'
+programs='xrc xrc_trace'
 
 fail() {
     printf 'release: %s\n' "$1" >&2

@@ -1,21 +1,19 @@
-# What the examples share, which read it with `.` at their beginning: the program, a temporary folder, in which they then are, new devices
-# in it, and what it takes to kill the program and to recover. $0 names the example. The program is that of the folder PROGRAMS, if it is
-# set; else the one that the repository builds.
+# What the examples share, which read it with `.` at their beginning: the programs, a temporary folder, in which they then are, new devices
+# in it, and what it takes to kill the program and to recover. $0 names the example. The programs are those of the folder PROGRAMS, if it
+# is set; else those that the repository builds.
 
 repository=$(cd "$(dirname "$0")/../.." && pwd)
 program=${PROGRAMS:-$repository/crates/xrc/out}/xrc
+trace_program=${PROGRAMS:-$repository/crates/xrc_trace/out}/xrc_trace
 
 fail() {
     printf '%s: %s\n' "$(basename "$(dirname "$0")")" "$1" >&2
     exit 1
 }
 
-# The bytes of a text of hexadecimal digit pairs.
-bytes() {
-    for pair in $1; do
-        # shellcheck disable=SC2059
-        printf "\\$(printf '%03o' "0x$pair")"
-    done
+# The bytes of a trace whose lines stand on standard input.
+trace() {
+    "$trace_program" write || fail "these lines are no trace"
 }
 
 # New devices for so many controllers: control, state, two journals, and so many volumes, 9 at most, of one cylinder each. The program
@@ -157,6 +155,7 @@ build() {
 }
 
 if [ -z "${PROGRAMS:-}" ]; then
+    build xrc_trace
     build xrc
 fi
 

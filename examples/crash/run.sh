@@ -16,15 +16,17 @@ SCRIPT
 # The trace of a volume PRIM01 of one cylinder: at time 64 track 3 gets one record with the content AB, and track 5 gets 31 writes; at
 # 6E that record becomes Z; the controller goes on to 70.
 front() {
-    bytes '58 54 52 31 00 01 50 52 49 4D 30 31 00 01 00 00 00 00'
-    bytes '04 00 00 00 00 00 00 00 64 00 00 00 00 00 03 00 01 01 00 00 02 41 42'
-    writes=0
-    while [ "$writes" -lt 31 ]; do
-        bytes '04 00 00 00 00 00 00 00 64 00 00 00 00 00 05 00 01 01 00 00 01 57'
-        writes=$((writes + 1))
-    done
-    bytes '02 00 00 00 00 00 00 00 6E 00 00 00 00 00 03 01 00 01 5A'
-    bytes '01 00 00 00 00 00 00 00 70'
+    {
+        echo 'volume PRIM01 1'
+        echo 'write 0000000000000064 0 3 1::"AB"'
+        writes=0
+        while [ "$writes" -lt 31 ]; do
+            echo 'write 0000000000000064 0 5 1::"W"'
+            writes=$((writes + 1))
+        done
+        echo 'update 000000000000006E 0 3 1 "Z"'
+        echo 'idle 0000000000000070'
+    } | trace
 }
 
 are_replied() {

@@ -43,11 +43,10 @@ copy() {
 }
 
 # The trace of a volume PRIM01 of one cylinder: at time 64 track 3 gets one record, number 1, with the content AB.
-bytes '58 54 52 31 00 01 50 52 49 4D 30 31 00 01 00 00 00 00' >header
-{
-    cat header
-    bytes '04 00 00 00 00 00 00 00 64 00 00 00 00 00 03 00 01 01 00 00 02 41 42'
-} >trace.0
+trace >trace.0 <<'LINES'
+volume PRIM01 1
+write 0000000000000064 0 3 1::"AB"
+LINES
 copy
 check_slot 0 3 0001010000024142 "record 1 with AB"
 check_slot 0 0 0000 "no record"
@@ -55,21 +54,21 @@ echo "The volume was copied."
 echo
 
 # A second trace of that volume, with updates and formats.
-{
-    cat header
-    # At time 10 track 3 gets the records 1, 2 and 3 with the contents AB, CD and EF.
-    bytes '04 00 00 00 00 00 00 00 10 00 00 00 00 00 03 00 03 01 00 00 02 41 42 02 00 00 02 43 44 03 00 00 02 45 46'
-    # At 58 its record 2 is updated by X, which is filled with a zero.
-    bytes '02 00 00 00 00 00 00 00 58 00 00 00 00 00 03 02 00 01 58'
-    # At 64 it is formatted after record 2: record 3 is erased, and record 4 gets the key K and the content GHI.
-    bytes '03 00 00 00 00 00 00 00 64 00 00 00 00 00 03 02 01 04 01 00 03 4B 47 48 49'
-    # At 70 track 5, which is empty, is formatted from its start: record 1 gets the content N.
-    bytes '03 00 00 00 00 00 00 00 70 00 00 00 00 00 05 00 01 01 00 00 01 4E'
-    # At 90 record 1 of track 3 is updated by YZW, which is cut to YZ.
-    bytes '02 00 00 00 00 00 00 00 90 00 00 00 00 00 03 01 00 03 59 5A 57'
-    # At 91 it is updated by V, which is not copied any more.
-    bytes '02 00 00 00 00 00 00 00 91 00 00 00 00 00 03 01 00 01 56'
-} >trace.0
+trace >trace.0 <<'LINES'
+volume PRIM01 1
+# At time 10 track 3 gets the records 1, 2 and 3 with the contents AB, CD and EF.
+write 0000000000000010 0 3 1::"AB" 2::"CD" 3::"EF"
+# At 58 its record 2 is updated by X, which is filled with a zero.
+update 0000000000000058 0 3 2 "X"
+# At 64 it is formatted after record 2: record 3 is erased, and record 4 gets the key K and the content GHI.
+format 0000000000000064 0 3 2 4:"K":"GHI"
+# At 70 track 5, which is empty, is formatted from its start: record 1 gets the content N.
+format 0000000000000070 0 5 0 1::"N"
+# At 90 record 1 of track 3 is updated by YZW, which is cut to YZ.
+update 0000000000000090 0 3 1 "YZW"
+# At 91 it is updated by V, which is not copied any more.
+update 0000000000000091 0 3 1 "V"
+LINES
 copy
 check_slot 0 3 000301000002595a020000025800040100034b474849 "record 1 with YZ, record 2 with X and a zero, record 4 with the key K and GHI"
 check_slot 0 5 0001010000014e "record 1 with N"

@@ -25,7 +25,7 @@ checked_devices() {
 
 echo "A session waits for its next line. Beside it, in the same folder:"
 new_devices 1 1
-bytes '58 54 52 31 00 01 50 52 49 4D 30 31 00 01 00 00 00 00 01 00 00 00 00 00 00 00 90' >trace.0
+printf 'volume PRIM01 1\nidle 0000000000000090\n' | trace >trace.0
 mkfifo console
 "$program" run ABC 1 <console >replies &
 running=$!

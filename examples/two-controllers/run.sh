@@ -51,32 +51,35 @@ PAIR PRIM03 SEC003 DUPLEX
 WANTED
 
 # The trace of controller 0, with the volumes PRIM01 and PRIM02 of one cylinder each.
-{
-    bytes '58 54 52 31 00 02 50 52 49 4D 30 31 00 01 50 52 49 4D 30 32 00 01 00 00 00 00'
-    # At time 64 track 3 of PRIM01 gets record 1 with AB, and at 66 track 1 of PRIM02 gets record 1 with CD.
-    bytes '04 00 00 00 00 00 00 00 64 00 00 00 00 00 03 00 01 01 00 00 02 41 42'
-    bytes '04 00 00 00 00 00 00 00 66 00 01 00 00 00 01 00 01 01 00 00 02 43 44'
-    # While the pair of PRIM02 is suspended, its track 1 is updated by EF at 110, and its track 7 gets record 1 with N at 118.
-    bytes '02 00 00 00 00 00 00 01 10 00 01 00 00 00 01 01 00 02 45 46'
-    bytes '04 00 00 00 00 00 00 01 18 00 01 00 00 00 07 00 01 01 00 00 01 4E'
-    # Track 3 of PRIM01 is updated by GH at 230, and by IJ at 250.
-    bytes '02 00 00 00 00 00 00 02 30 00 00 00 00 00 03 01 00 02 47 48'
-    bytes '02 00 00 00 00 00 00 02 50 00 00 00 00 00 03 01 00 02 49 4A'
-} >trace.0
+trace >trace.0 <<'LINES'
+volume PRIM01 1
+volume PRIM02 1
+# At time 64 track 3 of PRIM01 gets record 1 with AB, and at 66 track 1 of PRIM02 gets record 1 with CD.
+write 0000000000000064 0 3 1::"AB"
+write 0000000000000066 1 1 1::"CD"
+# While the pair of PRIM02 is suspended, its track 1 is updated by EF at 110, and its track 7 gets record 1 with N at 118.
+update 0000000000000110 1 1 1 "EF"
+write 0000000000000118 1 7 1::"N"
+# Track 3 of PRIM01 is updated by GH at 230, and by IJ at 250.
+update 0000000000000230 0 3 1 "GH"
+update 0000000000000250 0 3 1 "IJ"
+LINES
 
-# The trace of controller 1, with the volume PRIM03 of one cylinder, up to 245. There the controller falls silent.
+# The trace of controller 1, with the volume PRIM03 of one cylinder, up to 245. There the controller falls silent. At 68 track 5 gets
+# record 1 with KL. At 235 it is updated by MN, and track 9 gets 31 writes; at 240 it is updated by OP.
 front() {
-    bytes '58 54 52 31 00 01 50 52 49 4D 30 33 00 01 00 00 00 00'
-    # At 68 track 5 gets record 1 with KL. At 235 it is updated by MN, and track 9 gets 31 writes; at 240 it is updated by OP.
-    bytes '04 00 00 00 00 00 00 00 68 00 00 00 00 00 05 00 01 01 00 00 02 4B 4C'
-    bytes '02 00 00 00 00 00 00 02 35 00 00 00 00 00 05 01 00 02 4D 4E'
-    writes=0
-    while [ "$writes" -lt 31 ]; do
-        bytes '04 00 00 00 00 00 00 02 35 00 00 00 00 00 09 00 01 01 00 00 01 57'
-        writes=$((writes + 1))
-    done
-    bytes '02 00 00 00 00 00 00 02 40 00 00 00 00 00 05 01 00 02 4F 50'
-    bytes '01 00 00 00 00 00 00 02 45'
+    {
+        echo 'volume PRIM03 1'
+        echo 'write 0000000000000068 0 5 1::"KL"'
+        echo 'update 0000000000000235 0 5 1 "MN"'
+        writes=0
+        while [ "$writes" -lt 31 ]; do
+            echo 'write 0000000000000235 0 9 1::"W"'
+            writes=$((writes + 1))
+        done
+        echo 'update 0000000000000240 0 5 1 "OP"'
+        echo 'idle 0000000000000245'
+    } | trace
 }
 
 # Whether track 5 of PRIM03 has come after the first write to it.

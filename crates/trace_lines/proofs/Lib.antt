@@ -1,0 +1,4 @@
+mod Texts
+mod Parts
+mod Entries
+mod Drafts
