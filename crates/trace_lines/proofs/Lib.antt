@@ -2,3 +2,4 @@ mod Texts
 mod Parts
 mod Entries
 mod Drafts
+mod Wholes

@@ -1,9 +1,8 @@
 -- The first piece of a text, and those after it.
-use Rattle.std.proofs.Common.{◌≡◌, ℕ, suc, ◌+◌, ◌<◌, Bool, true, false, cond, not, nat_eq, List, [], ◌∷◌, ◌++◌, length, take, drop, Option, Some, None, refl, sym, ap, ◌∙◌, length-drop, arith}
+use Rattle.std.proofs.Common.{◌≡◌, ℕ, suc, ◌+◌, ◌<◌, Bool, true, false, cond, not, nat_eq, List, [], ◌∷◌, ◌++◌, length, take, drop, Some, None, refl, sym, ap, ◌∙◌, length-drop, arith}
 use Rattle.std.specs.List.{position_or_len}
 use Rattle.ckd_track.specs.declared.rec.Rec.{Rec}
 use Rattle.ckd_track.specs.Tracks.{is_track}
-use Rattle.tod_stamp.specs.Options.{◌>>=◌}
 use Rattle.trace_lines.specs.Pieces.{first_piece, after_piece, with_front, pieces_of}
 use Rattle.trace_lines.specs.Lines.{first_word, after_word, words_of, record_in, records_from, track_from}
 

@@ -20,18 +20,24 @@ use Rattle.trace_lines.specs.declared.refusal.Unwritten.TheVariants as unwritten
 use Rattle.trace_lines.specs.Lines.{line_in}
 use Rattle.trace_lines.specs.Pieces.{pieces_of}
 
--- ---- the draft after a line
+-- ---- what is said after a line
 
--- nothing was said
-abbrev pub empty_draft : Draft
-empty_draft = record { header = record { version = 1; volumes = []; base = [] }; entries = []; last = 0 }
+-- what lines have said: the header, the spelling of the entries, and the last one's stamp, or 0
+pub record Said : Type 0 where
+  pub header : Header
+  pub entries : List ℕ
+  pub last : ℕ
 
-abbrev pub draft_of : Header → (entries : List ℕ) → (last : ℕ) → Draft
-draft_of header entries last = record { header = header; entries = entries; last = last }
+abbrev pub nothing_said : Said
+nothing_said = record { header = record { version = 1; volumes = []; base = [] }; entries = []; last = 0 }
+
+-- what the lines of a draft have said
+abbrev pub said_by : Draft → Said
+said_by draft = record { header = draft.header; entries = draft.entries; last = draft.last }
 
 -- the header, if it keeps the rules
-unfoldable pub with_header : Header → (entries : List ℕ) → (last : ℕ) → Result Draft Cause
-with_header header entries last = if is_header_of 1 header then Ok (draft_of header entries last) else Err Rule
+unfoldable pub with_header : Header → (entries : List ℕ) → (last : ℕ) → Result Said Cause
+with_header header entries last = if is_header_of 1 header then Ok (record { header = header; entries = entries; last = last }) else Err Rule
 
 -- Whether an entry may follow one of the stamp `last`. What a whole track holds is a track by its type.
 abbrev pub may_follow : List VolumeHead → (last : ℕ) → Entry → Bool
@@ -39,55 +45,55 @@ may_follow volumes last (Idle stamp) = is_stamp_from last stamp.0
 may_follow volumes last (Written w) = is_stamp_from last w.stamp.0 && is_track_of volumes w.volume w.track && keeps_rules w.kind
 
 -- the entry's spelling after those before it, if it may follow
-unfoldable pub with_entry : Entry → Draft → Result Draft Cause
-with_entry e draft =
-    if may_follow draft.header.volumes draft.last e
-    then Ok (draft_of draft.header (draft.entries ++ entry_spelling 1 e) (stamp_of e)) else Err Rule
+unfoldable pub with_entry : Entry → Said → Result Said Cause
+with_entry e said =
+    if may_follow said.header.volumes said.last e
+    then Ok (record { header = said.header; entries = said.entries ++ entry_spelling 1 e; last = stamp_of e }) else Err Rule
 
 abbrev pub header_with_volume : VolumeHead → Header → Header
 header_with_volume v header = record { version = header.version; volumes = header.volumes ++ v ∷ []; base = header.base }
 
 -- Volumes come first, then base tracks, then entries.
-unfoldable pub with_line : Line → Draft → Result Draft Cause
-with_line Nothing draft = Ok draft
-with_line (Volume v) draft =
-    if length draft.header.base == 0 && length draft.entries == 0
-    then with_header (header_with_volume v draft.header) draft.entries draft.last else Err Order
-with_line (Base volume track content) draft =
-    if length draft.entries == 0
-    then with_header (record { version = draft.header.version; volumes = draft.header.volumes; base = draft.header.base ++ (volume, track, content) ∷ [] }) draft.entries draft.last else Err Order
-with_line (Told e) draft = if length draft.header.volumes == 0 then Err Order else with_entry e draft
+unfoldable pub with_line : Line → Said → Result Said Cause
+with_line Nothing said = Ok said
+with_line (Volume v) said =
+    if length said.header.base == 0 && length said.entries == 0
+    then with_header (header_with_volume v said.header) said.entries said.last else Err Order
+with_line (Base volume track content) said =
+    if length said.entries == 0
+    then with_header (record { version = said.header.version; volumes = said.header.volumes; base = said.header.base ++ (volume, track, content) ∷ [] }) said.entries said.last else Err Order
+with_line (Told e) said = if length said.header.volumes == 0 then Err Order else with_entry e said
 
-abbrev pub with_line_read : Option Line → Draft → Result Draft Cause
-with_line_read None draft = Err Grammar
-with_line_read (Some line) draft = with_line line draft
+abbrev pub with_line_read : Option Line → Said → Result Said Cause
+with_line_read None said = Err Grammar
+with_line_read (Some line) said = with_line line said
 
--- the draft with a line's text
-unfoldable pub with_text : (text : List ℕ) → Draft → Result Draft Cause
-with_text text draft = with_line_read (line_in text) draft
+-- what is said with a line's text
+unfoldable pub with_text : (text : List ℕ) → Said → Result Said Cause
+with_text text said = with_line_read (line_in text) said
 
 -- ---- the lines of a text
 
--- The draft of lines after the first `number` ones. Lines are counted from 1. A text without a volume is refused behind its last line.
-abbrev pub drafted : (number : ℕ) → Draft → (lines : List (List ℕ)) → Result Draft Refusal
-drafted number draft [] = if length draft.header.volumes == 0 then Err (record { line = number + 1; cause = Order }) else Ok draft
-drafted number draft (line ∷ lines) = elim (with_text line draft) [
-  | Ok next ↦ drafted (number + 1) next lines
+-- What is said by lines after the first `number` ones. Lines are counted from 1. A text without a volume is refused behind its last line.
+abbrev pub said_from : (number : ℕ) → Said → (lines : List (List ℕ)) → Result Said Refusal
+said_from number said [] = if length said.header.volumes == 0 then Err (record { line = number + 1; cause = Order }) else Ok said
+said_from number said (line ∷ lines) = elim (with_text line said) [
+  | Ok next ↦ said_from (number + 1) next lines
   | Err cause ↦ Err (record { line = number + 1; cause = cause })
 ]
 
-abbrev pub spelled : Result Draft Refusal → Result (List ℕ) Refusal
-spelled (Ok draft) = Ok (header_spelling draft.header ++ draft.entries)
+abbrev pub spelled : Result Said Refusal → Result (List ℕ) Refusal
+spelled (Ok said) = Ok (header_spelling said.header ++ said.entries)
 spelled (Err refusal) = Err refusal
 
 -- The trace that the lines of a text say.
 unfoldable pub trace_in : (text : List ℕ) → Result (List ℕ) Refusal
-trace_in text = spelled (drafted 0 empty_draft (pieces_of 10 text))
+trace_in text = spelled (said_from 0 nothing_said (pieces_of 10 text))
 
 -- ---- answers, where memory may be wanting
 
-abbrev pub IsDraft : Result Draft Untaken → (said : Result Draft Cause) → Type 0
-IsDraft (Ok draft) said = said ≡ Ok draft
+abbrev pub IsDraft : Result Draft Untaken → (said : Result Said Cause) → Type 0
+IsDraft (Ok draft) said = said ≡ Ok (said_by draft)
 IsDraft (Err untaken.NoMemory) said = Unit {0}
 IsDraft (Err (untaken.Refused cause)) said = said ≡ Err cause
 

@@ -4,7 +4,7 @@ ghost use Rattle.std.specs.Prelude.{◌≡◌, ◌<◌, ◌++◌, length, IfOk, 
 ghost use Rattle.write_trace.specs.Headers.{cylinders_of, header_spelling, is_header_of, is_track_of};
 ghost use Rattle.write_trace.specs.Entries.{entry_spelling, is_stamp_from, stamp_of};
 ghost use Rattle.trace_lines.specs.declared.line.Line.TheVariants as lines;
-ghost use Rattle.trace_lines.specs.Traces.{IsDraft, draft_of, empty_draft, may_follow as follows, with_entry, with_header, with_line, with_text};
+ghost use Rattle.trace_lines.specs.Traces.{IsDraft, said_by, nothing_said, may_follow as follows, with_entry, with_header, with_line, with_text};
 
 use crate::draft::{Draft, Untaken};
 use crate::line::Line;
@@ -22,10 +22,10 @@ fn is_stamp(last: u64, stamp: Stamp) -> bool
 }
 
 fn cylinders_of(volumes: &[VolumeHead], volume: u16) -> u32
-    requires { volume < length volumes.now }
+    requires there { volume < length volumes.now }
     ensures { result ≡ cylinders_of volumes.now volume }
 {
-    volumes[usize::from(volume)].cylinders
+    volumes[volume as usize].cylinders
 }
 
 fn is_track(volumes: &[VolumeHead], volume: u16, track: u32) -> bool
@@ -94,7 +94,7 @@ fn with_header(header: Header, entries: Bytes, last: u64) -> Result<Draft, Untak
 
 impl Draft {
     pub(crate) fn empty(alloc: Global) -> Draft
-        ensures { result ≡ empty_draft }
+        ensures { said_by result ≡ nothing_said }
     {
         Draft {
             header: Header {
@@ -110,7 +110,7 @@ impl Draft {
     #[tactic(auto, unfolding(crate::specs::Traces::with_entry))]
     fn with_entry(self, alloc: Global, entry: &Entry) -> Result<Draft, Untaken>
         requires { 0 < length self.header.volumes }
-        ensures { IsDraft result (with_entry entry.now self) }
+        ensures { IsDraft result (with_entry entry.now (said_by self)) }
     {
         if !may_follow(self.header.volumes.as_slice(), self.last, entry) {
             return Err(Untaken::Refused(Cause::Rule));
@@ -130,7 +130,7 @@ impl Draft {
 
     #[tactic(auto, unfolding(crate::specs::Traces::with_line))]
     fn with_volume(self, alloc: Global, head: VolumeHead) -> Result<Draft, Untaken>
-        ensures { IsDraft result (with_line (lines.Volume head) self) }
+        ensures { IsDraft result (with_line (lines.Volume head) (said_by self)) }
     {
         if self.header.base.len() > 0 || self.entries.len() > 0 {
             return Err(Untaken::Refused(Cause::Order));
@@ -146,7 +146,7 @@ impl Draft {
 
     #[tactic(auto, unfolding(crate::specs::Traces::with_line))]
     fn with_base(self, alloc: Global, base: BaseTrack) -> Result<Draft, Untaken>
-        ensures { IsDraft result (with_line (lines.Base base.0 base.1 base.2) self) }
+        ensures { IsDraft result (with_line (lines.Base base.0 base.1 base.2) (said_by self)) }
     {
         if self.entries.len() > 0 {
             return Err(Untaken::Refused(Cause::Order));
@@ -162,7 +162,7 @@ impl Draft {
 
     #[tactic(auto, unfolding(crate::specs::Traces::with_line))]
     fn with_line(self, alloc: Global, line: Line) -> Result<Draft, Untaken>
-        ensures { IsDraft result (with_line line self) }
+        ensures { IsDraft result (with_line line (said_by self)) }
     {
         match line {
             Line::Nothing => Ok(self),
@@ -180,7 +180,7 @@ impl Draft {
     /// The draft with a line's text.
     #[tactic(auto, unfolding(crate::specs::Traces::with_text))]
     pub(crate) fn with_text(self, alloc: Global, text: &[u8]) -> Result<Draft, Untaken>
-        ensures { IsDraft result (with_text text.now self) }
+        ensures { IsDraft result (with_text text.now (said_by self)) }
     {
         match line_in(alloc, text)? {
             Some(line) => self.with_line(alloc, line),

@@ -1,5 +1,7 @@
 //! Why lines say no trace, and why bytes have no lines.
 
+ghost use Rattle.std.specs.Prelude.{◌≡◌};
+
 use std::fmt;
 use write_trace::HeaderError;
 use xrc_edge::NoMemory;
@@ -32,6 +34,10 @@ pub enum Unwritten {
 }
 
 impl From<NoMemory> for Unwritten {
+    ghost use Rattle.trace_lines.specs.declared.refusal.Unwritten.TheVariants as unwritten;
+
+    ghost from_gives = { λ _ why. why ≡ unwritten.NoMemory };
+
     fn from(_error: NoMemory) -> Unwritten {
         Unwritten::NoMemory
     }
@@ -51,12 +57,20 @@ pub enum Unread {
 }
 
 impl From<NoMemory> for Unread {
+    ghost use Rattle.trace_lines.specs.declared.refusal.Unread.TheVariants as unread;
+
+    ghost from_gives = { λ _ why. why ≡ unread.NoMemory };
+
     fn from(_error: NoMemory) -> Unread {
         Unread::NoMemory
     }
 }
 
 impl From<HeaderError> for Unread {
+    ghost use Rattle.trace_lines.specs.Refusals.{unread_of};
+
+    ghost from_gives = { λ error why. why ≡ unread_of error };
+
     fn from(error: HeaderError) -> Unread {
         match error {
             HeaderError::BadHeader(place) => Unread::BadHeader(place),

@@ -9,7 +9,7 @@ use std::alloc::Global;
 use xrc_edge::Bytes;
 
 /// The trace that the lines of a text say, or the first line that is refused and why.
-#[tactic(auto, using(crate::proofs::Texts::rest_is_shorter, crate::proofs::Drafts::drafted_step, crate::proofs::Drafts::drafted_stop, crate::proofs::Drafts::drafted_end), unfolding(crate::specs::Traces::trace_in))]
+#[tactic(auto, using(crate::proofs::Texts::rest_is_shorter, crate::proofs::Drafts::said_step, crate::proofs::Drafts::said_stop, crate::proofs::Drafts::said_end), unfolding(crate::specs::Traces::trace_in))]
 pub fn trace_of_text(alloc: Global, text: &[u8]) -> Result<Bytes, Unwritten>
     ensures { IsTrace result (trace_in text.now) }
 {
