@@ -14,7 +14,7 @@ import re
 import sys
 
 # What takes no part in the program.
-TESTS = re.compile(r"^(?:.*_tests|test_fixtures|scenarios)$")
+TESTS = re.compile(r"^(?:.*_tests|test_fixtures|scenarios|simulation)$")
 FUNCTION = re.compile(r"^( *)pub (?:const )?(?:unsafe )?fn (\w+)", re.M)
 BLOCK = re.compile(r"^impl(?:<[^{]*?>)? (?:[\w:<>, ]+ for )?(\w+)", re.M)
 

@@ -12,7 +12,7 @@ import glob
 import re
 import sys
 
-TESTS = re.compile(r"^crates/(?:\w*_tests|test_fixtures|scenarios|workload)/")
+TESTS = re.compile(r"^crates/(?:\w*_tests|test_fixtures|scenarios|simulation|workload)/")
 NUMBERS = "crates/xrc_cli/specs/Limits.antt"
 MODULES = re.compile(r"/src/(?:limits|layout|block)\.rt$")
 

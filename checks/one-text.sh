@@ -12,7 +12,7 @@ import os
 import re
 import sys
 
-TESTS = re.compile(r"^(?:.*_tests|test_fixtures|scenarios)$")
+TESTS = re.compile(r"^(?:.*_tests|test_fixtures|scenarios|simulation)$")
 ITEM = re.compile(r"^(?:[a-z]+ )*pub (?:(?:abbrev|unfoldable|record|data|open) )*([^\s():]+)")
 FUNCTION = re.compile(r"^ *pub (?:const )?fn (\w+)")
 WORD = re.compile(r"[^\W\d][\w'-]*|\d+|\S")
