@@ -1,0 +1,4 @@
+pub mod Fronts
+pub mod CountedReads
+pub mod Steps
+pub mod TrackReads

@@ -1,0 +1,3 @@
+pub mod Shapes
+pub mod ImageTracks
+pub mod Laws
