@@ -12,8 +12,8 @@ set -eu
 cd "$(dirname "$0")/.."
 
 # Words that are not the repository's: tools, names of Rust's, and what stands for something else in a command or a notation.
-exceptions='sh cp dd rt sync git strace perf valgrind callgrind md5sum rustc python3 Mutex expect TMPDIR'
-placeholders='NAME NUMBER SERIAL STORAGE DEVICE BYTE BYTES CALL ENTRY TEXT FROM STEP'
+exceptions='sh cp dd rt sync git strace perf valgrind callgrind md5sum dasdcopy rustc python3 Mutex expect TMPDIR'
+placeholders='NAME NUMBER SERIAL STAMP OLD NEW STORAGE DEVICE BYTE BYTES CALL ENTRY TEXT FROM STEP'
 
 work=$(mktemp -d)
 trap 'rm -rf "$work"' EXIT

@@ -1,0 +1,86 @@
+#!/bin/sh
+# Copies a volume that the tools of the Hercules emulator made, in a temporary folder: imports its image, copies it by a session, captures
+# what a changed image holds, follows it, kills the program, recovers, and exports the copy. That image is to be the changed one, byte by
+# byte. It is skipped if the emulator's tools can't be had.
+set -eu
+
+if ! command -v dasdload >/dev/null && command -v apt-get >/dev/null && [ "$(id -u)" -eq 0 ]; then
+    apt-get install -y --no-install-recommends hercules >/dev/null 2>&1 || true
+fi
+if ! command -v dasdload >/dev/null || ! command -v dasdls >/dev/null; then
+    echo "skipped: the tools of the package hercules are not here"
+    exit 0
+fi
+
+# shellcheck source=SCRIPTDIR/../common.sh
+. "$(dirname "$0")/../common.sh"
+
+bridge=$repository/crates/xrc_ckd/out/xrc_ckd
+if [ ! -x "$bridge" ]; then
+    echo "Proving and building the bridge."
+    (cd "$repository/crates/xrc_ckd" && rt run </dev/null >/dev/null 2>&1) || true
+    [ -x "$bridge" ] || fail "the bridge was not built"
+fi
+
+# An image of a volume VOL001 of two cylinders with the data set of a text.
+make_image() {
+    printf 'VOL001 3390-1 2\nBRIDGE.NOTES TEXT %s trk 2 0 0 ps fb 80 800\nBRIDGE.PARTS EMPTY trk 2 0 4 po fb 80 800\nBRIDGE.VTOC VTOC trk 1\n' "$2" >"$1.ctl"
+    dasdload "$1.ctl" "$1.img" 1 >/dev/null 2>&1 || fail "dasdload makes no image"
+}
+
+echo "dasdload makes a volume, and the same with another text."
+printf 'THE FIRST LINE\nTHE SECOND\n' >first.txt
+printf 'THE FIRST LINE\nANOTHER SECOND\nA THIRD\n' >second.txt
+make_image before first.txt
+make_image after second.txt
+
+echo "xrc_ckd says:"
+"$bridge" import before.img VOL001 trace || fail "the image is not imported"
+"$bridge" capture before.img after.img VOL001 0000000000000070 trace || fail "the change is not captured"
+
+rm -f control state journal.* volume.*
+truncate -s 1024 control
+truncate -s 16384 state
+truncate -s 1826816 journal.0 journal.1
+truncate -s $((512 + 2 * 860160)) volume.0
+"$program" init 0 SEC001 2 >labelled || fail "the volume gets no label"
+
+cat >script <<'SCRIPT'
+0000000000000050 XSTART ABC
+0000000000000060 XADDPAIR ABC VOLUME(VOL001,SEC001)
+0000000000000062 XQUERY ABC
+0000000000000090 XEND ABC
+SCRIPT
+
+# The slot of track 1, on which the text lies, holds what the changed image has: two records, the first of 240 bytes.
+is_followed() {
+    [ "$(slot 0 1 6)" = 0002010000f0 ]
+}
+
+# The controller goes on to 80 after the change at 70.
+mkfifo trace.0
+(cat trace; bytes '01 00 00 00 00 00 00 00 80'; exec sleep 600) >trace.0 &
+writing=$!
+"$program" run ABC 1 <script >replies &
+running=$!
+wait_until "the change did not come to the volume" is_followed
+crash
+echo "The program is killed once the change is on the volume. It had said:"
+cat replies
+recover
+printf 'RECOVERED ABC T=000000000000007F\nPAIR VOL001 SEC001 DUPLEX\n' >wanted
+cmp -s wanted recovered || fail "that is not what was wanted"
+
+echo "xrc_ckd says:"
+"$bridge" export volume.0 copy.img || fail "the copy is not exported"
+cmp after.img copy.img || fail "the copy is not the changed image"
+echo "The exported image is the changed one, byte by byte. dasdls lists it:"
+dasdls copy.img 2>/dev/null | tee listed
+grep -q BRIDGE.NOTES listed || fail "the copy is not listed"
+
+status=0
+"$bridge" import first.txt VOL001 other >said || status=$?
+[ "$status" -eq 4 ] || fail "a text is imported with $status"
+[ ! -e other ] || fail "a refused import leaves a trace"
+echo "A file that is no image is refused:"
+cat said
