@@ -1,7 +1,9 @@
 //! The header of a device image.
 
-ghost use Rattle.std.specs.Prelude.{◌≡◌, ◌==◌, take};
-ghost use Rattle.ckd_image.specs.Shapes.{header_bytes, header_front, is_compressed_mark, shape_at, shape_of_type};
+ghost use Rattle.std.specs.Prelude.{◌≡◌, ◌==◌, take, IfOk, IsTrue};
+ghost use Rattle.tod_stamp.specs.Fields.{within};
+ghost use Rattle.xrc_edge.specs.declared.limits.TheConstants.{MOST_CYLINDERS};
+ghost use Rattle.ckd_image.specs.Shapes.{header_bytes, header_front, image_length, is_compressed_mark, shape_at, shape_of_type};
 
 use crate::fault::ShapeFault;
 use crate::layout::HEADER_LENGTH;
@@ -58,7 +60,9 @@ fn typed_shape(
     length: u64,
     device_type: DeviceType,
 ) -> Result<ImageShape, ShapeFault>
-    ensures { result ≡ shape_of_type bytes.now length (Some device_type) }
+    ensures shape { result ≡ shape_of_type bytes.now length (Some device_type) }
+    ensures long { IfOk result (λ shape. image_length shape ≡ length) }
+    ensures cylinders { IfOk result (λ shape. IsTrue (within 1 MOST_CYLINDERS shape.cylinders)) }
 {
     let track = device_type.track_bytes();
     if LittleEndian::read_u32(&bytes[TRACK_SIZE..TYPE]) != track {
@@ -85,7 +89,9 @@ fn typed_shape(
 
 /// What a file of this length is that begins with these bytes.
 pub fn read_shape(bytes: &[u8; HEADER_LENGTH], length: u64) -> Result<ImageShape, ShapeFault>
-    ensures { result ≡ shape_at bytes.now length }
+    ensures shape { result ≡ shape_at bytes.now length }
+    ensures long { IfOk result (λ shape. image_length shape ≡ length) }
+    ensures cylinders { IfOk result (λ shape. IsTrue (within 1 MOST_CYLINDERS shape.cylinders)) }
 {
     let mark = &bytes[..HEADS];
     if is_compressed(mark) {
