@@ -1,7 +1,7 @@
 -- Each track of an exported image is the one of the volume's slot.
-use Rattle.std.proofs.Common.{◌≡◌, ℕ, zero, suc, ◌+◌, ◌-◌, ◌*◌, ◌<◌, ◌≤◌, Bool, true, false, cond, List, [], ◌∷◌, ◌++◌, length, take, drop, Option, Some, None, Result, Ok, Err, refl, sym, ap, subst, ◌∙◌, append_assoc, inl, inr, arith, length-append, length-drop, nat_lt}
-use Rattle.std.specs.Prelude.{IsOk, slice_range, replicate, ◌⊎◌}
-use Rattle.std.proofs.lemmas.Bool.{le-ltb, ltb-false}
+use Rattle.std.proofs.Common.{◌≡◌, ℕ, zero, suc, ◌+◌, ◌-◌, ◌*◌, ◌<◌, ◌≤◌, Bool, true, false, cond, List, [], ◌++◌, length, take, drop, Option, Some, None, Result, Ok, Err, refl, sym, ap, subst, ◌∙◌, append_assoc, add-one, inl, inr, arith, length-append, length-drop, nat_lt}
+use Rattle.std.specs.Prelude.{IsOk, slice_range, replicate}
+use Rattle.std.proofs.lemmas.Bool.{ltb-false}
 use Rattle.std.proofs.lemmas.List.{drop-append-le, take-append-le, take_at, drop_at, append-nil, length-replicate}
 use Rattle.tod_stamp.specs.Fields.{◌>>=◌, IsBytes}
 use Rattle.ckd_track.specs.declared.rec.Rec.{Rec}
@@ -13,7 +13,6 @@ use Rattle.ckd_track.proofs.ImageLaws.{image_taken}
 use Rattle.ckd_image.specs.declared.layout.TheConstants.{HEADER_LENGTH}
 use Rattle.ckd_image.specs.declared.shape.DeviceType.{DeviceType}
 use Rattle.ckd_image.specs.declared.shape.DeviceType.TheVariants.{Ibm3380, Ibm3390, Ibm9345}
-use Rattle.ckd_image.specs.declared.shape.ImageShape.{ImageShape}
 use Rattle.ckd_image.specs.Shapes.{header_bytes, track_bytes, track_place}
 use Rattle.ckd_image.specs.ImageTracks.{device_track_at, fitted_image_track, image_track}
 use Rattle.ckd_image.proofs.TrackReads.{tracks_read_back}
@@ -22,11 +21,11 @@ use Rattle.ckd_bridge.specs.declared.stop.Refusal.{Refusal}
 use Rattle.ckd_bridge.specs.declared.stop.Refusal.TheVariants.{NoRoom, NoTrack}
 use Rattle.ckd_bridge.specs.Pieces.{AreGood, bytes_of_piece, pieces_up_to}
 use Rattle.ckd_bridge.specs.Jobs.{exported_piece}
-use Rattle.ckd_bridge.specs.Tracks.{named_track, there_or, track_of_device, track_of_slot}
+use Rattle.ckd_bridge.specs.Tracks.{named_track, there_or, track_of_slot}
 use Rattle.ckd_bridge.specs.Commands.{exported_bytes, tracks_of_shape}
 use Rattle.ckd_bridge.proofs.Standings.{IsBytes-slice}
 use Rattle.ckd_bridge.specs.Laws.{ExportsReadBack}
-use Rattle.ckd_bridge.proofs.Runs.{Pieces}
+use Rattle.ckd_bridge.proofs.Runs.{Pieces, below_or_last}
 
 -- ---- pieces in a row
 
@@ -41,13 +40,10 @@ row_grows piece k zero le = subst (λ j. length (pieces_up_to piece j) ≤ lengt
   where
     none : (k : ℕ) → k ≤ 0 → 0 ≡ k
     none k le = omega (arith, le)
-row_grows piece k (suc n) le = elim (last k n le) [
-  | inl here ↦ subst (λ j. length (pieces_up_to piece j) ≤ length (pieces_up_to piece (suc n))) (sym here) (omega arith)
-  | inr before ↦ omega (arith, row_grows piece k n before, length-append (pieces_up_to piece n) (bytes_of_piece (piece n)))
+row_grows piece k (suc n) le = elim (below_or_last k (suc n) (omega (arith, le))) [
+  | inl before ↦ omega (arith, row_grows piece k n (omega (arith, before)), length-append (pieces_up_to piece n) (bytes_of_piece (piece n)))
+  | inr here ↦ subst (λ j. length (pieces_up_to piece j) ≤ length (pieces_up_to piece (suc n))) (sym here) (omega arith)
 ]
-  where
-    last : (k n : ℕ) → k ≤ suc n → (k ≡ suc n) ⊎ (k ≤ n)
-    last k n le = omega (arith, le)
 
 -- a piece stands after those before it
 pub piece_there : (piece : Pieces) (front : List ℕ) (k n : ℕ) → k < n
@@ -58,23 +54,17 @@ piece_there piece front k (suc n) lt =
     let at = length front + length (pieces_up_to piece k) in
     let size = length (bytes_of_piece (piece k)) in
     let regrouped : front ++ (row ++ bytes_of_piece (piece n)) ≡ (front ++ row) ++ bytes_of_piece (piece n) = sym (append_assoc front row (bytes_of_piece (piece n))) in
-    ap (λ (t : List ℕ). take size (drop at t)) regrouped ∙ elim (last k n lt) [
-      | inl here ↦ subst (λ j. take (length (bytes_of_piece (piece j))) (drop (length front + length (pieces_up_to piece j)) ((front ++ row) ++ bytes_of_piece (piece n))) ≡ bytes_of_piece (piece j)) (sym here) at_end
-      | inr before ↦
+    ap (λ (t : List ℕ). take size (drop at t)) regrouped ∙ elim (below_or_last k n (omega (arith, lt))) [
+      | inr here ↦ subst (λ j. take (length (bytes_of_piece (piece j))) (drop (length front + length (pieces_up_to piece j)) ((front ++ row) ++ bytes_of_piece (piece n))) ≡ bytes_of_piece (piece j)) (sym here) at_end
+      | inl before ↦
           let longer = row_grows piece (k + 1) n (omega (arith, before)) in
           let next : length (pieces_up_to piece (k + 1)) ≡ length (pieces_up_to piece k) + size = length_next piece k in
           part_of_front at size (front ++ row) (bytes_of_piece (piece n)) (omega (arith, longer, next, length-append front row))
           ∙ piece_there piece front k n before
     ]
   where
-    last : (k n : ℕ) → k < suc n → (k ≡ n) ⊎ (k < n)
-    last k n lt = omega (arith, lt)
-
     length_next : (piece : Pieces) (k : ℕ) → length (pieces_up_to piece (k + 1)) ≡ length (pieces_up_to piece k) + length (bytes_of_piece (piece k))
-    length_next piece k = ap (λ j. length (pieces_up_to piece j)) (more k) ∙ length-append (pieces_up_to piece k) (bytes_of_piece (piece k))
-
-    more : (k : ℕ) → k + 1 ≡ suc k
-    more k = omega arith
+    length_next piece k = ap (λ j. length (pieces_up_to piece j)) (add-one k) ∙ length-append (pieces_up_to piece k) (bytes_of_piece (piece k))
 
     at_end : take (length (bytes_of_piece (piece n))) (drop (length front + length (pieces_up_to piece n)) ((front ++ pieces_up_to piece n) ++ bytes_of_piece (piece n))) ≡ bytes_of_piece (piece n)
     at_end =
@@ -98,7 +88,7 @@ fitted size track volume recs held false e ok = record {
   rest = replicate (size - length (image_track track recs)) 0;
   held = held;
   spelled = refl;
-  sized = omega (arith, ltb-false size (length (image_track track recs)) e, length-append (image_track track recs) (replicate (size - length (image_track track recs)) 0), length-replicate (size - length (image_track track recs)) 0);
+  sized = omega (arith, ltb-false size (length (image_track track recs)) e, length-append (image_track track recs) (replicate (size - length (image_track track recs)) 0), length-replicate {A = ℕ} (size - length (image_track track recs)) 0);
 }
 
 exported_track : (size track : ℕ) (volume : List ℕ) (read : Result (List Rec) Refusal) → track_of_slot volume track ≡ read

@@ -1,10 +1,10 @@
 -- The header of an import keeps the rules of traces.
-use Rattle.std.proofs.Common.{◌≡◌, ℕ, zero, suc, ◌+◌, ◌*◌, ◌<◌, ◌≤◌, Bool, true, false, nat_lt, nat_le, ◌&&◌, List, [], ◌∷◌, ◌++◌, length, Result, Ok, Err, refl, sym, ap, subst, ◌∙◌, arith}
-use Rattle.std.specs.Prelude.{IsOk, ◌==◌, ◌||◌, slice_range, not}
-use Rattle.std.proofs.lemmas.Bool.{le-leb, lt-ltb, leb-true}
+use Rattle.std.proofs.Common.{◌≡◌, ℕ, zero, suc, ◌+◌, ◌≤◌, true, ◌&&◌, List, [], ◌∷◌, ◌++◌, Result, Ok, Err, refl, ap, ◌∙◌, arith}
+use Rattle.std.specs.Prelude.{IsOk, slice_range}
+use Rattle.std.proofs.lemmas.Bool.{le-leb, lt-ltb}
 use Rattle.tod_stamp.specs.Fields.{◌>>=◌, IsBytes, within}
 use Rattle.ckd_track.specs.declared.rec.Rec.{Rec}
-use Rattle.ckd_track.specs.Tracks.{IsTrack, is_track}
+use Rattle.ckd_track.specs.Tracks.{is_track}
 use Rattle.ckd_track.proofs.ImageLaws.{both_true}
 use Rattle.ckd_track.proofs.TrackLaws.{and_true}
 use Rattle.write_trace.specs.declared.header.VolumeHead.{VolumeHead}
@@ -16,16 +16,15 @@ use Rattle.ckd_image.specs.Shapes.{track_bytes, track_place}
 use Rattle.ckd_image.specs.ImageTracks.{device_track_at}
 use Rattle.ckd_image.proofs.TrackReads.{tracks_are_spelled}
 use Rattle.ckd_bridge.specs.declared.stop.ImageFile.TheVariants.{First}
-use Rattle.ckd_bridge.specs.declared.stop.Refusal.{Refusal}
 use Rattle.ckd_bridge.specs.Pieces.{AreGood}
 use Rattle.ckd_bridge.specs.Jobs.{imported_piece}
 use Rattle.ckd_bridge.specs.Tracks.{named_track, track_of_device}
-use Rattle.ckd_bridge.specs.Commands.{imported_header, imported_tracks, imported_volume, recs_or_none, tracks_of_shape}
+use Rattle.ckd_bridge.specs.Commands.{imported_tracks, imported_volume, recs_or_none, tracks_of_shape}
 use Rattle.ckd_bridge.proofs.Standings.{IsBytes-slice}
 use Rattle.ckd_bridge.specs.Laws.{ImportsAreTraces}
 
 -- where the tracks after some have to begin
-after_all : (low : ℕ × ℕ) → List Base → ℕ × ℕ
+abbrev pub after_all : (low : ℕ × ℕ) → List Base → ℕ × ℕ
 after_all low [] = low
 after_all low (b ∷ base) = after_all (b.0, b.1 + 1) base
 

@@ -1,6 +1,7 @@
 pub mod Standings
 pub mod Runs
-pub mod Copied
 pub mod Headers
+pub mod Endings
 pub mod Exports
 pub mod Imports
+pub mod FollowedTraces

@@ -1,20 +1,19 @@
 -- The files of a job, read again and again.
-use Rattle.std.proofs.Common.{◌≡◌, ℕ, ◌+◌, ◌-◌, ◌*◌, ◌<◌, ◌≤◌, List, drop, refl, sym, ap, subst, ◌∙◌, arith}
+use Rattle.std.proofs.Common.{◌≡◌, ℕ, ◌+◌, ◌-◌, ◌*◌, ◌<◌, ◌≤◌, List, drop, sym, ap, subst, ◌∙◌, arith}
 use Rattle.std.specs.Prelude.{slice_range}
 use Rattle.tod_stamp.specs.Fields.{IsBytes}
 use Rattle.tod_stamp.proofs.FieldLaws.{IsBytes-drop, IsBytes-take}
-use Rattle.xrc_edge.specs.declared.limits.TheConstants.{MOST_CYLINDERS, TRACKS_OF_CYLINDER}
+use Rattle.xrc_edge.specs.declared.limits.TheConstants.{TRACKS_OF_CYLINDER}
 use Rattle.crash_plant.specs.Moments.{Standing}
 use Rattle.ckd_track.specs.SlotPlaces.{slot_end}
 use Rattle.volume_label.specs.Labels.{volume_need}
 use Rattle.ckd_image.specs.declared.layout.TheConstants.{HEADER_LENGTH}
 use Rattle.ckd_image.specs.declared.shape.DeviceType.{DeviceType}
 use Rattle.ckd_image.specs.declared.shape.DeviceType.TheVariants.{Ibm3380, Ibm3390, Ibm9345}
-use Rattle.ckd_image.specs.declared.shape.ImageShape.{ImageShape}
 use Rattle.ckd_image.specs.Shapes.{cylinder_bytes, image_length, track_bytes, track_place}
 use Rattle.ckd_bridge.specs.declared.job.Job.{Job}
 use Rattle.ckd_bridge.specs.declared.job.Job.TheVariants.{Capture, Export, Import}
-use Rattle.ckd_bridge.specs.Jobs.{AreFilesReady, ReadSame, SameLengths, job_cylinders, piece_of}
+use Rattle.ckd_bridge.specs.Jobs.{AreFilesReady, ReadSame, SameLengths, piece_of}
 
 -- a track lies in its image
 pub within_image : (device_type : DeviceType) (number cylinders length : ℕ) → number < TRACKS_OF_CYLINDER * cylinders → HEADER_LENGTH + cylinders * cylinder_bytes device_type ≤ length
@@ -36,7 +35,7 @@ bytes_then a b c d e f one two = record { first_bytes = two.first_bytes ∙ one.
 pub still_ready : (job : Job) (a b c d : Standing) → AreFilesReady job a b → SameLengths a b c d → AreFilesReady job c d
 still_ready (Import shape) a b c d ready same = (subst (λ n. image_length shape ≤ n) (sym same.first_length) ready.0, ready.1)
 still_ready (Capture shape volume stamp) a b c d ready same =
-    (subst (λ n. image_length shape ≤ n) (sym same.first_length) ready.0, subst (λ n. image_length shape ≤ n) (sym same.second_length) ready.1, ready.2)
+    (subst (λ n. image_length shape ≤ n) (sym same.first_length) ready.0, subst (λ n. image_length shape ≤ n) (sym same.second_length) ready.1, ready.2, ready.3)
 still_ready (Export device_type cylinders) a b c d ready same = (subst (λ n. volume_need cylinders ≤ n) (sym same.first_length) ready.0, ready.1)
 
 pub same_pieces : (job : Job) (a b c d : Standing) (k : ℕ) → ReadSame a b c d → piece_of job c.bytes d.bytes k ≡ piece_of job a.bytes b.bytes k

@@ -1,5 +1,5 @@
 -- What the commands write for what they read.
-use Rattle.std.specs.Prelude.{◌≡◌, ◌⊎◌, ℕ, zero, suc, ◌*◌, ◌==◌, ◌&&◌, List, [], ◌∷◌, ◌++◌, Bool, true, false, Option, Result, Ok, Err, not, nat_le, if◌then◌else◌}
+use Rattle.std.specs.Prelude.{◌≡◌, ◌⊎◌, ℕ, zero, suc, ◌*◌, ◌==◌, ◌&&◌, List, [], ◌∷◌, ◌++◌, Bool, Option, Result, Ok, Err, not, nat_le, if◌then◌else◌}
 use Rattle.std.specs.Int.{w16, w32, to_be_bytes}
 use Rattle.tod_stamp.specs.Fields.{◌>>=◌, within}
 use Rattle.xrc_edge.specs.declared.limits.TheConstants.{MOST_CYLINDERS, TRACKS_OF_CYLINDER}

@@ -1,5 +1,5 @@
 -- What a command makes of the files that it reads, track by track.
-use Rattle.std.specs.Prelude.{◌≡◌, ℕ, ◌*◌, ◌≤◌, List, [], ◌∷◌, Option, Result, Ok, bytes_eq, if◌then◌else◌}
+use Rattle.std.specs.Prelude.{◌≡◌, ℕ, ◌*◌, ◌≤◌, List, [], ◌∷◌, Result, Ok, bytes_eq, if◌then◌else◌}
 use Rattle.tod_stamp.specs.Fields.{◌>>=◌}
 use Rattle.xrc_edge.specs.declared.limits.TheConstants.{MOST_CYLINDERS, TRACKS_OF_CYLINDER}
 use Rattle.ckd_track.specs.declared.rec.Rec.{Rec}

@@ -1,5 +1,5 @@
 -- The laws of the bridge: what an import writes is a trace's header, and what an export writes is an image of the volume's tracks.
-use Rattle.std.specs.Prelude.{◌≡◌, ◌<◌, ◌*◌, ℕ, List, Ok, IsTrue, length}
+use Rattle.std.specs.Prelude.{◌≡◌, ◌<◌, ℕ, List, IsTrue}
 use Rattle.tod_stamp.specs.Fields.{IsBytes, within}
 use Rattle.tod_stamp.specs.Names.{is_serial}
 use Rattle.xrc_edge.specs.declared.limits.TheConstants.{MOST_CYLINDERS}

@@ -1,5 +1,5 @@
 -- Shapes and tracks of images, and tracks of volume devices, by the bytes of their files, or why they are refused.
-use Rattle.std.specs.Prelude.{ℕ, ◌+◌, List, length, take, slice_range, Option, Some, None, Result, Ok, Err, nat_lt, if◌then◌else◌}
+use Rattle.std.specs.Prelude.{ℕ, ◌+◌, List, length, slice_range, Option, Some, None, Result, Ok, Err, nat_lt, if◌then◌else◌}
 use Rattle.ckd_track.specs.declared.rec.Rec.{Rec}
 use Rattle.ckd_track.specs.Images.{image_at}
 use Rattle.ckd_track.specs.SlotPlaces.{slot_end, slot_place, track_read}

@@ -5,6 +5,7 @@
 mod commands;
 mod copying;
 mod files;
+mod followed_trace;
 mod job;
 mod laws;
 mod named_volume;
@@ -15,7 +16,8 @@ mod tracks;
 
 pub use commands::{capture, export, import};
 pub use files::Files;
+pub use followed_trace::find_volume;
 pub use laws::{exports_read_back, imports_are_traces};
-pub use named_volume::{NamedVolume, find_volume};
+pub use named_volume::NamedVolume;
 pub use sink::{FileSink, Sink};
 pub use stop::{ImageFile, Refusal, Stop};

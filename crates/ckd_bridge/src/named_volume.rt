@@ -1,16 +1,13 @@
-//! The volume of a serial in a trace, by the bytes at the front of its header.
+//! The volume of a serial in a trace.
 
-ghost use Rattle.std.specs.Prelude.{◌≡◌, ◌≤◌, ◌<◌, ◌+◌, ◌∷◌, [], length, IfOk, IfSome};
+ghost use Rattle.std.specs.Prelude.{◌≡◌, ◌≤◌, length, bytes_eq};
+ghost use Rattle.std.specs.List.{position};
 ghost use Rattle.xrc_edge.specs.declared.limits.TheConstants.{MOST_CONTROL_VOLUMES};
-ghost use Rattle.ckd_bridge.specs.NamedVolumes.{IsVolumeNamed};
-ghost use Rattle.ckd_bridge.specs.Pieces.{ReadsWithCause};
+ghost use Rattle.ckd_bridge.specs.NamedVolumes.{first_of_serial, volume_numbered};
 
 use crate::stop::{Refusal, Stop};
-use crate::tracks::read_at;
-use byteorder::{BigEndian, ByteOrder};
-use crash_plant::Disk;
 use tod_stamp::Serial;
-use write_trace::serial_place;
+use write_trace::VolumeHead;
 use xrc_edge::MOST_CONTROL_VOLUMES;
 
 /// A volume of a trace: its number there, and its cylinders.
@@ -20,61 +17,25 @@ pub struct NamedVolume {
     pub cylinders: u32,
 }
 
-/// The mark of a trace of version 1, and the bytes of its number of volumes.
-const MARK: &[u8] = b"XTR1";
-
-const BEFORE_VOLUMES: usize = 6;
-
-/// The most bytes before the base tracks of a header.
-const FRONT: usize = 6 + MOST_CONTROL_VOLUMES as usize * 8;
-
-/// The bytes of a volume in a header, and those of its serial.
-const VOLUME: usize = 8;
-
-const SERIAL: usize = 6;
-
-/// The volume of a serial among so many, by the front of a header.
-fn named(bytes: &[u8], count: u16, serial: Serial) -> Option<NamedVolume>
-    requires { count ≤ MOST_CONTROL_VOLUMES }
-    ensures { IfSome result (λ volume. IsVolumeNamed bytes.now count serial volume) }
+/// The number of the first volume of this serial.
+fn first_of_serial(volumes: &[VolumeHead], serial: Serial) -> Option<usize>
+    ensures { result ≡ first_of_serial serial volumes.now }
 {
-    let field = serial.field();
-    for number in 0..count {
-        let place = serial_place(number as usize) as usize;
-        if bytes.len() < place + VOLUME {
-            return None;
-        }
-        let volume = &bytes[place..place + VOLUME];
-        if volume.starts_with(&field) {
-            return Some(NamedVolume {
-                number,
-                cylinders: u32::from(BigEndian::read_u16(&volume[SERIAL..])),
-            });
-        }
-    }
-    None
+    volumes
+        .iter()
+        .position(|volume| volume.serial.as_bytes() == serial.as_bytes())
 }
 
-/// The volume of a serial in a trace.
-pub fn find_volume<D: Disk>(trace: &mut D, serial: Serial) -> Result<NamedVolume, Stop>
-    ensures cause { ReadsWithCause ((D.state trace.old).faults ∷ []) ((D.state trace.new).faults ∷ []) result }
+/// The volume of this serial.
+pub(crate) fn volume_numbered(volumes: &[VolumeHead], serial: Serial) -> Result<NamedVolume, Stop>
+    requires { length volumes.now ≤ MOST_CONTROL_VOLUMES }
+    ensures { result ≡ volume_numbered volumes.now (first_of_serial serial volumes.now) }
 {
-    let length = trace.length().min(FRONT as u64) as usize;
-    let mut bytes = [0; FRONT];
-    match read_at(trace, 0, &mut bytes[..length]) {
-        Ok(()) => {}
-        Err(stop) => return Err(stop),
-    }
-    let front = &bytes[..length];
-    if length < BEFORE_VOLUMES || !front.starts_with(MARK) {
-        return Err(Stop::Refused(Refusal::NoTrace));
-    }
-    let count = BigEndian::read_u16(&front[4..]);
-    if count > MOST_CONTROL_VOLUMES {
-        return Err(Stop::Refused(Refusal::NoTrace));
-    }
-    match named(front, count, serial) {
-        Some(volume) => Ok(volume),
+    match first_of_serial(volumes, serial) {
+        Some(number) => Ok(NamedVolume {
+            number: number as u16,
+            cylinders: volumes[number].cylinders,
+        }),
         None => Err(Stop::Refused(Refusal::NoVolume)),
     }
 }

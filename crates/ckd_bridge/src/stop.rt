@@ -21,8 +21,12 @@ pub enum Refusal {
     Track(ImageFile, u32, TrackFault),
     /// The two images differ in the type of their device, or in its cylinders.
     OtherShape,
-    /// The trace has another version, or doesn't begin as a trace.
-    NoTrace,
+    /// The field of the trace's header that begins at this place is cut or breaks its rule.
+    BadHeader(u64),
+    /// The entry of the trace that begins at this place is cut or breaks a rule.
+    BadTrace(u64),
+    /// The stamp is below the one of the trace's last entry.
+    EarlierStamp,
     /// The trace names no volume of this serial.
     NoVolume,
     /// The trace's volume of this serial has other cylinders than the image.
@@ -73,7 +77,9 @@ impl fmt::Display for Refusal {
                 write!(f, " {fault}")
             }
             Refusal::OtherShape => write!(f, "OTHERSHAPE"),
-            Refusal::NoTrace => write!(f, "NOTRACE"),
+            Refusal::BadHeader(place) => write!(f, "BADHEADER {place}"),
+            Refusal::BadTrace(place) => write!(f, "BADTRACE {place}"),
+            Refusal::EarlierStamp => write!(f, "EARLIERSTAMP"),
             Refusal::NoVolume => write!(f, "NOVOLUME"),
             Refusal::OtherCylinders => write!(f, "OTHERCYLINDERS"),
             Refusal::NoLabel => write!(f, "NOLABEL"),

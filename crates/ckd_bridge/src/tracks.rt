@@ -33,6 +33,28 @@ pub(crate) fn read_at<D: Disk>(disk: &mut D, place: u64, into: &mut [u8]) -> Res
     }
 }
 
+/// Reads so many bytes from a place on.
+fn read_bytes<D: Disk>(
+    alloc: Global,
+    disk: &mut D,
+    place: u64,
+    size: usize,
+) -> Result<Vec<u8>, Stop>
+    requires { place + size ≤ (D.state disk.old).length_is }
+    ensures bytes { D.tells → IfOk result (λ bytes. bytes.items ≡ slice_range (D.state disk.old).bytes place (place + size)) }
+    ensures long { IfOk result (λ bytes. length bytes.items ≡ size) }
+    ensures refusal { IsNoRefusal result }
+    ensures same { D.tells → (D.state disk.new).bytes ≡ (D.state disk.old).bytes }
+    ensures length { (D.state disk.new).length_is ≡ (D.state disk.old).length_is }
+    ensures cause { ReadsWithCause ((D.state disk.old).faults ∷ []) ((D.state disk.new).faults ∷ []) result }
+{
+    let mut bytes = vec![in alloc; 0u8; size]?;
+    match read_at(disk, place, bytes.as_mut_slice()) {
+        Ok(()) => Ok(bytes),
+        Err(stop) => Err(stop),
+    }
+}
+
 /// Reads the shape of an image.
 pub(crate) fn read_image_shape<D: Disk>(image: &mut D, file: ImageFile) -> Result<ImageShape, Stop>
     ensures shape { D.tells → GivesPiece (λ shape. shape) result (shape_of_image file (D.state image.old).bytes) }
@@ -88,13 +110,8 @@ pub(crate) fn read_image_track<D: Disk>(
     ensures cause { ReadsWithCause ((D.state image.old).faults ∷ []) ((D.state image.new).faults ∷ []) result }
 {
     let size = shape.device_type.track_bytes() as usize;
-    let mut bytes = vec![in alloc; 0u8; size]?;
-    match read_at(
-        image,
-        shape.device_type.track_place(number),
-        bytes.as_mut_slice(),
-    ) {
-        Ok(()) => image_track(alloc, file, number, bytes.as_slice()),
+    match read_bytes(alloc, image, shape.device_type.track_place(number), size) {
+        Ok(bytes) => image_track(alloc, file, number, bytes.as_slice()),
         Err(stop) => Err(stop),
     }
 }
@@ -125,9 +142,8 @@ pub(crate) fn read_slot_track<D: Disk>(
     ensures length { (D.state volume.new).length_is ≡ (D.state volume.old).length_is }
     ensures cause { ReadsWithCause ((D.state volume.old).faults ∷ []) ((D.state volume.new).faults ∷ []) result }
 {
-    let mut slot = vec![in alloc; 0u8; SLOT_LENGTH]?;
-    match read_at(volume, slot_place(number), slot.as_mut_slice()) {
-        Ok(()) => slot_track(alloc, number, slot.as_slice()),
+    match read_bytes(alloc, volume, slot_place(number), SLOT_LENGTH) {
+        Ok(slot) => slot_track(alloc, number, slot.as_slice()),
         Err(stop) => Err(stop),
     }
 }
