@@ -102,7 +102,14 @@ patch bad 12 '00 BA 00 00 80'
 truncate -s 714752 bad
 refuse 'OTHERSHAPE' capture image bad PRIM01 0000000000000080 trace
 refuse 'NOVOLUME' capture image changed PRIM02 0000000000000080 trace
-refuse 'NOTRACE' capture image changed PRIM01 0000000000000080 image
+refuse 'BADHEADER 0' capture image changed PRIM01 0000000000000080 image
+refuse 'EARLIERSTAMP' capture image changed PRIM01 000000000000006F trace
+head -c 178 trace >other
+refuse 'BADTRACE 150' capture image changed PRIM01 0000000000000080 other
+[ "$(wc -c <other)" -eq 178 ] || fail "a refused capture changes its trace"
+cp trace other
+patch other 150 '05'
+refuse 'BADTRACE 150' capture image changed PRIM01 0000000000000080 other
 cp trace other
 patch other 13 '02'
 refuse 'OTHERCYLINDERS' capture image changed PRIM01 0000000000000080 other

@@ -3,7 +3,7 @@
 ghost use Rattle.std.specs.Prelude.{◌≤◌};
 
 use crate::failure::Failure;
-use crate::files::{FileEnd, NewFile, open_to_read};
+use crate::files::{FileEnd, NewFile, open_source, open_to_read};
 use crate::words::{read_device_type, read_serial, read_stamp};
 use anyhow::anyhow;
 use ckd_bridge::{Files as Inputs, Refusal, Stop, capture, export, find_volume, import};
@@ -60,7 +60,7 @@ fn run_capture<R: Files<File = File>>(
         first: open_to_read(rt, images.0)?,
         second: open_to_read(rt, images.1)?,
     };
-    let volume = find_volume(&mut open_to_read(rt, trace)?, serial)?;
+    let volume = find_volume(alloc, &mut open_source(rt, trace)?, serial, stamp)?;
     let end = FileEnd::open(rt, trace)?;
     let mut sink = end.sink()?;
     match capture(alloc, &mut files, volume, stamp, &mut sink) {

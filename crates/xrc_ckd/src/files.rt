@@ -8,12 +8,19 @@ use std::alloc::Global;
 use std::fs;
 use std::fs::{File, OpenOptions};
 use std::rt::Files;
+use xrc_edge::FileSource;
 
 /// A file that is only read.
 pub fn open_to_read<R: Files<File = File>>(rt: &R, name: &str) -> Result<FileDisk, Failure> {
     let file = File::open(rt, name).context(format_args!("cannot open {name}"))?;
     let length = file.metadata()?.len();
     Ok(FileDisk::new(file, length))
+}
+
+/// A file that is read once, from its front to its end.
+pub fn open_source<R: Files<File = File>>(rt: &R, name: &str) -> Result<FileSource<File>, Failure> {
+    let file = File::open(rt, name).context(format_args!("cannot open {name}"))?;
+    Ok(FileSource::new(file))
 }
 
 /// A file that comes into being whole or not at all: until it is kept it has another name, with `.part` behind it.
