@@ -11,6 +11,14 @@ fail() {
     exit 1
 }
 
+# The bytes of a text of hexadecimal digit pairs.
+bytes() {
+    for pair in $1; do
+        # shellcheck disable=SC2059
+        printf "\\$(printf '%03o' "0x$pair")"
+    done
+}
+
 # The bytes of a trace whose lines stand on standard input.
 trace() {
     "$trace_program" write || fail "these lines are no trace"

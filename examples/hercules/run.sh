@@ -57,9 +57,20 @@ is_followed() {
     [ "$(slot 0 1 6)" = 0002010000f0 ]
 }
 
-# The controller goes on to 80 after the change at 70.
+# After the change at 70 the controller writes 32 times to the volume's last track, which stays empty, and falls silent. As many writes
+# as a group may have let the change be copied before anything else is read.
+follow() {
+    cat trace
+    writes=0
+    while [ "$writes" -lt 32 ]; do
+        bytes '04 00 00 00 00 00 00 00 71 00 00 00 01 00 0E 00 00'
+        writes=$((writes + 1))
+    done
+    bytes '01 00 00 00 00 00 00 00 80'
+    exec sleep 600
+}
 mkfifo trace.0
-(cat trace; bytes '01 00 00 00 00 00 00 00 80'; exec sleep 600) >trace.0 &
+follow >trace.0 &
 writing=$!
 "$program" run ABC 1 <script >replies &
 running=$!
@@ -68,8 +79,8 @@ crash
 echo "The program is killed once the change is on the volume. It had said:"
 cat replies
 recover
-printf 'RECOVERED ABC T=000000000000007F\nPAIR VOL001 SEC001 DUPLEX\n' >wanted
-cmp -s wanted recovered || fail "that is not what was wanted"
+grep -qx 'RECOVERED ABC T=000000000000007[0-9A-F]' recovered || fail "the time is not one from the change on"
+grep -qx 'PAIR VOL001 SEC001 DUPLEX' recovered || fail "the pair is not duplex"
 
 echo "xrc_ckd says:"
 "$bridge" export volume.0 copy.img || fail "the copy is not exported"
