@@ -4,7 +4,7 @@
 set -eu
 cd "$(dirname "$0")"
 
-programs='xrc xrc_trace'
+programs='xrc xrc_trace xrc_ckd'
 
 fail() {
     printf 'release: %s\n' "$1" >&2
