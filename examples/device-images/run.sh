@@ -7,11 +7,7 @@ set -eu
 . "$(dirname "$0")/../common.sh"
 
 bridge=$repository/crates/xrc_ckd/out/xrc_ckd
-if [ ! -x "$bridge" ]; then
-    echo "Proving and building the bridge."
-    (cd "$repository/crates/xrc_ckd" && rt run </dev/null >/dev/null 2>&1) || true
-    [ -x "$bridge" ] || fail "the bridge was not built"
-fi
+build xrc_ckd
 
 # Writes bytes over those of a file from a place on.
 patch() {

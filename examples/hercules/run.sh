@@ -16,11 +16,7 @@ fi
 . "$(dirname "$0")/../common.sh"
 
 bridge=$repository/crates/xrc_ckd/out/xrc_ckd
-if [ ! -x "$bridge" ]; then
-    echo "Proving and building the bridge."
-    (cd "$repository/crates/xrc_ckd" && rt run </dev/null >/dev/null 2>&1) || true
-    [ -x "$bridge" ] || fail "the bridge was not built"
-fi
+build xrc_ckd
 
 # An image of a volume VOL001 of two cylinders with the data set of a text.
 make_image() {
