@@ -1,5 +1,5 @@
 -- What the mover does: the deeds of its site, kept of its calls, and what it knows of rows.
-use Rattle.std.specs.Prelude.{◌≡◌, ◌⊎◌, ℕ, ◌+◌, ◌-◌, ◌*◌, ◌^◌, ◌<◌, ◌≤◌, ◌==◌, ◌&&◌, ◌||◌, not, nat_le, if◌then◌else◌, List, [], ◌∷◌, ◌++◌, length, map, Bool, true, false, find, slice_index_or, Option, Some, None, Result, OnOk, IsErrOf, IsSomeAnd, IsTrue}
+use Rattle.std.specs.Prelude.{◌≡◌, ◌⊎◌, ℕ, ◌+◌, ◌-◌, ◌*◌, ◌^◌, ◌<◌, ◌≤◌, ◌==◌, ◌&&◌, ◌||◌, not, if◌then◌else◌, List, [], ◌∷◌, ◌++◌, length, map, Bool, true, false, find, slice_index_or, Option, Some, None, Result, OnOk, IsErrOf, IsSomeAnd, IsTrue}
 use Rattle.std.specs.List.{All, Contains, list_all, list_any}
 use Rattle.xrc_edge.specs.declared.limits.TheConstants.{TRACKS_OF_CYLINDER}
 use Rattle.tod_stamp.specs.declared.stamp.Stamp.{Stamp}
@@ -37,6 +37,7 @@ use Rattle.site_store.specs.Causes.{FailByCounts, HasStoreCause}
 use Rattle.site_store.specs.Jobs.{has_device}
 use Rattle.site_store.specs.Records.{IsStore}
 use Rattle.site_store.specs.Sites.{SiteState, is_written}
+pub use Rattle.site_store.specs.Sites.{is_mark_due}
 use Rattle.site_store.specs.Standing.{MayRecord, SiteStands, StandsFast}
 use Rattle.mover.specs.Dropping.{AreOfControls, OwesExactly}
 use Rattle.mover.specs.Groups.{is_at_limit}
@@ -127,10 +128,6 @@ pub record KnowsSite (limit : ℕ) (seat : MoverSeatState) (site : SiteState) : 
   pub in_step : IsInStep seat.last.0 site.time site.told
   pub below : site.time ≤ limit
   pub told : hit_now site.failed site.told ≡ []
-
--- whether a mark is due: a group was logged since the last one
-abbrev pub is_mark_due : SiteState → Bool
-is_mark_due site = nat_le 1 site.since
 
 -- Before a round: every item of the site was applied, and no group was logged since the last mark.
 pub record MayMove (tells : Type 0) (limit : ℕ) (seat : MoverSeatState) (site : SiteState) (plant : PlantState) : Type 0 where

@@ -6,7 +6,7 @@ ghost use Rattle.pair_table.specs.Tables.{AreRowsSound, none_clash};
 ghost use Rattle.record_rows.specs.Hits.{hit_now};
 ghost use Rattle.site_store.specs.Standing.{MayRecord, StandsFast};
 ghost use Rattle.mover.specs.Dropping.{AreOfControls, Drops, MakesDrops, are_states_of, drop_of, owes_since};
-ghost use Rattle.mover.specs.Moves.{IsStillAt, KeepsLimit, MaySettle, Moved, MoverWorks, SettlesFor, SiteMoved, is_mark_due};
+ghost use Rattle.mover.specs.Moves.{IsStillAt, KeepsLimit, MaySettle, Moved, MoverWorks, SettlesFor, SiteMoved};
 ghost use Rattle.mover.specs.Numbers.{FormsUse, UsesUpTo};
 
 use crash_plant::Plant;
@@ -15,9 +15,6 @@ use site_store::{Site, StoreError};
 use std::sync::Wait;
 use std::thread::Threads;
 use turn_group::{MoverSeat, TurnGroup};
-
-/// How many groups are logged between two marks.
-const GROUPS_OF_MARK: u32 = 1;
 
 /// The states of a table's rows, by their places.
 pub(crate) fn states_of(table: &PairTable) -> [Option<PairState>; MOST_ROWS]
@@ -70,13 +67,6 @@ pub(crate) fn drop_suspended<W: Wait>(
     }
 }
 
-/// Whether a mark is due.
-fn is_mark_due<V>(site: &Site<V>) -> bool
-    ensures { result ≡ is_mark_due site.now }
-{
-    site.since() >= GROUPS_OF_MARK
-}
-
 /// Applies the last group, tells which volumes failed, and marks if a mark is due.
 fn keep<R: Threads + Sync, P: Plant>(
     rt: &R,
@@ -97,7 +87,7 @@ fn keep<R: Threads + Sync, P: Plant>(
     site.apply(rt, plant);
     let time = site.time();
     site.suspend(plant, time)?;
-    if !is_mark_due(site) {
+    if !site.is_mark_due() {
         return Ok(());
     }
     site.mark(rt, plant, false)

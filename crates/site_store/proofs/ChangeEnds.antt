@@ -8,7 +8,6 @@ use Rattle.crash_plant.specs.Calls.{WorksOn}
 use Rattle.crash_plant.specs.Choices.{Choice, IsChoice}
 use Rattle.crash_plant.specs.Moments.{PlantState}
 use Rattle.pair_table.specs.declared.command.Change.{Change}
-use Rattle.pair_table.specs.declared.level.Level.{Level}
 use Rattle.pair_table.specs.declared.row.PairRow.{PairRow}
 use Rattle.pair_table.specs.Tables.{are_below}
 use Rattle.record_rows.specs.Deeds.{Deed}
@@ -33,14 +32,14 @@ use Rattle.site_store.specs.Changing.{AreChangeItems, DoesChange, FormsChange, L
 use Rattle.site_store.specs.Hits.{pairs_with_next, with_hits}
 use Rattle.site_store.specs.Marking.{MakesMark}
 use Rattle.site_store.specs.Recording.{HasRoomBy, MayPutRecord, ShowsRecord, group_with}
-use Rattle.site_store.specs.Records.{IsJournal, IsOfMark, after_mark, after_record}
+use Rattle.site_store.specs.Records.{IsJournal, IsOfMark, after_record}
 use Rattle.site_store.specs.InTurn.{DoesInTurn}
 use Rattle.site_store.specs.RowRecords.{IsAfterRows, LogsRecord, are_rows_spent, has_items, names_rows, rows_deeds}
 use Rattle.site_store.specs.Sites.{SiteState, meant_for}
 use Rattle.site_store.specs.Standing.{FitsPlant, Leaves, SiteStands, none_excepted, row_has_volume}
 use Rattle.site_store.specs.Placements.{is_spent, placement_of}
 use Rattle.site_store.proofs.Below.{below_volumes}
-use Rattle.site_store.proofs.ComesFirst.{ComesFirst, mark_done, mark_first, nothing_first, record_do, rows_leave}
+use Rattle.site_store.proofs.ComesFirst.{ComesFirst, mark_first, nothing_first, record_do, rows_leave}
 use Rattle.site_store.proofs.MarkFirst.{Suffice, mark_begins, room_after_mark, suffice}
 use Rattle.site_store.proofs.HitsLead.{change_leads, near_leads, near_marked}
 use Rattle.site_store.proofs.LogForms.{HasPlace, plain_place}
@@ -195,19 +194,13 @@ module _ (tells : Type 0) (cut : Stamp) (change : Change) (site : SiteState) (ol
         does = subst (λ (b : Bool). DoesInTurn tells (rows_deeds b w site cut.0 next.failed) site old new result) (sym f_is) does;
       }
 
-      -- The record came after a mark.
-      pub after_logs : follows ≡ true → placement ≡ Marked → OnOk result (IsAfterChange cut.0 change Marked site next old) → DoesInTurn tells (change_deeds Marked site cut.0 next.failed) site old new result → LogsRecord tells cut.0 change site next old new result
-      after_logs follow marked after does = logs_by true follow Marked marked after does
-
-      -- A mark was made in place of the hits' record.
-      pub mark_logs : follows ≡ false → placement ≡ Marked → OnOk result (next ≡ after_mark site.mark.ended (rows_with_hits site.level site.time next.failed site.told) next.failed site)
-          → MakesMark tells site.mark.ended (rows_with_hits site.level site.time next.failed site.told) site next old new result → LogsRecord tells cut.0 change site next old new result
-      mark_logs alone marked after makes =
-          let told_rows = rows_with_hits site.level site.time next.failed site.told in
-          logs_by false alone Marked marked after (record {
-            begins = λ told e stands. mark_begins tells site.mark.ended told_rows site next old new result makes may.idle told e stands;
-            does = λ told. mark_done tells site next old new site.mark.ended told_rows may.idle result makes told;
-          })
+      -- A mark came first, and the record after it, if one follows.
+      pub marked_logs : placement ≡ Marked → OnOk result (IsAfterRows follows cut.0 change Marked [] site next old) → DoesInTurn tells (rows_deeds follows Marked site cut.0 next.failed) site old new result → LogsRecord tells cut.0 change site next old new result
+      marked_logs marked after does = logs_by follows refl Marked marked (by_first follows after) does
+        where
+          by_first : (f : Bool) → OnOk result (IsAfterRows f cut.0 change Marked [] site next old) → OnOk result (IsAfterRows f cut.0 change Marked now.items site next old)
+          by_first true by = by
+          by_first false by = by
 
     module _ (plain : placement ≢ Marked) (enough : are_rows_spent follows placement site ≡ false) where
       place : HasPlace old placement site.mark.at site.at now.items
@@ -324,10 +317,6 @@ mark_fails tells cut site next old new error idle makes =
           (mark_begins tells site.mark.ended marked site next old new (Err error) makes idle told e stands);
       does = λ told. tt;
     }
-
--- What was formed by a site's fields is formed so for the site.
-pub forms_there : (level : Level) (cut : Stamp) (flags failed : List Bool) (change : Change) (named : List PairRow) (site : SiteState) (held now : BodyState) → level ≡ site.level → flags ≡ failed → named ≡ site.table.rows → FormsChange level cut flags change named held now → FormsChange site.level cut failed change site.table.rows held now
-forms_there level cut flags failed change named site held now level_is flags_is rows_is forms = subst (λ (x : Type 0). x) (λ i. FormsChange (level_is i) cut (flags_is i) change (rows_is i) held now) forms
 
 -- ---- what a command's change reads from it
 

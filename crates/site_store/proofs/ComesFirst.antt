@@ -1,11 +1,11 @@
 -- A record after what comes first, nothing or a mark: the deeds and the site after both, over plain states.
-use Rattle.std.proofs.Common.{◌≡◌, inl, inr, ℕ, ◌++◌, Bool, List, [], ◌∷◌, Result, Ok, Err, refl, sym, subst}
+use Rattle.std.proofs.Common.{◌≡◌, ℕ, ◌++◌, Bool, List, [], ◌∷◌, Result, Ok, Err, refl, sym, subst}
 use Rattle.std.specs.Prelude.{OnOk}
 use Rattle.crash_plant.specs.declared.spot.Spot.{Spot}
 use Rattle.crash_plant.specs.Calls.{WorksOn}
 use Rattle.crash_plant.specs.Choices.{IsChoice}
 use Rattle.crash_plant.specs.Moments.{PlantState}
-use Rattle.crash_plant.proofs.Steps.{none_lent_then, works_on_more, works_on_trans}
+use Rattle.crash_plant.proofs.Steps.{none_lent_then}
 use Rattle.pair_table.specs.declared.row.PairRow.{PairRow}
 use Rattle.record_rows.specs.Deeds.{Deed, rows_after_deeds}
 use Rattle.record_rows.specs.Deeds.Deed.{Marked as MarkedDeed}
@@ -19,7 +19,7 @@ use Rattle.site_store.specs.declared.store_error.StoreError.{StoreError}
 use Rattle.site_store.specs.declared.placement.Placement.{Placement}
 use Rattle.site_store.specs.Marking.{MakesMark}
 use Rattle.site_store.specs.Recording.{ShowsRecord, group_with}
-use Rattle.site_store.specs.Records.{IsJournal, IsOfMark, IsOfRecord}
+use Rattle.site_store.specs.Records.{IsJournal}
 use Rattle.site_store.specs.InTurn.{DoesInTurn}
 use Rattle.site_store.specs.Sites.{SiteState}
 use Rattle.site_store.specs.Standing.{Leaves, SiteStands, none_excepted}
@@ -96,8 +96,3 @@ module _ (tells : Type 0) (first : List Deed) (site here : SiteState) (old mid n
     stands = λ told e stands. rows_stand e mid.journals placement cut items rows here new are ready.idle
         (put_stands cut placement here rows mid items ready tells deed (makes told e stands) told e (before.stands told e stands) (read told) new works ok here.since);
   })
-
--- ---- devices
-
-pub record_works : (tells : Type 0) (site : SiteState) (old mid new : PlantState) → WorksOn tells (IsOfMark site) old mid → WorksOn tells IsJournal mid new → WorksOn tells (IsOfRecord site) old new
-record_works tells site old mid new one two = works_on_trans tells (IsOfRecord site) old mid new (works_on_more tells (IsOfMark site) (IsOfRecord site) old mid (λ d is. inr is) one) (works_on_more tells IsJournal (IsOfRecord site) mid new (λ d is. inl is) two)

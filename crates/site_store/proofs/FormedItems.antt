@@ -20,7 +20,6 @@ use Rattle.image_former.specs.Forms.{AreItemsWhereAllowed}
 use Rattle.site_store.specs.Hits.{NextStates, is_row_in, pair_in, pairs_with_next, stays_row}
 use Rattle.site_store.specs.Logging.{IsOfSomeRow, is_entry_of_device, is_pair_item}
 use Rattle.site_store.specs.Standing.{row_has_volume}
-use Rattle.site_store.proofs.HitItems.{keep_both}
 use Rattle.site_store.proofs.LentJobs.{found_any, row_of_entry, slot_reach}
 
 -- ---- pairs
@@ -69,6 +68,13 @@ slot_there start rows entries below live device x has =
     let is : r.row.device ≡ device = eqb-true r.row.device device (ap (λ (o : Option PairRow). is_device device (row_device o)) (sym r.found) ∙ on.0) in
     and_from (nat_lt device start.volumes) (is_within (start.lengths (Volume device)) x) (lt-ltb device start.volumes (omega (arith, r.there, is)))
     (le-leb (512 + x * 57344 + 57344) (start.lengths (Volume device)) (omega (arith, slot_reach start rows entries below live device x has)))
+
+-- Items that keep them after whatever items keep them after these.
+pub keep_both : (form : Form) (earlier : Earlier) (xs ys : List Item) → are_items_after form earlier xs ≡ true → ((e : Earlier) → are_items_after form e ys ≡ true) → are_items_after form earlier (xs ++ ys) ≡ true
+keep_both form earlier [] ys first last = last earlier
+keep_both form earlier (x ∷ xs) ys first last =
+    let parts = and_parts (is_item form earlier x) (are_items_after form (earlier_after x earlier) xs) first in
+    and_from (is_item form earlier x) (are_items_after form (earlier_after x earlier) (xs ++ ys)) parts.0 (keep_both form (earlier_after x earlier) xs ys parts.1 last)
 
 -- The items of a formed record keep the rules on one record.
 pub formed_keep : (start : PlantState) (rows : List PairRow) (entries : List WaitingEntry) (next : NextStates) (images items : List Item) → list_all (row_has_volume start) rows ≡ true → All (IsOfSomeRow rows) entries → AreItemsWhereAllowed images

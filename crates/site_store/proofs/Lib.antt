@@ -2,6 +2,8 @@ pub mod Turning
 pub mod Contents
 pub mod Excepting
 pub mod Seeing
+mod PlanForms
+mod PlanEnds
 pub mod Points
 pub mod Composing
 pub mod Single
@@ -66,7 +68,6 @@ pub mod MeantRows
 pub mod RowsLogged
 pub mod RowRoom
 pub mod ComesFirst
-pub mod HitItems
 pub mod RowEnds
 pub mod SuspensionEnds
 pub mod ChangeEnds

@@ -1,16 +1,14 @@
 -- How a group's logging ends, by what its parts answer, over plain states.
-use Rattle.std.proofs.Common.{◌≡◌, ◌≢◌, inr, ℕ, ◌+◌, ◌*◌, ◌-◌, ◌^◌, ◌≤◌, ◌<◌, Bool, true, false, List, [], length, Ok, Err, Result, refl, sym, ap, subst, ◌∙◌, arith}
+use Rattle.std.proofs.Common.{◌≡◌, ◌≢◌, ℕ, ◌*◌, ◌-◌, ◌^◌, ◌≤◌, ◌<◌, Bool, true, false, List, [], length, Ok, Err, Result, refl, sym, ap, subst, ◌∙◌, arith}
 use Rattle.std.specs.Prelude.{IsErrOf, OnOk}
 use Rattle.std.specs.List.{All}
 use Rattle.ckd_track.specs.declared.layout.TheConstants.{WRITES_OF_RUN}
-use Rattle.crash_plant.specs.declared.device.Device.{Device}
-use Rattle.crash_plant.specs.declared.device.Device.TheVariants.{Journal, Volume}
+use Rattle.crash_plant.specs.declared.device.Device.TheVariants.{Volume}
 use Rattle.crash_plant.specs.declared.spot.Spot.{Spot}
 use Rattle.crash_plant.specs.Calls.{NoneLent, WorksOn}
 use Rattle.crash_plant.specs.Choices.{IsChoice}
 use Rattle.crash_plant.specs.Moments.{PlantState}
 use Rattle.applier.specs.Returns.{OnlyReads, WorksOnLent}
-use Rattle.applier.proofs.Works.{works_lent_more, works_lent_trans}
 use Rattle.pair_table.specs.declared.level.Level.{Level}
 use Rattle.pair_table.specs.declared.level.Level.TheVariants.{Volume as VolumeLevel}
 use Rattle.pair_table.specs.declared.row.PairRow.{PairRow}
@@ -26,21 +24,20 @@ use Rattle.site_store.specs.declared.store_error.StoreError.{StoreError}
 use Rattle.site_store.specs.declared.store_error.StoreError.TheVariants.{Spent}
 use Rattle.site_store.specs.declared.placement.Placement.{Placement}
 use Rattle.site_store.specs.declared.placement.Placement.TheVariants.{Marked as MarkedFirst}
-use Rattle.site_store.specs.Causes.{FailByCounts, HasStoreCause}
+use Rattle.site_store.specs.Causes.{FailByCounts}
 use Rattle.site_store.specs.Hits.{AreHits, with_group_and_hits}
 use Rattle.site_store.specs.Jobs.{body_room}
-use Rattle.site_store.specs.Logging.{FailByEntries, FormsRecord, HasEntryOn, IsOfLog, IsOfSomeRow, LogsBy, LogsGroup, MayLog, StaysUnwritten, rows_before, rows_logged}
+use Rattle.site_store.specs.Logging.{FailByEntries, FormsRecord, HasEntryOn, IsOfSomeRow, LogsBy, LogsGroup, MayLog, StaysUnwritten, rows_before, rows_logged}
 use Rattle.site_store.specs.Marking.{MakesMark, after_next_mark, rows_at_mark}
-use Rattle.site_store.specs.Recording.{HasRoomAfterSwitch, MayPutRecord, ShowsRecord, group_with}
+use Rattle.site_store.specs.Recording.{HasRoomAfterSwitch, ShowsRecord, group_with}
 use Rattle.site_store.specs.Records.{IsJournal, IsOfMark, after_mark, one_more}
 use Rattle.site_store.specs.Sites.{SiteState}
 use Rattle.site_store.specs.Standing.{FitsPlant, Leaves, MayRecord, SiteStands, none_excepted}
-use Rattle.site_store.specs.Placements.{is_spent, record_needs_more, placement_from}
-use Rattle.site_store.proofs.LogFails.{StoresQuiet, cause_then, fails_trans, quiet_ok, quiet_reads, spent_cause}
+use Rattle.site_store.specs.Placements.{is_spent, placement_from}
 use Rattle.site_store.proofs.LogForms.{FirstForm, HasPlace, fits_formed, formed_ready, formed_stands, forms_first, group_after_mark, logs_spent, marked_entries, marked_stage, plain_place, plain_stage}
-use Rattle.site_store.proofs.LogPut.{logged_site, may_put}
+use Rattle.site_store.proofs.LogPut.{logged_site}
 use Rattle.site_store.proofs.LogReads.{with_failed}
-use Rattle.site_store.proofs.LogStage.{IsGroupReady, PutStage, put_cause, put_failed, put_fails, put_leaves, put_logs, put_others}
+use Rattle.site_store.proofs.LogStage.{IsGroupReady, PutStage, put_leaves, put_logs}
 use Rattle.site_store.proofs.LogStart.{FormedBy, first_formed, first_rows, formed_short, marked_formed, marked_rows, placement_still}
 use Rattle.site_store.proofs.MarkFirst.{room_after_mark, suffice}
 use Rattle.site_store.proofs.MarkRows.{hits_alone}
@@ -50,41 +47,13 @@ use Rattle.site_store.proofs.RecordPuts.{on_ok}
 -- ---- a record put, from any stage
 
 module _ (tells : Type 0) (group : FormedGroup) (placement : Placement) (site last : SiteState) (after : List PairRow) (old plant new : PlantState) (items : List Item) (stage : PutStage tells group placement site last after old plant items)
-    (read : tells → IsChoice plant plant.clock plant.bytes) (works : WorksOn tells IsJournal plant new) (start : SiteState) (is : site ≡ start) where
-  -- The journal was marked at this spot, and the group has this time.
-  module _ (from : Spot) (cut : ℕ) (from_is : from ≡ last.mark.at) (cut_is : cut ≡ group.cut.0) where
-    shows_there : (result : Result (Unit {0}) StoreError) → ShowsRecord tells placement from last.at (group_with cut items) plant new result → ShowsRecord tells placement last.mark.at last.at (group_with group.cut.0 items) plant new result
-    shows_there result shows = subst (λ (n : ℕ). ShowsRecord tells placement last.mark.at last.at (group_with n items) plant new result) cut_is (subst (λ (s : Spot). ShowsRecord tells placement s last.at (group_with cut items) plant new result) from_is shows)
+    (read : tells → IsChoice plant plant.clock plant.bytes) (works : WorksOn tells IsJournal plant new) (next : SiteState) (next_is : next ≡ logged_site plant.journals placement group.cut.0 items after (one_more last.since) last)
+    (shows : ShowsRecord tells placement last.mark.at last.at (group_with group.cut.0 items) plant new (Ok tt)) where
+  pub end_logs : LogsBy tells group placement site next old new (Ok tt)
+  end_logs = subst (λ (n : SiteState). LogsBy tells group placement site n old new (Ok tt)) (sym next_is) (put_logs tells group placement site last after old plant new items stage read works shows)
 
-    pub end_fails : (next : SiteState) (error : StoreError) → next.failed ≡ last.failed → ShowsRecord tells placement from last.at (group_with cut items) plant new (Err error) → LogsBy tells group placement start next old new (Err error)
-    end_fails next error failed_is shows = subst (λ (s : SiteState). LogsBy tells group placement s next old new (Err error)) is (put_fails tells group placement site last after old plant new items stage read works next error failed_is (shows_there (Err error) shows))
-
-    pub end_logs : (next : SiteState) → next ≡ logged_site plant.journals placement group.cut.0 items after (one_more last.since) last → ShowsRecord tells placement from last.at (group_with cut items) plant new (Ok tt) → LogsBy tells group placement start next old new (Ok tt)
-    end_logs next next_is shows =
-        subst (λ (s : SiteState). LogsBy tells group placement s next old new (Ok tt)) is
-        (subst (λ (n : SiteState). LogsBy tells group placement site n old new (Ok tt)) (sym next_is) (put_logs tells group placement site last after old plant new items stage read works (shows_there (Ok tt) shows)))
-
-    pub end_leaves : (next : SiteState) → next ≡ logged_site plant.journals placement group.cut.0 items after (one_more last.since) last → ShowsRecord tells placement from last.at (group_with cut items) plant new (Ok tt) → Leaves tells (λ e. e) start next old new
-    end_leaves next next_is shows =
-        subst (λ (s : SiteState). Leaves tells (λ e. e) s next old new) is
-        (subst (λ (n : SiteState). Leaves tells (λ e. e) site n old new) (sym next_is) (put_leaves tells group placement site last after old plant new items stage read works (shows_there (Ok tt) shows)))
-
-  pub end_others : WorksOnLent tells (IsOfLog start group) old new
-  end_others = subst (λ (s : SiteState). WorksOnLent tells (IsOfLog s group) old new) is (put_others tells group placement site last after old plant new items stage read works)
-
-  pub end_failed : (next : SiteState) → next.failed ≡ last.failed → FailByCounts start.failed next.failed old.faults new.faults
-  end_failed next failed_is =
-      subst (λ (s : SiteState). FailByCounts s.failed next.failed old.faults new.faults) is
-      (subst (λ (f : List Bool). FailByCounts site.failed f old.faults new.faults) (sym failed_is) (put_failed tells group placement site last after old plant new items stage read works))
-
-  pub end_cause : (result : Result (Unit {0}) StoreError) → HasStoreCause plant.faults new.faults result → HasStoreCause old.faults new.faults result
-  end_cause result cause = put_cause tells group placement site last after old plant new items stage read works result cause
-
--- It may be put.
-pub end_may : (tells : Type 0) (group : FormedGroup) (placement : Placement) (last : SiteState) (after : List PairRow) (plant : PlantState) (items : List Item) (ready : IsGroupReady tells group placement last after plant items) (stands : tells → (e : Exceptions) × SiteStands e last plant)
-    (read : tells → IsChoice plant plant.clock plant.bytes) (size : tells → length (plant.bytes (Journal last.at.set)) ≡ plant.lengths (Journal last.at.set)) (from : Spot) (cut : ℕ) → from ≡ last.mark.at → cut ≡ group.cut.0 → MayPutRecord tells placement from last.at cut items plant
-end_may tells group placement last after plant items ready stands read size from cut from_is cut_is =
-    subst (λ (n : ℕ). MayPutRecord tells placement from last.at n items plant) (sym cut_is) (subst (λ (s : Spot). MayPutRecord tells placement s last.at group.cut.0 items plant) (sym from_is) (may_put group.cut.0 placement last after plant items ready.place tells stands read size))
+  pub end_leaves : Leaves tells (λ e. e) site next old new
+  end_leaves = subst (λ (n : SiteState). Leaves tells (λ e. e) site n old new) (sym next_is) (put_leaves tells group placement site last after old plant new items stage read works shows)
 
 -- ---- the record that was formed first
 
@@ -144,37 +113,14 @@ module _ (tells : Type 0) (group : FormedGroup) (site : SiteState) (old mid : Pl
   pub some_stands : tells → (e : Exceptions) × SiteStands e (with_failed failed site) mid
   some_stands told = let at = first.ready.fast.stands told in (at.0, stands_then told at.0 at.1)
 
-  pub set_there : site.at.set < mid.journals
-  set_there = fits_then.set
-
-  pub room_there : site.at.place + 24 ≤ mid.lengths (Journal site.at.set)
-  room_there = fits_then.room
-
   -- ---- the numbers don't suffice
 
-  pub spent_logged : (start next : SiteState) → site ≡ start → next.failed ≡ failed → is_spent placement site ≡ true → LogsGroup tells group start next old mid (Err Spent)
-  spent_logged start next is failed_is spent = subst (λ (s : SiteState). LogsGroup tells group s next old mid (Err Spent)) is (logs_spent tells group site next old mid failed first.works first.reads first.fails placement items spent first_form failed_is)
-
-  first_others : WorksOnLent tells (IsOfLog site group) old mid
-  first_others = works_lent_more tells _ (IsOfLog site group) old mid (λ d is. inr is) first.works
-
-  pub spent_others : (start : SiteState) → site ≡ start → WorksOnLent tells (IsOfLog start group) old mid
-  spent_others start is = subst (λ (s : SiteState). WorksOnLent tells (IsOfLog s group) old mid) is first_others
-
-  quiet_first : StoresQuiet old.faults mid.faults
-  quiet_first = quiet_reads tells (λ d. HasEntryOn site.table.rows group.entries d) old mid first.works
+  pub spent_logged : (next : SiteState) → next.failed ≡ failed → is_spent placement site ≡ true → LogsGroup tells group site next old mid (Err Spent)
+  spent_logged next failed_is spent = logs_spent tells group site next old mid failed first.works first.reads first.fails placement items spent first_form failed_is
 
   -- Nothing was written then, and what stood stands.
-  pub spent_stays : (start next : SiteState) → site ≡ start → next ≡ with_failed failed site → StaysUnwritten tells start next old mid
-  spent_stays start next is next_is =
-      subst (λ (s : SiteState). StaysUnwritten tells s next old mid) is
-      (subst (λ (n : SiteState). StaysUnwritten tells site n old mid) (sym next_is) (record { same = refl; reads = first.reads; leaves = record { fits = fits_then; stands = stands_then } }))
-
-  pub spent_causes : HasStoreCause old.faults mid.faults (Err Spent)
-  spent_causes = spent_cause old.faults mid.faults quiet_first
-
-  pub spent_failed : (start next : SiteState) → site ≡ start → next.failed ≡ failed → FailByCounts start.failed next.failed old.faults mid.faults
-  spent_failed start next is failed_is = subst (λ (s : SiteState). FailByCounts s.failed next.failed old.faults mid.faults) is (subst (λ (f : List Bool). FailByCounts site.failed f old.faults mid.faults) (sym failed_is) first.fails)
+  pub spent_stays : (next : SiteState) → next ≡ with_failed failed site → StaysUnwritten tells site next old mid
+  spent_stays next next_is = subst (λ (n : SiteState). StaysUnwritten tells site n old mid) (sym next_is) (record { same = refl; reads = first.reads; leaves = record { fits = fits_then; stands = stands_then } })
 
   -- ---- after a mark
 
@@ -184,43 +130,19 @@ module _ (tells : Type 0) (group : FormedGroup) (site : SiteState) (old mid : Pl
   pub mark_may : (now : SiteState) → now ≡ with_failed failed site → MayLog now group
   mark_may now is = subst (λ (s : SiteState). MayLog s group) (sym is) (record { controls = first.may.controls; entries = first.may.entries; cut = first.may.cut })
 
-  module _ (start next now : SiteState) (new : PlantState) (result : Result (Unit {0}) StoreError) (is : site ≡ start) (now_is : now ≡ with_failed failed site) where
-    pub logged_after_mark : placement ≡ MarkedFirst → is_spent placement site ≡ false → LogsBy tells group MarkedFirst now next mid new result → FailByCounts now.failed next.failed mid.faults new.faults → ¬ IsErrOf result Spent → LogsGroup tells group start next old new result
+  module _ (next now : SiteState) (new : PlantState) (result : Result (Unit {0}) StoreError) (now_is : now ≡ with_failed failed site) where
+    pub logged_after_mark : placement ≡ MarkedFirst → is_spent placement site ≡ false → LogsBy tells group MarkedFirst now next mid new result → FailByCounts now.failed next.failed mid.faults new.faults → ¬ IsErrOf result Spent → LogsGroup tells group site next old new result
     logged_after_mark placement_is enough logs fails unspent =
-        subst (λ (s : SiteState). LogsGroup tells group s next old new result) is
-        (group_after_mark tells group site next old mid failed first.works first.reads first.fails new result stands_then (subst (λ (s : SiteState). LogsBy tells group MarkedFirst s next mid new result) now_is logs)
-        (subst (λ (s : SiteState). FailByCounts s.failed next.failed mid.faults new.faults) now_is fails) items (subst (λ (w : Placement). FirstForm tells group site old w failed items) placement_is first_form) (subst (λ (w : Placement). is_spent w site ≡ false) placement_is enough) unspent)
+        group_after_mark tells group site next old mid failed first.works first.reads first.fails new result stands_then (subst (λ (s : SiteState). LogsBy tells group MarkedFirst s next mid new result) now_is logs)
+        (subst (λ (s : SiteState). FailByCounts s.failed next.failed mid.faults new.faults) now_is fails) items (subst (λ (w : Placement). FirstForm tells group site old w failed items) placement_is first_form) (subst (λ (w : Placement). is_spent w site ≡ false) placement_is enough) unspent
 
-    leaves_then : Leaves tells (λ e. e) now next mid new → Leaves tells (λ e. e) start next old new
+    leaves_then : Leaves tells (λ e. e) now next mid new → Leaves tells (λ e. e) site next old new
     leaves_then leaves =
         let here : Leaves tells (λ e. e) (with_failed failed site) next mid new = subst (λ (s : SiteState). Leaves tells (λ e. e) s next mid new) now_is leaves in
-        subst (λ (s : SiteState). Leaves tells (λ e. e) s next old new) is (record { fits = here.fits; stands = λ told e stood. here.stands told e (stands_then told e stood) })
+        record { fits = here.fits; stands = λ told e stood. here.stands told e (stands_then told e stood) }
 
-    pub after_leaves : OnOk result (Leaves tells (λ e. e) now next mid new) → OnOk result (Leaves tells (λ e. e) start next old new)
+    pub after_leaves : OnOk result (Leaves tells (λ e. e) now next mid new) → OnOk result (Leaves tells (λ e. e) site next old new)
     after_leaves = on_ok result leaves_then
-
-    pub after_others : WorksOnLent tells (IsOfLog now group) mid new → WorksOnLent tells (IsOfLog start group) old new
-    after_others works =
-        subst (λ (s : SiteState). WorksOnLent tells (IsOfLog s group) old new) is
-        (works_lent_trans tells (IsOfLog site group) old mid new first_others (works_lent_more tells (IsOfLog (with_failed failed site) group) (IsOfLog site group) mid new of_site (subst (λ (s : SiteState). WorksOnLent tells (IsOfLog s group) mid new) now_is works)))
-      where
-        of_site : (d : Device) → IsOfLog (with_failed failed site) group d → IsOfLog site group d
-        of_site d among = among
-
-    pub after_cause : HasStoreCause mid.faults new.faults result → HasStoreCause old.faults new.faults result
-    after_cause cause = cause_then old.faults mid.faults new.faults result quiet_first cause
-
-    pub after_failed : FailByCounts now.failed next.failed mid.faults new.faults → FailByCounts start.failed next.failed old.faults new.faults
-    after_failed fails =
-        subst (λ (s : SiteState). FailByCounts s.failed next.failed old.faults new.faults) is
-        (fails_trans site.failed failed next.failed old.faults mid.faults new.faults first.fails (subst (λ (s : SiteState). FailByCounts s.failed next.failed mid.faults new.faults) now_is fails))
-
-  -- The numbers of a mark and of a record after a switch suffice.
-  pub mark_number : placement ≡ MarkedFirst → is_spent placement site ≡ false → site.mark.number < 2 ^ 64 - 2
-  mark_number placement_is enough = (suffice site.at.number site.mark.number fits_then.mark.most (subst (λ (w : Placement). record_needs_more w site.at.number site.mark.number ≡ false) placement_is enough)).mark_is
-
-  pub next_number : placement ≡ MarkedFirst → is_spent placement site ≡ false → site.at.number < 2 ^ 64 - 2
-  next_number placement_is enough = let low = (suffice site.at.number site.mark.number fits_then.mark.most (subst (λ (w : Placement). record_needs_more w site.at.number site.mark.number ≡ false) placement_is enough)).next_is in omega (arith, low)
 
   -- ---- without a mark
 
@@ -234,10 +156,8 @@ module _ (tells : Type 0) (group : FormedGroup) (site : SiteState) (old mid : Pl
     plain_put = plain_stage tells group placement site old mid failed items plain first.works first.reads first.fails first.by_entries plain_ready stands_then
 
     -- The group is logged as the parts say.
-    pub plain_group : (start next : SiteState) (new : PlantState) (result : Result (Unit {0}) StoreError) → site ≡ start → ¬ IsErrOf result Spent → FailByCounts failed next.failed mid.faults new.faults → (placement ≢ MarkedFirst → OnOk result (next.waiting ≡ items))
-        → LogsBy tells group placement start next old new result → LogsGroup tells group start next old new result
-    plain_group start next new result is unspent fails here logs = subst (λ (s : SiteState). LogsBy tells group placement s next old new result → LogsGroup tells group s next old new result) is
-        (λ by. record { placement = placement; first = forms_first tells group placement site next old mid new failed items result first_form enough unspent first.fails fails here; logs = by; early_has = λ marked. absurd (plain marked) }) logs
+    pub plain_group : (next : SiteState) (new : PlantState) (result : Result (Unit {0}) StoreError) → ¬ IsErrOf result Spent → FailByCounts failed next.failed mid.faults new.faults → (placement ≢ MarkedFirst → OnOk result (next.waiting ≡ items)) → LogsBy tells group placement site next old new result → LogsGroup tells group site next old new result
+    plain_group next new result unspent fails here by = record { placement = placement; first = forms_first tells group placement site next old mid new failed items result first_form enough unspent first.fails fails here; logs = by; early_has = λ marked. absurd (plain marked) }
 
 -- ---- after a mark that was made first
 
@@ -247,18 +167,16 @@ pub record MadeMark (tells : Type 0) (site marked_site : SiteState) (old marked 
   pub leaves : Leaves tells (λ e. none_excepted) site marked_site old marked
   pub makes : MakesMark tells site.mark.ended (rows_before MarkedFirst site marked_site.failed) site marked_site old marked (Ok tt)
   pub works : WorksOn tells (IsOfMark site) old marked
-  pub quiet : StoresQuiet old.faults marked.faults
   pub fails : FailByCounts site.failed marked_site.failed old.faults marked.faults
 
 -- So it is where no change waits to be logged: the mark's rows tell the hits alone.
 pub made_mark : (tells : Type 0) (site marked_site : SiteState) (old marked : PlantState) → site.is_ahead ≡ false → marked_site ≡ after_next_mark site.mark.ended (rows_at_mark VolumeLevel site marked_site.failed) marked_site.failed site → Leaves tells (λ e. none_excepted) site marked_site old marked
-    → MakesMark tells site.mark.ended (rows_at_mark VolumeLevel site marked_site.failed) site marked_site old marked (Ok tt) → WorksOn tells (IsOfMark site) old marked → HasStoreCause old.faults marked.faults (Ok tt) → FailByCounts site.failed marked_site.failed old.faults marked.faults → MadeMark tells site marked_site old marked
-made_mark tells site marked_site old marked level is leaves makes works cause fails = record {
+    → MakesMark tells site.mark.ended (rows_at_mark VolumeLevel site marked_site.failed) site marked_site old marked (Ok tt) → WorksOn tells (IsOfMark site) old marked → FailByCounts site.failed marked_site.failed old.faults marked.faults → MadeMark tells site marked_site old marked
+made_mark tells site marked_site old marked level is leaves makes works fails = record {
   is = is ∙ after_level site.mark.ended (rows_at_mark VolumeLevel site marked_site.failed) marked_site.failed site level ∙ ap (λ (rows : List PairRow). after_mark site.mark.ended rows marked_site.failed site) (hits_alone site.time marked_site.failed site.told);
   leaves = leaves;
   makes = makes_alone tells site.mark.ended marked_site.failed site marked_site old marked (Ok tt) makes;
   works = works;
-  quiet = quiet_ok old.faults marked.faults cause;
   fails = fails;
 }
 
@@ -293,7 +211,7 @@ module _ (tells : Type 0) (group : FormedGroup) (site marked_site : SiteState) (
       subst (λ (s : SiteState). All (IsOfSomeRow s.table.rows) group.entries) (sym mark.is)
       (marked_entries (hit_now marked_site.failed site.told) site.time site.told group.entries (subst (λ (rows : List PairRow). All (IsOfSomeRow rows) group.entries) (sym told_is) may.entries))
 
-  pub after_few : group.controls ≤ marked_site.controls
+  after_few : group.controls ≤ marked_site.controls
   after_few = omega (arith, may.controls, ap (λ (s : SiteState). s.controls) mark.is)
 
   module _ (last : PlantState) (held now : BodyState) (due was failed : List Bool) (hits : Hits) (forms : FormsRecord tells group marked_site.table.rows marked held now due failed hits) (are : AreHits marked_site.level group.cut failed (hit_now marked_site.failed site.told) marked_site.table.rows hits) where
@@ -343,9 +261,6 @@ module _ (tells : Type 0) (group : FormedGroup) (site marked_site : SiteState) (
   pub last_stands : tells → (e : Exceptions) × SiteStands e (with_failed failed marked_site) last
   last_stands told = let at = b.stands told in (none_excepted, stands_last told none_excepted (b.mark.leaves.stands told at.0 at.1))
 
-  pub last_set : marked_site.at.set < last.journals
-  last_set = fits_last.set
-
   mark_there : marked_site.mark.at ≡ marked_site.at
   mark_there = ap (λ (s : SiteState). s.mark.at) b.mark.is ∙ sym (ap (λ (s : SiteState). s.at) b.mark.is)
 
@@ -370,4 +285,4 @@ module _ (tells : Type 0) (group : FormedGroup) (site marked_site : SiteState) (
 
   pub last_put : PutStage tells group MarkedFirst site (with_failed failed marked_site) (rows_after group site marked_site failed) old last items
   last_put =
-      marked_stage tells group site marked_site.failed old marked marked_site (Ok tt) b.idle b.mark.makes b.mark.works b.mark.fails last refl b.told_is failed items (rows_after group site marked_site failed) b.mark.is b.mark.leaves b.mark.quiet b.works b.reads b.fails b.by_entries after_logged last_ready stands_last
+      marked_stage tells group site marked_site.failed old marked marked_site (Ok tt) b.idle b.mark.makes b.mark.works b.mark.fails last refl b.told_is failed items (rows_after group site marked_site failed) b.mark.is b.mark.leaves b.works b.reads b.fails b.by_entries after_logged last_ready stands_last

@@ -44,7 +44,7 @@ use Rattle.site_store.specs.Records.{IsOfMark, after_mark, after_record, after_p
 use Rattle.site_store.specs.Sites.{SiteState}
 use Rattle.site_store.specs.Standing.{FitsPlant, HasLengths, Leaves, SiteStands, none_excepted, row_has_volume}
 use Rattle.site_store.specs.Placements.{is_spent, most, record_has_room, record_needs_more, placement_from, placement_of}
-use Rattle.site_store.proofs.LogFails.{StoresQuiet, fails_between, fails_trans, quiet_reads, quiet_trans, stays_failed, was_good}
+use Rattle.site_store.proofs.LogFails.{fails_between, stays_failed, was_good}
 use Rattle.site_store.proofs.LogContent.{group_leaves, items_lead, logged_means}
 use Rattle.site_store.proofs.LogPut.{logged_site}
 use Rattle.site_store.proofs.LogReads.{fits_failed, fits_still, items_still, rows_still, stands_read, with_failed}
@@ -172,8 +172,6 @@ module _ (tells : Type 0) (group : FormedGroup) (placement : Placement) (site : 
     first = [];
     before = reads_first;
     deeds_are = plain_deeds placement site group failed failed plain;
-    fails = fails;
-    quiet = quiet_reads tells (λ d. HasEntryOn site.table.rows group.entries d) old mid works;
     works = works_lent_more tells _ (IsOfLog site group) old mid (λ d is. inr is) works;
   }
 
@@ -197,6 +195,12 @@ marked_row_device head hit time (r ∷ rows) = by_among (is_among r.device hit) 
 has_on_still : (hit : List ℕ) (time : ℕ) (rows : List PairRow) (entries : List WaitingEntry) (d : ℕ) → list_any (is_entry_of_device (rows_marked time hit rows) d) entries ≡ list_any (is_entry_of_device rows d) entries
 has_on_still hit time rows [] d = refl
 has_on_still hit time rows (e ∷ entries) d = λ i. is_device d (marked_row_device e.head hit time rows i) || has_on_still hit time rows entries d i
+
+-- What has an entry after a mark has it before.
+pub entry_before : (early : List Bool) (site marked_site : SiteState) (entries : List WaitingEntry) → site.told ≡ site.table.rows → marked_site ≡ after_mark site.mark.ended (rows_before MarkedFirst site early) early site → (d : ℕ) → HasEntryOn marked_site.table.rows entries d → HasEntryOn site.table.rows entries d
+entry_before early site marked_site entries told_is is d has =
+    ap (λ (rows : List PairRow). list_any (is_entry_of_device rows d) entries) (sym told_is) ∙ sym (has_on_still (hit_now early site.told) site.time site.told entries d)
+    ∙ sym (ap (λ (s : SiteState). list_any (is_entry_of_device s.table.rows d) entries) is) ∙ has
 
 -- A mark leaves the cylinders of an entry's row.
 marked_row_within : (head : EntryHead) (hit : List ℕ) (time : ℕ) (rows : List PairRow) → IsSomeAnd (find (is_row_of head) rows) (λ row. head.track < row.cylinders * 15) → IsSomeAnd (find (is_row_of head) (rows_marked time hit rows)) (λ row. head.track < row.cylinders * 15)
@@ -253,7 +257,7 @@ module _ (tells : Type 0) (group : FormedGroup) (site : SiteState) (early : List
 
     -- The mark was made, and the record formed after it.
     module _ (last : PlantState) (made : result ≡ Ok tt) (told_is : site.told ≡ site.table.rows) (failed_last : List Bool) (items_last : List Item) (after : List PairRow)
-        (is : marked_site ≡ after_mark site.mark.ended mark_rows early site) (leaves : Leaves tells (λ e. none_excepted) site marked_site old marked) (quiet_mark : StoresQuiet old.faults marked.faults)
+        (is : marked_site ≡ after_mark site.mark.ended mark_rows early site) (leaves : Leaves tells (λ e. none_excepted) site marked_site old marked)
         (works_last : WorksOnLent tells (λ device. (d : ℕ) × (device ≡ Volume d) × HasEntryOn marked_site.table.rows group.entries d) marked last) (reads_last : OnlyReads tells marked last) (fails_last : FailByCounts early failed_last marked.faults last.faults)
         (enters_last : FailByEntries marked_site.table.rows group.entries early failed_last)
         (after_is : after ≡ rows_logged MarkedFirst site group early failed_last) (ready : IsGroupReady tells group MarkedFirst (with_failed failed_last marked_site) after last items_last)
@@ -278,9 +282,7 @@ module _ (tells : Type 0) (group : FormedGroup) (site : SiteState) (early : List
       }
 
       has_entry : (d : ℕ) → HasEntryOn marked_site.table.rows group.entries d → HasEntryOn site.table.rows group.entries d
-      has_entry d has =
-          ap (λ (rows : List PairRow). list_any (is_entry_of_device rows d) group.entries) (sym told_is) ∙ sym (has_on_still (hit_now early site.told) site.time site.told group.entries d)
-          ∙ sym (ap (λ (s : SiteState). list_any (is_entry_of_device s.table.rows d) group.entries) is) ∙ has
+      has_entry = entry_before early site marked_site group.entries told_is is
 
       pub marked_stage : PutStage tells group MarkedFirst site (with_failed failed_last marked_site) after old last items_last
       marked_stage = record {
@@ -298,8 +300,6 @@ module _ (tells : Type 0) (group : FormedGroup) (site : SiteState) (early : List
         first = mark_deed ∷ [];
         before = mark_comes;
         deeds_are = ap (λ (rows : List PairRow). mark_deed ∷ Logged group.cut.0 group.entries rows ∷ []) after_is;
-        fails = fails_trans site.failed early failed_last old.faults marked.faults last.faults fails_mark fails_last;
-        quiet = quiet_trans old.faults marked.faults last.faults quiet_mark (quiet_reads tells (λ d. HasEntryOn marked_site.table.rows group.entries d) marked last works_last);
         works = works_lent_trans tells (IsOfLog site group) old marked last marked_works (works_lent_more tells _ (IsOfLog site group) marked last (λ d is. inr (is.0, is.1, has_entry is.0 is.2)) works_last);
       }
 

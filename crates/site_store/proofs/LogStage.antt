@@ -1,11 +1,11 @@
 -- What is known of a group before its record is put, and what follows once it was put or failed.
-use Rattle.std.proofs.Common.{◌≡◌, inl, ℕ, ◌++◌, Bool, List, [], ◌∷◌, Ok, Err, Result, sym, ap, subst, ◌∙◌}
+use Rattle.std.proofs.Common.{◌≡◌, ℕ, ◌++◌, Bool, List, [], ◌∷◌, Ok, Err, Result, sym, ap, subst, ◌∙◌}
 use Rattle.crash_plant.specs.declared.device.Device.TheVariants.{Volume}
 use Rattle.crash_plant.specs.Calls.{SameSite, WorksOn}
 use Rattle.crash_plant.specs.Choices.{IsChoice}
 use Rattle.crash_plant.specs.Moments.{PlantState}
 use Rattle.applier.specs.Returns.{WorksOnLent}
-use Rattle.applier.proofs.Works.{lent_of_works, none_lent_lent, works_lent_more, works_lent_trans}
+use Rattle.applier.proofs.Works.{lent_of_works, none_lent_lent}
 use Rattle.pair_table.specs.declared.row.PairRow.{PairRow}
 use Rattle.pending_queue.specs.Groups.{FormedGroup}
 use Rattle.xrc_journal.specs.Items.{Item}
@@ -13,7 +13,6 @@ use Rattle.record_rows.specs.Deeds.{Deed}
 use Rattle.record_rows.specs.Deeds.Deed.{Logged}
 use Rattle.site_store.specs.declared.store_error.StoreError.{StoreError}
 use Rattle.site_store.specs.declared.placement.Placement.{Placement}
-use Rattle.site_store.specs.Causes.{FailByCounts, HasStoreCause}
 use Rattle.site_store.specs.InTurn.{DoesInTurn}
 use Rattle.site_store.specs.Logging.{AreItemsOf, DoesLog, FailByEntries, FailedBetween, IsOfLog, LogsBy, failed_before, log_deeds, rows_before, rows_logged}
 use Rattle.site_store.specs.Recording.{ShowsRecord, group_with}
@@ -21,7 +20,6 @@ use Rattle.site_store.specs.Records.{IsJournal, after_record, after_placement, o
 use Rattle.site_store.specs.Sites.{SiteState}
 use Rattle.site_store.specs.Standing.{Leaves}
 use Rattle.site_store.proofs.ComesFirst.{ComesFirst, record_do}
-use Rattle.site_store.proofs.LogFails.{StoresQuiet, cause_then, fails_still, none_by_journals}
 use Rattle.site_store.proofs.LogPut.{IsReady, MakesDeed, fits_logged, logged_site, put_stands}
 use Rattle.site_store.proofs.LogReads.{items_still}
 pub use Rattle.site_store.proofs.RecordStands.{stands_more}
@@ -48,8 +46,6 @@ pub record PutStage (tells : Type 0) (group : FormedGroup) (placement : Placemen
   pub first : List Deed
   pub before : ComesFirst tells first site last old plant
   pub deeds_are : first ++ Logged group.cut.0 group.entries after ∷ [] ≡ log_deeds placement site group early last.failed
-  pub fails : FailByCounts site.failed last.failed old.faults plant.faults
-  pub quiet : StoresQuiet old.faults plant.faults
   pub works : WorksOnLent tells (IsOfLog site group) old plant
 
 module _ (tells : Type 0) (group : FormedGroup) (placement : Placement) (site last : SiteState) (after : List PairRow) (old plant new : PlantState) (items : List Item) (stage : PutStage tells group placement site last after old plant items)
@@ -68,15 +64,6 @@ module _ (tells : Type 0) (group : FormedGroup) (placement : Placement) (site la
     next_is = tt;
     does = subst (λ (f : List Bool). DoesInTurn tells (log_deeds placement site group stage.early f) site old new (Err error)) (sym is) (does_by (Err error) shows);
   }
-
-  pub put_others : WorksOnLent tells (IsOfLog site group) old new
-  put_others = works_lent_trans tells (IsOfLog site group) old plant new stage.works (works_lent_more tells IsJournal (IsOfLog site group) plant new (λ d is. inl (inl is)) (lent_of_works tells IsJournal plant new works))
-
-  pub put_cause : (result : Result (Unit {0}) StoreError) → HasStoreCause plant.faults new.faults result → HasStoreCause old.faults new.faults result
-  put_cause result cause = cause_then old.faults plant.faults new.faults result stage.quiet cause
-
-  pub put_failed : FailByCounts site.failed last.failed old.faults new.faults
-  put_failed = fails_still site.failed last.failed old.faults plant.faults new.faults stage.fails (none_by_journals tells plant new works)
 
   -- Once it was put, the group is logged.
   module _ (shows : ShowsRecord tells placement last.mark.at last.at (group_with group.cut.0 items) plant new (Ok tt)) where

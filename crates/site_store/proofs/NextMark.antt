@@ -1,6 +1,5 @@
 -- The site after the next mark, and the table whose rows it tells, by whether a change waits to be logged; over plain states.
-use Rattle.std.proofs.Common.{◌≡◌, Bool, true, false, cond, List, [], length, replicate, Ok, Err, Result, refl, ap, subst, ◌∙◌}
-use Rattle.std.specs.Prelude.{IsErrOf, OnOk}
+use Rattle.std.proofs.Common.{◌≡◌, Bool, true, false, cond, List, [], length, replicate, Result, refl, subst, ◌∙◌}
 use Rattle.std.specs.List.{list_all}
 use Rattle.control_set.specs.declared.value.Mark.{Mark}
 use Rattle.crash_plant.specs.Moments.{PlantState}
@@ -9,7 +8,7 @@ use Rattle.pair_table.specs.declared.row.PairRow.{PairRow}
 use Rattle.pair_table.specs.Tables.{Table, with_rows}
 use Rattle.record_rows.specs.Hits.{hit_now, rows_marked}
 use Rattle.site_store.specs.declared.store_error.StoreError.{StoreError}
-use Rattle.site_store.specs.Marking.{MakesMark, after_next_mark, rows_at_mark, unit_of}
+use Rattle.site_store.specs.Marking.{MakesMark, after_next_mark, rows_at_mark}
 use Rattle.site_store.specs.Records.{after_mark}
 use Rattle.site_store.specs.Sites.{SiteState, next_mark}
 use Rattle.site_store.specs.Standing.{row_has_volume}
@@ -60,13 +59,3 @@ module _ (table : Table) (rows : List PairRow) where
 pub makes_alone : (tells : Type 0) (ended : Bool) (failed : List Bool) (site next : SiteState) (old new : PlantState) (result : Result (Unit {0}) StoreError) → MakesMark tells ended (rows_at_mark VolumeLevel site failed) site next old new result
     → MakesMark tells ended (rows_marked site.time (hit_now failed site.told) site.told) site next old new result
 makes_alone tells ended failed site next old new result makes = subst (λ (rows : List PairRow). MakesMark tells ended rows site next old new result) (hits_alone site.time failed site.told) makes
-
--- ---- an answer without its value
-
-pub unit_ok : {T : Type 0} (A : Type 0) (result : Result T StoreError) → OnOk result A → OnOk (unit_of result) A
-unit_ok A (Ok value) is = is
-unit_ok A (Err error) is = tt
-
-pub unit_not : {T : Type 0} (result : Result T StoreError) (error : StoreError) → ¬ IsErrOf result error → ¬ IsErrOf (unit_of result) error
-unit_not (Ok value) error not is = absurd (cc is)
-unit_not (Err e) error not is = let same : e ≡ error = cc is in not (ap (λ (x : StoreError). Err x) same)

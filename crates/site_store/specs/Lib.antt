@@ -24,5 +24,6 @@ pub mod RowRecords
 pub mod Sites
 pub mod Standing
 pub mod Placements
+pub mod Plans
 pub mod Syncing
 pub mod Waiting

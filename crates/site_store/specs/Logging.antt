@@ -74,14 +74,14 @@ FailByEntries rows entries old new = (d : ℕ) → IsTrue (is_down new d) → Is
 abbrev pub IsOfLog : SiteState → FormedGroup → Device → Type 0
 IsOfLog site group device = IsOfRecord site device ⊎ IsOfEntries site.table.rows group.entries device
 
--- A group's record may be formed: no volume is lent, each has its job and its flag, and each entry has its row, on a volume of the plant.
-pub record MayForm {V : Type 0} (group : FormedGroup) (rows : List PairRow) (jobs : List (VolumeJob V)) (due : List Bool) (plant : PlantState) : Type 0 where
+-- A record with these entries may be formed: no volume is lent, each has its job and its flag, and each entry has its row, on a volume of the plant.
+pub record MayForm {V : Type 0} (of : List WaitingEntry) (rows : List PairRow) (jobs : List (VolumeJob V)) (due : List Bool) (plant : PlantState) : Type 0 where
   pub home : NoneLent plant
   pub volumes : length jobs ≡ plant.volumes
   pub few : plant.volumes ≤ MOST_SITE_VOLUMES
   pub idle : are_home_from 0 jobs ≡ true
   pub have : list_all (row_has_volume plant) rows ≡ true
-  pub entries : All (IsOfSomeRow rows) group.entries
+  pub entries : All (IsOfSomeRow rows) of
   pub flags : length due ≡ length jobs
 
 -- ---- the items

@@ -1,5 +1,5 @@
 -- A site as its callers see it.
-use Rattle.std.specs.Prelude.{ℕ, ◌+◌, ◌-◌, List, [], replicate, Bool, false, slice_index_or}
+use Rattle.std.specs.Prelude.{ℕ, ◌+◌, ◌-◌, List, [], replicate, Bool, false, nat_le, slice_index_or}
 use Rattle.tod_stamp.specs.declared.stamp.Stamp.{Stamp}
 use Rattle.crash_plant.specs.declared.spot.Spot.{Spot}
 use Rattle.control_set.specs.declared.value.Mark.{Mark}
@@ -42,6 +42,10 @@ has_failed site device = slice_index_or site.failed device false
 -- whether a volume was written since the mark
 abbrev pub is_written : SiteState → (device : ℕ) → Bool
 is_written site device = slice_index_or site.written device false
+
+-- whether a mark is due: a group was logged since the last one
+abbrev pub is_mark_due : SiteState → Bool
+is_mark_due site = nat_le 1 site.since
 
 -- what the devices are to mean for the site
 abbrev pub meant_for : SiteState → Means

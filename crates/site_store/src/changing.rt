@@ -1,29 +1,24 @@
 //! A record of rows: those that a command's change names, and after them the hits of failed jobs; or hits alone.
 
-ghost use Rattle.std.specs.Prelude.{◌≡◌, ◌≢◌, ◌≤◌, ◌+◌, ◌*◌, ◌++◌, true, false, length, map, OnOk, IsErrOf, IsTrue};
+ghost use Rattle.std.specs.Prelude.{◌≡◌, ◌≤◌, ◌+◌, ◌*◌, ◌++◌, [], length, map, OnOk, IsErrOf, IsTrue};
 ghost use Rattle.xrc_journal.specs.declared.layout.TheConstants.{ROW_ITEM};
 ghost use Rattle.pair_table.specs.declared.limits.TheConstants.{MOST_ROWS};
 ghost use Rattle.xrc_edge.specs.declared.limits.TheConstants.{MOST_SITE_VOLUMES};
 ghost use Rattle.applier.specs.Returns.{WorksOnLent};
-ghost use Rattle.crash_plant.specs.Calls.{Silent, WorksOn};
+ghost use Rattle.crash_plant.specs.Calls.{Silent};
 ghost use Rattle.xrc_journal.specs.Items.{body_spelling};
 ghost use Rattle.site_store.specs.declared.store_error.StoreError.TheVariants.{Spent};
-ghost use Rattle.site_store.specs.declared.placement.Placement.TheVariants.{Marked};
 ghost use Rattle.site_store.specs.Causes.{FailByCounts, HasStoreCause};
-ghost use Rattle.site_store.specs.Changing.{DoesChange, FormsChange, IsAfterChange, LogsChange, MayChange, change_deeds, changed_items, gone_of, named_devices, pairs_of};
-ghost use Rattle.site_store.specs.InTurn.{DoesInTurn};
-ghost use Rattle.site_store.specs.RowRecords.{LogsRecord, MayLogRows, has_items, names_rows, rows_need_more};
-ghost use Rattle.pair_table.specs.Tables.{AreRowsSound, are_below, with_rows};
-ghost use Rattle.record_rows.specs.Records.{rows_with_hits};
+ghost use Rattle.site_store.specs.Changing.{DoesChange, FormsChange, LogsChange, MayChange, changed_items, gone_of, named_devices, pairs_of};
+ghost use Rattle.site_store.specs.Hits.{AreHits};
+ghost use Rattle.site_store.specs.RowRecords.{has_items, names_rows};
+ghost use Rattle.pair_table.specs.Tables.{AreRowsSound, are_below};
 ghost use Rattle.site_store.specs.Jobs.{has_job_failed};
-ghost use Rattle.site_store.specs.Marking.{unit_of};
 ghost use Rattle.site_store.specs.Records.{IsOfRecord, VolumesStay};
 ghost use Rattle.site_store.specs.Standing.{Leaves};
-ghost use Rattle.site_store.specs.Placements.{is_spent};
 
-use crate::hits::{HitDevices, hits_at, put_hits, take_hits};
-use crate::placement::{Placement, placement_from, record_needs_more, suspension_needs_more};
-use crate::recording::put_record;
+use crate::hits::{Hits, hits_at, put_hits};
+use crate::plan::Plan;
 use crate::{Site, StoreError};
 use crash_plant::Plant;
 use pair_table::{Change, Level, PairTable};
@@ -43,7 +38,7 @@ fn has_row(table: &PairTable, devices: &[u16]) -> bool
 }
 
 /// Whether a change names a row, as the rows stand in the table, or a device whose row goes.
-fn names_rows(table: &PairTable, change: &Change) -> bool
+pub(crate) fn names_rows(table: &PairTable, change: &Change) -> bool
     ensures { result ≡ names_rows change.now table.now.rows }
 {
     match change {
@@ -51,18 +46,6 @@ fn names_rows(table: &PairTable, change: &Change) -> bool
         Change::Added(device) | Change::Resumed(device) => has_row(table, &[*device]),
         Change::Gone(devices) => !devices.is_empty(),
         Change::Suspended(devices) => has_row(table, devices.as_slice()),
-    }
-}
-
-/// Whether a record of rows that is placed so would need a number after the greatest. If a mark has to come first, hits alone need
-/// no record: it doesn't follow.
-fn rows_need_more(follows: bool, placement: Placement, next: u64, mark: u64) -> bool
-    ensures { result ≡ rows_need_more follows placement next mark }
-{
-    if follows {
-        record_needs_more(placement, next, mark)
-    } else {
-        suspension_needs_more(placement, next, mark)
     }
 }
 
@@ -108,118 +91,29 @@ fn take_change(body: &mut Body, table: &PairTable, change: &Change)
 }
 
 /// Forms a record of rows: those that a change names as they stand in the table, and after them those that failed jobs suspend.
-/// Tells whether the change names a row.
-fn form_change<V>(
+pub(crate) fn form_change<V>(
     body: &mut Body,
     table: &PairTable,
     jobs: &[VolumeJob<V>],
     level: Level,
     cut: Stamp,
     change: &Change,
-) -> bool
+) -> Hits
     requires below { IsTrue (are_below (length jobs.now) table.now.rows) }
     requires few { length jobs.now ≤ MOST_SITE_VOLUMES }
     requires room { named_devices change.now * ROW_ITEM + MOST_ROWS * ROW_ITEM ≤ body.old.room }
-    ensures names { result ≡ names_rows change.now table.now.rows }
     ensures forms { FormsChange level cut (map has_job_failed jobs.now) change.now table.now.rows body.old body.new }
+    ensures hits { AreHits level cut (map has_job_failed jobs.now) [] table.now.rows result }
 {
     let hits = hits_at(jobs, table, level, cut);
     take_change(body, table, change);
-    let is_empty = body.bytes().is_empty();
     put_hits(body, table, &hits);
-    !is_empty
-}
-
-/// An answer without its value.
-fn without_value(answer: Result<HitDevices, StoreError>) -> Result<(), StoreError>
-    ensures { result ≡ unit_of answer }
-{
-    match answer {
-        Ok(_) => Ok(()),
-        Err(error) => Err(error),
-    }
+    // The items of a body keep the rules on one record.
+    prove!(body.bytes().len() <= usize::MAX);
+    hits
 }
 
 impl<V> Site<V> {
-    /// Goes on from a change that was logged.
-    fn take_logged(&mut self, cut: Stamp)
-        requires below { IsTrue (are_below (length self.old.failed) self.old.table.rows) }
-        requires few { length self.old.failed ≤ MOST_SITE_VOLUMES }
-        ensures { let rows = rows_with_hits self.old.level cut.0 self.old.failed self.old.table.rows in
-            self.new ≡ record self.old { table = with_rows self.old.table rows; is_ahead = false; told = rows; time = cut.0 } }
-    {
-        let hits = hits_at(&self.jobs, &self.table, self.level, cut);
-        take_hits(&mut self.table, &hits);
-        self.ahead = false;
-        self.time = cut;
-    }
-
-    /// Makes the mark that comes before a change's record, and logs the change after it. The record is formed again, with the hits of
-    /// the volumes that have failed by then.
-    fn log_after_mark<P: Plant<Volume = V>>(
-        &mut self,
-        plant: &mut P,
-        cut: Stamp,
-        change: &Change,
-    ) -> Result<(), StoreError>
-        requires may { MayChange P.tells cut.0 change.now self.old (P.state plant.old) }
-        requires some { names_rows change.now self.old.table.rows ≡ true }
-        requires numbers { is_spent Marked self.old ≡ false }
-        ensures ok { OnOk result (IsAfterChange cut.0 change.now Marked self.old self.new (P.state plant.old)) }
-        ensures leaves { OnOk result (Leaves P.tells (λ e. e) self.old self.new (P.state plant.old) (P.state plant.new)) }
-        ensures moments { DoesInTurn P.tells (change_deeds Marked self.old cut.0 self.new.failed) self.old (P.state plant.old) (P.state plant.new) result }
-        ensures only { WorksOn P.tells (IsOfRecord self.old) (P.state plant.old) (P.state plant.new) }
-        ensures cause { HasStoreCause (P.state plant.old).faults (P.state plant.new).faults result }
-        ensures unspent { ¬ IsErrOf result Spent }
-        ensures volumes { VolumesStay P.tells (P.state plant.old) (P.state plant.new) }
-        ensures failed { FailByCounts self.old.failed self.new.failed (P.state plant.old).faults (P.state plant.new).faults }
-    {
-        self.mark_first(plant, Level::Volume)?;
-        // No item waits after a mark.
-        self.waits = false;
-        let level = self.level;
-        form_change(&mut self.body, &self.table, &self.jobs, level, cut, change);
-        put_record(&mut self.journal, plant, cut, &self.body, Placement::Marked)?;
-        self.take_logged(cut);
-        Ok(())
-    }
-
-    /// Logs the rows that a change names and the hits of failed jobs by one record at a cut. If a mark has to come first, the record of
-    /// a change is formed again after it, and that of hits alone isn't needed: the mark tells them.
-    pub(crate) fn log_rows<P: Plant<Volume = V>>(
-        &mut self,
-        plant: &mut P,
-        cut: Stamp,
-        change: &Change,
-    ) -> Result<(), StoreError>
-        requires may { MayLogRows P.tells cut.0 change.now self.old (P.state plant.old) }
-        ensures logs { LogsRecord P.tells cut.0 change.now self.old self.new (P.state plant.old) (P.state plant.new) result }
-        ensures leaves { OnOk result (Leaves P.tells (λ e. e) self.old self.new (P.state plant.old) (P.state plant.new)) }
-        ensures only { WorksOn P.tells (IsOfRecord self.old) (P.state plant.old) (P.state plant.new) }
-        ensures volumes { VolumesStay P.tells (P.state plant.old) (P.state plant.new) }
-        ensures uncalled { IsErrOf result Spent → (self.new ≡ self.old) × (plant.new ≡ plant.old) }
-        ensures cause { HasStoreCause (P.state plant.old).faults (P.state plant.new).faults result }
-        ensures failed { FailByCounts self.old.failed self.new.failed (P.state plant.old).faults (P.state plant.new).faults }
-    {
-        // No item waits by what the call requires.
-        self.waits = false;
-        let level = self.level;
-        let follows = form_change(&mut self.body, &self.table, &self.jobs, level, cut, change);
-        let placement = placement_from(plant, self.journal.at, self.mark.at, &self.body);
-        if rows_need_more(follows, placement, self.journal.at.number, self.mark.number) {
-            return Err(StoreError::Spent);
-        }
-        if placement == Placement::Marked {
-            if !follows {
-                return without_value(self.mark_first(plant, level));
-            }
-            return self.log_after_mark(plant, cut, change);
-        }
-        put_record(&mut self.journal, plant, cut, &self.body, placement)?;
-        self.take_logged(cut);
-        Ok(())
-    }
-
     /// Logs a command's change by one record of the rows that it names, as they stand in the table, and of the devices whose rows
     /// go. The rows of volumes that have failed and aren't told yet are suspended after them, since the cut, and under level
     /// SESSION every other row that isn't suspended. For a change that alters no row nothing is called.
@@ -252,6 +146,6 @@ impl<V> Site<V> {
             self.ahead = false;
             return Ok(());
         }
-        self.log_rows(plant, cut, change)
+        self.log_by_plan(plant, &Plan::Command(cut, change))
     }
 }

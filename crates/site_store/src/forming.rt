@@ -63,7 +63,7 @@ pub(crate) fn form_group<P: Plant>(
     body: &mut Body,
     due: &mut [bool],
 )
-    requires may { MayForm formed.now table.now.rows jobs.old due.old (P.state plant.old) }
+    requires may { MayForm formed.now.entries table.now.rows jobs.old due.old (P.state plant.old) }
     requires room { 56670 * length formed.now.entries ≤ body.old.room }
     ensures idle { are_home_from 0 jobs.new ≡ true }
     ensures tracks { (d x : ℕ) → HasItem d x body.new.items ↔ (HasEntry table.now.rows d x formed.now.entries × ¬ HasFailed d jobs.new) }

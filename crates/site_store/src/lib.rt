@@ -16,6 +16,8 @@ mod hits;
 mod logging;
 mod marking;
 mod placement;
+mod plan;
+mod planned;
 mod recording;
 mod ring;
 mod site;

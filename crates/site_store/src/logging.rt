@@ -1,34 +1,32 @@
 //! A formed group, logged.
 
-ghost use Rattle.std.specs.Prelude.{◌≡◌, ◌≤◌, ◌<◌, ◌+◌, ◌-◌, ◌*◌, ◌^◌, ℕ, List, true, length, map, IsErrOf, OnOk};
+ghost use Rattle.std.specs.Prelude.{◌≡◌, ◌≤◌, ◌+◌, ◌*◌, ℕ, List, true, length, map, IsErrOf, OnOk};
 ghost use Rattle.xrc_journal.specs.declared.layout.TheConstants.{ROW_ITEM};
 ghost use Rattle.pair_table.specs.declared.limits.TheConstants.{MOST_ROWS};
 ghost use Rattle.applier.specs.Returns.{OnlyReads, WorksOnLent};
 ghost use Rattle.crash_plant.specs.Calls.{NoneLent, Silent};
 ghost use Rattle.site_store.specs.declared.store_error.StoreError.TheVariants.{Spent};
-ghost use Rattle.site_store.specs.declared.placement.Placement.TheVariants.{Marked};
 ghost use Rattle.site_store.specs.Causes.{FailByCounts, HasStoreCause};
 ghost use Rattle.site_store.specs.Hits.{AreDevices, AreHits};
 ghost use Rattle.site_store.specs.Jobs.{are_home_from, has_job_failed};
-ghost use Rattle.site_store.specs.Logging.{FailByEntries, FormsRecord, IsOfEntries, IsOfLog, LogsBy, LogsGroup, MayForm, MayLog, StaysUnwritten};
+ghost use Rattle.site_store.specs.Logging.{FailByEntries, FormsRecord, IsOfEntries, IsOfLog, LogsGroup, MayForm, MayLog, StaysUnwritten};
 ghost use Rattle.site_store.specs.Records.{VolumesStay};
 ghost use Rattle.site_store.specs.Standing.{MayRecord, Leaves};
 
 use crate::forming::form_group;
-use crate::group_rows::{put_changed, take_changed};
-use crate::hits::{HitReach, Hits, hits_after_mark, no_devices};
-use crate::placement::{Placement, placement_from, record_needs_more};
-use crate::recording::put_record;
+use crate::group_rows::put_changed;
+use crate::hits::{HitReach, Hits, hits_after_mark};
+use crate::plan::Plan;
 use crate::{Site, StoreError};
 use crash_plant::Plant;
-use pair_table::{Level, PairTable};
+use pair_table::PairTable;
 use pending_queue::Formed;
 use xrc_journal::{Body, VolumeJob};
 
 /// Forms the record of a group: the images of its tracks, and after them the rows that change with it. Volumes whose reads
 /// fail are left out, and are hit with the record; so are the rows that they reach, and those that are due since a mark. Tells
 /// for which volumes there are items.
-fn form_record<P: Plant>(
+pub(crate) fn form_record<P: Plant>(
     plant: &mut P,
     jobs: &mut [VolumeJob<P::Volume>],
     table: &PairTable,
@@ -37,7 +35,7 @@ fn form_record<P: Plant>(
     body: &mut Body,
     due: &mut [bool],
 ) -> Hits
-    requires may { MayForm formed.now table.now.rows jobs.old due.old (P.state plant.old) }
+    requires may { MayForm formed.now.entries table.now.rows jobs.old due.old (P.state plant.old) }
     requires room { 56670 * length formed.now.entries + MOST_ROWS * ROW_ITEM ≤ body.old.room }
     ensures forms { FormsRecord P.tells formed.now table.now.rows (P.state plant.old) body.old body.new due.new (map has_job_failed jobs.new) result }
     ensures hits { (marked : List ℕ) → AreDevices marked reach.marked → AreHits reach.level formed.now.cut (map has_job_failed jobs.new) marked table.now.rows result }
@@ -55,50 +53,6 @@ fn form_record<P: Plant>(
 }
 
 impl<V> Site<V> {
-    /// Logs a formed group after a mark that is made first, by a record after a switch. The mark syncs the volumes that were
-    /// written one after another, and its rows tell the volumes that have failed by then, since the site's time. The rows that
-    /// these failures reach come with the record.
-    fn log_group_after_mark<P: Plant<Volume = V>>(
-        &mut self,
-        plant: &mut P,
-        formed: &Formed,
-    ) -> Result<(), StoreError>
-        requires ready { MayRecord P.tells self.old (P.state plant.old) }
-        requires may { MayLog self.old formed.now }
-        requires rows { self.old.told ≡ self.old.table.rows }
-        requires mark { self.old.mark.number < 2 ^ 64 - 2 }
-        requires next { self.old.at.number < 2 ^ 64 - 2 }
-        ensures ok { LogsBy P.tells formed.now Marked self.old self.new (P.state plant.old) (P.state plant.new) result }
-        ensures leaves { OnOk result (Leaves P.tells (λ e. e) self.old self.new (P.state plant.old) (P.state plant.new)) }
-        ensures others { WorksOnLent P.tells (IsOfLog self.old formed.now) (P.state plant.old) (P.state plant.new) }
-        ensures cause { HasStoreCause (P.state plant.old).faults (P.state plant.new).faults result }
-        ensures unspent { ¬ IsErrOf result Spent }
-        ensures volumes { VolumesStay P.tells (P.state plant.old) (P.state plant.new) }
-        ensures failed { FailByCounts self.old.failed self.new.failed (P.state plant.old).faults (P.state plant.new).faults }
-    {
-        // The body has room for groups of so many controllers.
-        prove!(formed.controls() <= self.controls);
-        let hit = self.mark_first(plant, Level::Volume)?;
-        let reach = HitReach {
-            level: self.level,
-            marked: hit,
-        };
-        let (body, due) = (&mut self.body, self.due.as_mut_slice());
-        let hits = form_record(plant, &mut self.jobs, &self.table, reach, formed, body, due);
-        put_record(
-            &mut self.journal,
-            plant,
-            formed.cut(),
-            &self.body,
-            Placement::Marked,
-        )?;
-        take_changed(&mut self.table, formed, &hits);
-        self.time = formed.cut();
-        self.since = self.since.saturating_add(1);
-        self.waits = true;
-        Ok(())
-    }
-
     /// Logs a formed group by one record: an image of each track that has an entry, as the entries leave it, and the rows that
     /// change with the group. A row whose controller breaks is suspended since the break's time; else one whose plan is done becomes
     /// duplex, and one that waited is copied. Volumes that have failed by then have no image, and their rows are suspended since
@@ -129,34 +83,6 @@ impl<V> Site<V> {
     {
         // The body has room for groups of so many controllers.
         prove!(formed.controls() <= self.controls);
-        // No item waits by what the call requires.
-        self.waits = false;
-        let none = no_devices();
-        let reach = HitReach {
-            level: self.level,
-            marked: none,
-        };
-        let (body, due) = (&mut self.body, self.due.as_mut_slice());
-        let hits = form_record(plant, &mut self.jobs, &self.table, reach, formed, body, due);
-        let placement = placement_from(plant, self.journal.at, self.mark.at, &self.body);
-        if record_needs_more(placement, self.journal.at.number, self.mark.number) {
-            return Err(StoreError::Spent);
-        }
-        match placement {
-            Placement::Marked => return self.log_group_after_mark(plant, formed),
-            Placement::Here | Placement::Switched => {}
-        }
-        put_record(
-            &mut self.journal,
-            plant,
-            formed.cut(),
-            &self.body,
-            placement,
-        )?;
-        take_changed(&mut self.table, formed, &hits);
-        self.time = formed.cut();
-        self.since = self.since.saturating_add(1);
-        self.waits = true;
-        Ok(())
+        self.log_by_plan(plant, &Plan::Group(formed))
     }
 }

@@ -1,6 +1,7 @@
 //! A site, and what it tells.
 
 ghost use Rattle.std.specs.Prelude.{◌≡◌, false};
+ghost use Rattle.site_store.specs.Sites.{is_mark_due};
 
 use applier::SyncPace;
 use control_set::Mark;
@@ -8,6 +9,9 @@ use pair_table::{Level, PairTable};
 use std::marker::Model;
 use tod_stamp::Stamp;
 use xrc_journal::{Body, Journal, VolumeJob};
+
+/// How many groups are logged between two marks.
+const GROUPS_OF_MARK: u32 = 1;
 
 /// What is kept of a session's devices between calls: the pairs, the mark that counts, the end of the journal, and a job for
 /// each volume. `V` is a volume as the plant lends it.
@@ -93,5 +97,12 @@ impl<V> Site<V> {
         ensures { result ≡ self.now.since }
     {
         self.since
+    }
+
+    /// Whether a mark is due: as many groups were logged since the last one as may stand between two.
+    pub fn is_mark_due(&self) -> bool
+        ensures { result ≡ is_mark_due self.now }
+    {
+        self.since >= GROUPS_OF_MARK
     }
 }

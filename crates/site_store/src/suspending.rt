@@ -13,6 +13,7 @@ ghost use Rattle.site_store.specs.Records.{IsOfRecord, VolumesStay};
 ghost use Rattle.site_store.specs.Standing.{MayRecord, Leaves};
 
 use crate::hits::is_any_hit;
+use crate::plan::Plan;
 use crate::{Site, StoreError};
 use crash_plant::Plant;
 use pair_table::Change;
@@ -57,6 +58,7 @@ impl<V> Site<V> {
         if !self.has_hit() {
             return Ok(());
         }
-        self.log_rows(plant, cut, &Change::Nothing)
+        let nothing = Change::Nothing;
+        self.log_by_plan(plant, &Plan::Command(cut, &nothing))
     }
 }

@@ -5,6 +5,7 @@ pub(crate) const COMMANDS: &str = "give one of these lists
     xrc run SESSION STORAGE
     xrc recover SESSION
     xrc advance SESSION
+    xrc copy SESSION SHIFT
     xrc query SESSION
     xrc init DEVICE SERIAL CYLINDERS
     xrc generate NUMBER";

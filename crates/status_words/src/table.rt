@@ -107,6 +107,11 @@ fn with_device<'a>(status: u8, details: Details<'a>) -> Option<Sentence<'a>> {
             more: numbered(", and needs ", number, ""),
             advice: "lengthen it, as truncate -s does, and give the command again",
         },
+        26 => about(
+            device,
+            " has no volume to be copied to",
+            "label a volume of at least its cylinders whose number is greater by SHIFT and that no pair has",
+        ),
         _ => return None,
     };
     Some(sentence)

@@ -95,6 +95,11 @@ fn each_status_has_its_sentence(rt: HostRuntime) {
             "the numbers of records are used up: recover and start a new session",
         ),
         (
+            26,
+            "STATUS 26 VOLUME 0\n",
+            "volume.0 has no volume to be copied to: label a volume of at least its cylinders whose number is greater by SHIFT and that no pair has",
+        ),
+        (
             200,
             "STATUS 200\n",
             "the command was not done: look its status up in the list of statuses",
@@ -112,7 +117,7 @@ fn other_words_are_told_the_commands(rt: HostRuntime) {
         &rt,
         2,
         "STATUS 2\n",
-        "these words are no command line: give one of these lists\n    xrc run SESSION STORAGE\n    xrc recover SESSION\n    xrc advance SESSION\n    xrc query SESSION\n    xrc init DEVICE SERIAL CYLINDERS\n    xrc generate NUMBER",
+        "these words are no command line: give one of these lists\n    xrc run SESSION STORAGE\n    xrc recover SESSION\n    xrc advance SESSION\n    xrc copy SESSION SHIFT\n    xrc query SESSION\n    xrc init DEVICE SERIAL CYLINDERS\n    xrc generate NUMBER",
     );
 }
 

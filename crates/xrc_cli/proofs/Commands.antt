@@ -5,6 +5,7 @@ use Rattle.crash_plant.specs.Moments.{PlantState}
 use Rattle.crash_plant.proofs.Steps.{none_lent_console}
 use Rattle.volume_label.specs.declared.label.Label.{Label}
 use Rattle.xrecover.specs.declared.labelling.Labelling.{Labelling}
+use Rattle.xrc_recovery.specs.Copies.{EndsCopy, ends_copy}
 use Rattle.xrc_recovery.specs.Queries.{EndsQuery, ends_query}
 use Rattle.xrc_recovery.specs.Statuses.{EndsRecovery, ends_recovery}
 use Rattle.xrc_cli.specs.Generating.{EndsGenerating}
@@ -15,6 +16,9 @@ use Rattle.xrc_cli.specs.Labelling.{EndsLabelling, ends_labelling}
 
 pub home_recovered : (tells : Type 0) (labelling : Labelling) (session : List ℕ) (a b : PlantState) (status : ℕ) → NoneLent a → EndsRecovery tells labelling session a b status → NoneLent b
 home_recovered tells labelling session a b status none ends = ends.changes.home none
+
+pub home_copied : (tells : Type 0) (session : List ℕ) (shift : ℕ) (a b : PlantState) (status : ℕ) → NoneLent a → EndsCopy tells session shift a b status → NoneLent b
+home_copied tells session shift a b status none ends = ends.changes.home none
 
 pub home_queried : (tells : Type 0) (session : List ℕ) (a b : PlantState) (status : ℕ) → NoneLent a → EndsQuery tells session a b status → NoneLent b
 home_queried tells session a b status none ends = ends.changes.home none
@@ -31,6 +35,9 @@ home_generated tells number a b _ none (ConsoleFailed line sums says rose once) 
 
 pub known_recovered : (tells : Type 0) (labelling : Labelling) (session : List ℕ) (a b : PlantState) (status : ℕ) → EndsRecovery tells labelling session a b status → status ≢ 2
 known_recovered tells labelling session a b status ends is = let known : IsTrue (ends_recovery 2) = subst (λ (n : ℕ). IsTrue (ends_recovery n)) is ends.known in absurd cc
+
+pub known_copied : (tells : Type 0) (session : List ℕ) (shift : ℕ) (a b : PlantState) (status : ℕ) → EndsCopy tells session shift a b status → status ≢ 2
+known_copied tells session shift a b status ends is = let known : IsTrue (ends_copy 2) = subst (λ (n : ℕ). IsTrue (ends_copy n)) is ends.known in absurd cc
 
 pub known_queried : (tells : Type 0) (session : List ℕ) (a b : PlantState) (status : ℕ) → EndsQuery tells session a b status → status ≢ 2
 known_queried tells session a b status ends is = let known : IsTrue (ends_query 2) = subst (λ (n : ℕ). IsTrue (ends_query n)) is ends.known in absurd cc

@@ -9,3 +9,4 @@ pub mod StatusLines
 pub mod Stopping
 pub mod Lasting
 pub mod Ending
+pub mod CopiesHold

@@ -4,7 +4,7 @@ use Rattle.std.specs.Prelude.{bytes_eq, codes, map, if◌then◌else◌}
 use Rattle.std.specs.Result.{result_ok}
 use Rattle.tod_stamp.specs.declared.name_error.NameError.{NameError}
 use Rattle.tod_stamp.specs.Names.{is_serial, is_session, name_of}
-use Rattle.xrc_cli.specs.Words.{asked_by_words, asked_init, asked_run, cylinders_named, device_of, storage_of}
+use Rattle.xrc_cli.specs.Words.{asked_by_words, asked_init, cylinders_named, device_of}
 use Rattle.tod_stamp.proofs.NameLaws.{names_are_read, read_are_names}
 
 -- a name is read exactly where it is a session
@@ -39,14 +39,6 @@ many text (a ∷ b ∷ []) high = absurd (omega arith)
 many text (a ∷ b ∷ c ∷ []) high = absurd (omega arith)
 many text (a ∷ b ∷ c ∷ d ∷ []) high = absurd (omega arith)
 many text (a ∷ b ∷ c ∷ d ∷ e ∷ words) high = refl
-
--- three that begin with another word than a run's
-pub no_run : {A : Type 0} (text : A → List ℕ) (words : List A) (x : A) → length words ≡ 3 → x ≡ get_or words 0 x → bytes_eq (text x) (codes "run") ≡ false → None ≡ asked_by_words (map text words)
-no_run text [] x is e differs = absurd (omega arith)
-no_run text (a ∷ []) x is e differs = absurd (omega arith)
-no_run text (a ∷ b ∷ []) x is e differs = absurd (omega arith)
-no_run text (a ∷ b ∷ c ∷ []) x is e differs = sym (ap (λ t. if t then asked_run (text b) (storage_of (text c)) else None) (ap (λ w. bytes_eq (text w) (codes "run")) (sym e) ∙ differs))
-no_run text (a ∷ b ∷ c ∷ d ∷ words) x is e differs = absurd (omega arith)
 
 -- four that begin with another than that of a label
 pub no_init : {A : Type 0} (text : A → List ℕ) (words : List A) (x : A) → length words ≡ 4 → x ≡ get_or words 0 x → bytes_eq (text x) (codes "init") ≡ false → None ≡ asked_by_words (map text words)

@@ -4,7 +4,7 @@ use Rattle.xrc_edge.specs.declared.limits.TheConstants.{MOST_CONTROLS, MOST_CYLI
 use Rattle.tod_stamp.specs.Fields.{within}
 use Rattle.tod_stamp.specs.Names.{is_serial, is_session}
 use Rattle.xrc_cli.specs.declared.words.Asked.{Asked}
-use Rattle.xrc_cli.specs.declared.words.Asked.TheVariants.{Advance, Generate, Init, Query, Recover, Run}
+use Rattle.xrc_cli.specs.declared.words.Asked.TheVariants.{Advance, Copy, Generate, Init, Query, Recover, Run}
 use Rattle.xrc_cli.specs.declared.words.TheConstants.{LAST_DEVICE, MOST_NUMBER}
 use Rattle.xrc_cli.specs.declared.words.Wanted.{Wanted}
 use Rattle.xrc_cli.specs.declared.words.Wanted.TheVariants.{Devices, Nothing, Traces}
@@ -52,11 +52,19 @@ cylinders_named word = number_in 1 MOST_CYLINDERS word
 abbrev pub input_of : (word : List ℕ) → Option ℕ
 input_of word = number_in 0 MOST_NUMBER word
 
+-- by how much the number of a target is greater: 1 to 63
+abbrev pub shift_of : (word : List ℕ) → Option ℕ
+shift_of word = number_in 1 LAST_DEVICE word
+
 -- ---- command lines
 
 abbrev pub asked_run : (session : List ℕ) → Option ℕ → Option Asked
 asked_run session None = None
 asked_run session (Some storage) = if is_session session then Some (Run session storage) else None
+
+abbrev pub asked_copy : (session : List ℕ) → Option ℕ → Option Asked
+asked_copy session None = None
+asked_copy session (Some shift) = if is_session session then Some (Copy session shift) else None
 
 abbrev pub asked_init : (serial : List ℕ) → (device cylinders : Option ℕ) → Option Asked
 asked_init serial None cylinders = None
@@ -79,13 +87,18 @@ asked_of_two command operand =
     if bytes_eq command (codes "generate") then asked_generate (input_of operand) else
     if is_session operand then asked_of_session command operand else None
 
--- What the words ask for: `run SESSION STORAGE`, `recover SESSION`, `advance SESSION`, `query SESSION`, `init DEVICE SERIAL CYLINDERS` or
--- `generate NUMBER`. No other words are a command line.
+abbrev pub asked_of_three : (command session number : List ℕ) → Option Asked
+asked_of_three command session number =
+    if bytes_eq command (codes "run") then asked_run session (storage_of number) else
+    if bytes_eq command (codes "copy") then asked_copy session (shift_of number) else None
+
+-- What the words ask for: `run SESSION STORAGE`, `recover SESSION`, `advance SESSION`, `copy SESSION SHIFT`, `query SESSION`, `init DEVICE SERIAL
+-- CYLINDERS` or `generate NUMBER`. No other words are a command line.
 abbrev pub asked_by_words : List (List ℕ) → Option Asked
 asked_by_words [] = None
 asked_by_words (command ∷ []) = None
 asked_by_words (command ∷ operand ∷ []) = asked_of_two command operand
-asked_by_words (command ∷ session ∷ storage ∷ []) = if bytes_eq command (codes "run") then asked_run session (storage_of storage) else None
+asked_by_words (command ∷ session ∷ number ∷ []) = asked_of_three command session number
 asked_by_words (command ∷ device ∷ serial ∷ cylinders ∷ []) = if bytes_eq command (codes "init") then asked_init serial (device_of device) (cylinders_named cylinders) else None
 asked_by_words (command ∷ a ∷ b ∷ c ∷ other ∷ words) = None
 
@@ -101,6 +114,7 @@ wanted_by None = Nothing
 wanted_by (Some (Run session storage)) = Traces storage
 wanted_by (Some (Recover session)) = Devices
 wanted_by (Some (Advance session)) = Devices
+wanted_by (Some (Copy session shift)) = Devices
 wanted_by (Some (Query session)) = Devices
 wanted_by (Some (Init device serial cylinders)) = Devices
 wanted_by (Some (Generate number)) = Nothing

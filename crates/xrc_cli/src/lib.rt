@@ -12,6 +12,6 @@ mod unfailing_source;
 mod words;
 
 pub use command::xrc;
-pub use laws::{limits_are_fixed, runs_are_complete};
+pub use laws::{copies_hold_primaries, limits_are_fixed, runs_are_complete};
 pub use opening::wanted;
 pub use words::Wanted;

@@ -14,9 +14,13 @@ pub fn wanted(_alloc: Global, words: &[String]) -> Result<Wanted, NoMemory>
 {
     Ok(match asked_in(words) {
         Some(Asked::Run(_, storage)) => Wanted::Traces(storage),
-        Some(Asked::Recover(_) | Asked::Advance(_) | Asked::Query(_) | Asked::Init(_, _, _)) => {
-            Wanted::Devices
-        }
+        Some(
+            Asked::Recover(_)
+            | Asked::Advance(_)
+            | Asked::Copy(_, _)
+            | Asked::Query(_)
+            | Asked::Init(_, _, _),
+        ) => Wanted::Devices,
         Some(Asked::Generate(_)) | None => Wanted::Nothing,
     })
 }

@@ -4,7 +4,7 @@ ghost use Rattle.std.specs.Prelude.{◌≡◌, ◌≤◌, ◌-◌, map, string_b
 ghost use Rattle.xrc_edge.specs.declared.limits.TheConstants.{MOST_CONTROLS};
 ghost use Rattle.tod_stamp.specs.Fields.{within};
 ghost use Rattle.tod_stamp.specs.Names.{is_serial, is_session};
-ghost use Rattle.xrc_cli.specs.Words.{HasRange, asked_by_words, asked_of_session, asked_of_two, digits_value, from_to, has_leading_zero, number_in, storage_of};
+ghost use Rattle.xrc_cli.specs.Words.{HasRange, asked_by_words, asked_of_session, asked_of_three, asked_of_two, digits_value, from_to, has_leading_zero, number_in, storage_of};
 
 use tod_stamp::{Serial, Session};
 use xrc_edge::{MOST_CONTROLS, MOST_CYLINDERS, MOST_SITE_VOLUMES};
@@ -35,6 +35,8 @@ pub(crate) enum Asked {
     Recover(Session),
     /// `advance SESSION`: to recover a session's site without new labels.
     Advance(Session),
+    /// `copy SESSION SHIFT`: to copy a session's pairs to other volumes.
+    Copy(Session, u16),
     /// `query SESSION`: to say the report of a session's site.
     Query(Session),
     /// `init DEVICE SERIAL CYLINDERS`: to label a volume.
@@ -144,6 +146,21 @@ fn asked_of_two(command: &str, operand: &str) -> Option<Asked>
     asked_of_session(command, session_of(operand)?)
 }
 
+fn asked_of_three(command: &str, session: &str, number: &str) -> Option<Asked>
+    ensures asked { result ≡ asked_of_three command.now session.now number.now }
+    ensures range { IfSome result (λ asked. HasRange asked) }
+{
+    if command == "run" {
+        let storage = storage_of(number)?;
+        return Some(Asked::Run(session_of(session)?, storage));
+    }
+    if command == "copy" {
+        let shift = short_number(1, LAST_DEVICE, number)?;
+        return Some(Asked::Copy(session_of(session)?, shift));
+    }
+    None
+}
+
 /// What the words ask for, which come without the program's name; None exactly where they are no command line.
 pub(crate) fn asked_in(words: &[String]) -> Option<Asked>
     ensures asked { result ≡ asked_by_words (map string_bytes words.now) }
@@ -151,9 +168,8 @@ pub(crate) fn asked_in(words: &[String]) -> Option<Asked>
 {
     match words {
         [command, operand] => asked_of_two(command.as_str(), operand.as_str()),
-        [command, session, storage] if command.as_str() == "run" => {
-            let storage = storage_of(storage.as_str())?;
-            Some(Asked::Run(session_of(session.as_str())?, storage))
+        [command, session, number] => {
+            asked_of_three(command.as_str(), session.as_str(), number.as_str())
         }
         [command, device, serial, cylinders] if command.as_str() == "init" => {
             let device = short_number(0, LAST_DEVICE, device.as_str())?;

@@ -19,7 +19,7 @@ use Rattle.xrecover.specs.Pairs.{AreFaulty, duplex_devices}
 use Rattle.pair_table.specs.States.{is_duplex}
 use Rattle.xrecover.specs.declared.labelling.Labelling.{Labelling}
 use Rattle.xrecover.specs.declared.labelling.Labelling.TheVariants.{AsPrimary, AsItIs}
-use Rattle.xrecover.specs.RedoneVolumes.{BearsLabel, Draws, IsRedone, Recovers, Redone}
+use Rattle.xrecover.specs.RedoneVolumes.{BearsLabel, Draws, HoldsTracks, IsRedone, Recovers, Redone}
 use Rattle.xrecover.specs.Works.{Nothing, Works}
 use Rattle.xrecover.specs.Labels.{AreNamed, LabelsLast, TreatsLabels}
 use Rattle.xrecover.proofs.Labels.{keeps_same, keeps_then, last_before, named_still}
@@ -144,6 +144,7 @@ module _ (a b c : PlantState) (devices : (d : Device) → Stays (on b d) (on c d
       let same = sym (devices (Volume row.device)).bytes in
       record {
         draws = subst (λ (l : List ℕ). Draws row.device items (a.bytes (Volume row.device)) l) same r.draws;
+        content = subst (λ (l : List ℕ). HoldsTracks row.device items (a.bytes (Volume row.device)) l) same r.content;
         label = subst (λ (l : List ℕ). BearsLabel labelling row (a.bytes (Volume row.device)) l) same r.label;
         durable = λ x left. durable_then (Volume row.device) r.durable c.clock later (omega arith) x left;
       })

@@ -62,19 +62,19 @@ at_site tells labelling session a other = record {
 -- ---- an error
 
 -- What an error tells its stop does.
-error_lasts : (tells : Type 0) (a b : PlantState) (e : RecoverError) → stop_of e ≢ VolumeFault → (let r : Result Outcome RecoverError = Err e in TellsLasting tells a b r) → StopLasts tells a b (stop_of e)
-error_lasts tells a b (Other name) none t = t
-error_lasts tells a b (Site NoSession) none t = t
-error_lasts tells a b (Site (Damaged d place)) none t = t
-error_lasts tells a b (Site (Fault Control)) none t = tt
-error_lasts tells a b (Site (Fault State)) none t = tt
-error_lasts tells a b (Site (Fault (Journal j))) none t = elim t [ inl still ↦ inl (changes_of tells Nothing a b still) | inr now ↦ inr now ]
-error_lasts tells a b (Site (Fault (Volume v))) none t = absurd (none refl)
-error_lasts tells a b (Site (TooSmallError (Volume v) needed)) none t = t
-error_lasts tells a b (Site (TooSmallError Control needed)) none t = tt
-error_lasts tells a b (Site (TooSmallError State needed)) none t = tt
-error_lasts tells a b (Site (TooSmallError (Journal j) needed)) none t = tt
-error_lasts tells a b (Site NoMemory) none t = tt
+pub error_lasts : (X : Type 0) (tells : Type 0) (a b : PlantState) (e : RecoverError) → stop_of e ≢ VolumeFault → (let r : Result X RecoverError = Err e in TellsLasting tells a b r) → StopLasts tells a b (stop_of e)
+error_lasts X tells a b (Other name) none t = t
+error_lasts X tells a b (Site NoSession) none t = t
+error_lasts X tells a b (Site (Damaged d place)) none t = t
+error_lasts X tells a b (Site (Fault Control)) none t = tt
+error_lasts X tells a b (Site (Fault State)) none t = tt
+error_lasts X tells a b (Site (Fault (Journal j))) none t = elim t [ inl still ↦ inl (changes_of tells Nothing a b still) | inr now ↦ inr now ]
+error_lasts X tells a b (Site (Fault (Volume v))) none t = absurd (none refl)
+error_lasts X tells a b (Site (TooSmallError (Volume v) needed)) none t = t
+error_lasts X tells a b (Site (TooSmallError Control needed)) none t = tt
+error_lasts X tells a b (Site (TooSmallError State needed)) none t = tt
+error_lasts X tells a b (Site (TooSmallError (Journal j) needed)) none t = tt
+error_lasts X tells a b (Site NoMemory) none t = tt
 
 module _ (tells : Type 0) (labelling : Labelling) (session : List ℕ) (a b : PlantState) (e : RecoverError) (stop : Stop) (is : stop ≡ stop_of e) where
   pub at_error : IsSite a → RedoesSession tells labelling session a b (Err e) → RecoversSession tells labelling session a b (Err stop)
@@ -101,9 +101,24 @@ module _ (tells : Type 0) (labelling : Labelling) (session : List ℕ) (a b : Pl
         changes = changes_of tells (RecoversMeant a) a b k.works;
         labels = k.labels;
         moments = k.moments;
-        lasts = λ told. subst (λ (s : Stop). StopLasts tells a b s) (sym is) (error_lasts tells a b e (λ volume. not_volume a session good e (k.says told) volume) (k.lasts told));
+        lasts = λ told. subst (λ (s : Stop). StopLasts tells a b s) (sym is) (error_lasts Outcome tells a b e (λ volume. not_volume a session good e (k.says told) volume) (k.lasts told));
         unwritten = λ early. k.unwritten e refl (is_early e (subst (λ (s : Stop). StopsEarly s) is early));
       }
+
+-- ---- stops with lines
+
+-- They are no site's.
+pub lines_of_site : (stop : Stop) → HasLines stop → stop ≢ BadSite
+lines_of_site stop (inl is) = λ bad. cc
+lines_of_site stop (inr is) = λ bad. cc
+
+pub late_lines : (stop : Stop) → HasLines stop → ¬ StopsEarly stop
+late_lines stop (inl is) = λ early. subst (λ (s : Stop). StopsEarly s) is early
+late_lines stop (inr is) = λ early. subst (λ (s : Stop). StopsEarly s) is early
+
+pub last_of_lines : (tells : Type 0) (a c : PlantState) (stop : Stop) → HasLines stop → AtNow (MeansAsRead a) c → StopLasts tells a c stop
+last_of_lines tells a c stop (inl is) now = subst (λ (s : Stop). StopLasts tells a c s) (sym is) now
+last_of_lines tells a c stop (inr is) now = subst (λ (s : Stop). StopLasts tells a c s) (sym is) now
 
 -- ---- a report
 
@@ -167,18 +182,6 @@ module _ (tells : Type 0) (labelling : Labelling) (session : List ℕ) (a b c : 
   lines_called stop k (inl is) told = subst (λ (s : Stop). CallsFor a session s) (sym is) (k.is_meant told).meant.of
   lines_called stop k (inr is) told = subst (λ (s : Stop). CallsFor a session s) (sym is) (k.is_meant told).meant.of
 
-  lines_no_site : (stop : Stop) → HasLines stop → stop ≢ BadSite
-  lines_no_site stop (inl is) = λ bad. cc
-  lines_no_site stop (inr is) = λ bad. cc
-
-  lines_late : (stop : Stop) → HasLines stop → ¬ StopsEarly stop
-  lines_late stop (inl is) = λ early. subst (λ (s : Stop). StopsEarly s) is early
-  lines_late stop (inr is) = λ early. subst (λ (s : Stop). StopsEarly s) is early
-
-  lines_last : (stop : Stop) → HasLines stop → AtNow (MeansAsRead a) c → StopLasts tells a c stop
-  lines_last stop (inl is) now = subst (λ (s : Stop). StopLasts tells a c s) (sym is) now
-  lines_last stop (inr is) now = subst (λ (s : Stop). StopLasts tells a c s) (sym is) now
-
   pub at_report : (r : Result (Unit {0}) Stop) → Told tells labelling session a b c means failed r → RecoversSession tells labelling session a c r
   at_report (Ok v) k = record {
     site = (λ bad. absurd cc, λ no. absurd (no k.site));
@@ -203,12 +206,12 @@ module _ (tells : Type 0) (labelling : Labelling) (session : List ℕ) (a b c : 
     unwritten = tt;
   }
   at_report (Err stop) k = record {
-    site = (λ bad. absurd (lines_no_site stop k.lines (let same = bad in cc)), λ no. absurd (no k.site));
+    site = (λ bad. absurd (lines_of_site stop k.lines (let same = bad in cc)), λ no. absurd (no k.site));
     short = λ again d first. absurd (k.long d first);
     called_for = lines_called stop k k.lines;
     causes = has_lines stop k k.lines;
     counts = λ d here no. k.front.only.faults d ∙ k.counts d here;
-    complete = λ told again ready none. only_memory a c session ready none stop (lines_no_site stop k.lines) (lines_called stop k k.lines told) (has_lines stop k k.lines);
+    complete = λ told again ready none. only_memory a c session ready none stop (lines_of_site stop k.lines) (lines_called stop k k.lines told) (has_lines stop k k.lines);
     done = λ told. tt;
     failed = λ told is. (failed, k.volume is, reports_all (Err stop) k told (λ console. cc));
     in_part = λ told is. (failed, reports (Err stop) k told);
@@ -217,10 +220,10 @@ module _ (tells : Type 0) (labelling : Labelling) (session : List ℕ) (a b c : 
     console_once = omega (arith, k.by_one, k.works.console_faults);
     once = λ v. omega (arith, k.once v, k.front.only.faults (Volume v));
     spared = λ told v none. k.front.only.faults (Volume v) ∙ k.spared told v none;
-    early = λ told early. absurd (lines_late stop k.lines early);
+    early = λ told early. absurd (late_lines stop k.lines early);
     changes = changes_then tells (RecoversMeant a) a b c k.works k.front.only k.later;
     labels = λ told. treats_console labelling tells (meant_rows a a.bytes) (walked a a.bytes) a b c told ((k.works.elapses told).kept Control).later (k.labels told) k.front.only;
     moments = λ told. follow_then (SeesSame a) tells a b c told ((k.works.elapses told).kept Control).later (k.moments told) k.front.only;
-    lasts = λ told. lines_last stop k.lines (now_then (MeansAsRead a) tells b c told (k.lasts told) k.front.only);
-    unwritten = λ early. absurd (lines_late stop k.lines early);
+    lasts = λ told. last_of_lines tells a c stop k.lines (now_then (MeansAsRead a) tells b c told (k.lasts told) k.front.only);
+    unwritten = λ early. absurd (late_lines stop k.lines early);
   }

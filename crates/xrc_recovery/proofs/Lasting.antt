@@ -142,7 +142,7 @@ is_early_stop Spent three five thirteen = tt
 -- ---- what lasts
 
 module _ (tells : Type 0) (old new : PlantState) where
-  meaning_lasts : (stop : Stop) → StopLasts tells old new stop → tells_meaning (status_of stop) ≡ true → AtNow (MeansAsRead old) new
+  pub meaning_lasts : (stop : Stop) → StopLasts tells old new stop → tells_meaning (status_of stop) ≡ true → AtNow (MeansAsRead old) new
   meaning_lasts NoMemory last is = absurd cc
   meaning_lasts BadWords last is = absurd cc
   meaning_lasts ConsoleFault last is = last
@@ -160,7 +160,7 @@ module _ (tells : Type 0) (old new : PlantState) where
   meaning_lasts BadSite last is = absurd cc
   meaning_lasts Spent last is = absurd cc
 
-  other_lasts : (stop : Stop) → StopLasts tells old new stop → status_of stop ≡ 11 → AtNow (ChoosesAsRead old) new
+  pub other_lasts : (stop : Stop) → StopLasts tells old new stop → status_of stop ≡ 11 → AtNow (ChoosesAsRead old) new
   other_lasts NoMemory last is = absurd (omega (arith, is))
   other_lasts BadWords last is = absurd (omega (arith, is))
   other_lasts ConsoleFault last is = absurd (omega (arith, is))
@@ -178,7 +178,7 @@ module _ (tells : Type 0) (old new : PlantState) where
   other_lasts BadSite last is = absurd (omega (arith, is))
   other_lasts Spent last is = absurd (omega (arith, is))
 
-  late_lasts : (stop : Stop) → StopLasts tells old new stop → status_of stop ≡ 5 → Changes tells Nothing old new ⊎ AtNow (MeansAsRead old) new
+  pub late_lasts : (stop : Stop) → StopLasts tells old new stop → status_of stop ≡ 5 → Changes tells Nothing old new ⊎ AtNow (MeansAsRead old) new
   late_lasts NoMemory last is = absurd (omega (arith, is))
   late_lasts BadWords last is = absurd (omega (arith, is))
   late_lasts ConsoleFault last is = absurd (omega (arith, is))
@@ -205,7 +205,7 @@ module _ (tells : Type 0) (old new : PlantState) where
     by_device (Journal j) needed last (inr small) = absurd (let same = small.device in cc)
     by_device (Volume v) needed last (inr small) = last
 
-    small_lasts : (stop : Stop) → StopLasts tells old new stop → CallsFor old session stop → status_of stop ≡ 14 → AtNow (MeansAsRead old) new
+    pub small_lasts : (stop : Stop) → StopLasts tells old new stop → CallsFor old session stop → status_of stop ≡ 14 → AtNow (MeansAsRead old) new
     small_lasts (TooSmall d needed) last calls is = by_device d needed last calls
     small_lasts NoMemory last calls is = absurd (omega (arith, is))
     small_lasts BadWords last calls is = absurd (omega (arith, is))

@@ -4,3 +4,5 @@ pub mod Stopping
 pub mod Ending
 pub mod Lasting
 pub mod Querying
+pub mod CopyEnds
+pub mod CopyStatuses

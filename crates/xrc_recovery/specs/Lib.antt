@@ -4,3 +4,4 @@ pub mod Reports
 pub mod Recoveries
 pub mod Statuses
 pub mod Queries
+pub mod Copies

@@ -1,7 +1,8 @@
-//! The commands that recover, advance and query a site: their order of stops, and what they say of each pair.
+//! The commands that recover, advance, copy and query a site: their order of stops, and what they say of each pair.
 #![tactic(auto)]
 
 mod command;
+mod copying;
 mod lines;
 mod query;
 mod recovery;
@@ -9,4 +10,5 @@ mod reporting;
 mod stops;
 
 pub use command::{advance_site, query_site, recover_site};
+pub use copying::copy_site;
 pub use stops::is_site;

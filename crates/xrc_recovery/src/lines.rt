@@ -1,16 +1,21 @@
-//! The lines that are said of a site that was recovered or advanced.
+//! The lines that are said of a site that was recovered, advanced or copied, and of a pair without a target.
 
 ghost use Rattle.std.specs.Prelude.{◌≡◌, ◌≤◌, ◌+◌, ◌++◌, ◌∷◌, [], length};
-ghost use Rattle.xrc_recovery.specs.Texts.{pair_line, site_line, site_word, state_text};
+ghost use Rattle.xrc_recovery.specs.Texts.{no_target_line, pair_line, site_line, site_word, state_text};
+ghost use Rattle.crash_plant.specs.declared.device.Device.TheVariants.{Volume};
 ghost use Rattle.pair_table.specs.Devices.{is_among};
+ghost use Rattle.xrc_status.specs.Stops.{device_text};
 
 use pair_table::{PairRow, PairState};
 use tod_stamp::{Serial, Session, Stamp};
 use xrc_status::TextLine;
 use xrecover::{Labelling, Outcome};
 
-/// The first word of what is said of a site, and a space.
-fn site_word(labelling: Labelling) -> &'static [u8]
+/// The status of a copy that lacks a target.
+pub(crate) const NO_TARGET: u8 = 26;
+
+/// The first word of what is said of a site that was redone, and a space.
+pub(crate) fn site_word(labelling: Labelling) -> &'static [u8]
     ensures text { result.now ≡ site_word labelling }
     ensures short { length result.now ≤ 10 }
 {
@@ -20,12 +25,13 @@ fn site_word(labelling: Labelling) -> &'static [u8]
     }
 }
 
-/// The first line.
-pub(crate) fn site_line(labelling: Labelling, session: Session, time: Stamp) -> TextLine
-    ensures { result ≡ site_line labelling session time.0 }
+/// The first line, which begins with a word and a space.
+pub(crate) fn site_line(word: &[u8], session: Session, time: Stamp) -> TextLine
+    requires { length word.now ≤ 10 }
+    ensures { result ≡ site_line word.now session time.0 }
 {
     let mut line = TextLine::make();
-    line.add(site_word(labelling));
+    line.add(word);
     line.add(session.as_bytes());
     line.add(b" T=");
     line.add(&time.text());
@@ -85,6 +91,28 @@ pub(crate) fn pair_line(outcome: &Outcome, row: &PairRow) -> TextLine
     add_name(&mut line, &row.primary);
     add_name(&mut line, &row.secondary);
     add_state(&mut line, is_among(outcome, row.device), row.state);
+    line.add(b"\n");
+    line
+}
+
+/// Puts a space and a volume's name.
+fn add_volume(line: &mut TextLine, device: u16)
+    requires { length line.old ≤ 70 }
+    ensures text { line.new ≡ line.old ++ device_text (Volume device) }
+    ensures short { length line.new ≤ length line.old + 49 }
+{
+    line.add(b" VOLUME");
+    line.add_number(u64::from(device));
+}
+
+/// The line of a copy that has no target for the volume of a device.
+pub(crate) fn no_target_line(device: u16) -> TextLine
+    ensures { result ≡ no_target_line device }
+{
+    let mut line = TextLine::make();
+    line.add(b"STATUS");
+    line.add_number(u64::from(NO_TARGET));
+    add_volume(&mut line, device);
     line.add(b"\n");
     line
 }

@@ -5,6 +5,7 @@ ghost use Rattle.crash_plant.specs.Calls.{NoneLent};
 ghost use Rattle.xrc_status.specs.declared.stop.Stop.TheVariants.{BadSite};
 ghost use Rattle.xrc_recovery.specs.Recoveries.{RecoversSession, RedoesSession};
 
+use crate::lines::site_word;
 use crate::reporting::report;
 use crate::stops::{is_site, stop_of};
 use crash_plant::Plant;
@@ -48,7 +49,7 @@ pub(crate) fn run_recovery<R: Threads + Sync, P: Plant>(
         return Err(Stop::BadSite);
     }
     match redo(rt, alloc, plant, session, labelling) {
-        Ok(outcome) => report(plant, labelling, session, &outcome),
+        Ok(outcome) => report(plant, site_word(labelling), session, &outcome),
         Err(error) => Err(stop_of(error)),
     }
 }

@@ -10,7 +10,7 @@ use Rattle.site_means.specs.Walk.WalkStep.{GoesOn, Breaks}
 use Rattle.site_means.proofs.Goes.{entered_here, entered_stays, rest_breaks, rest_ends, rest_goes, rest_of}
 use Rattle.site_means.proofs.Agreeing.{mark_here}
 use Rattle.site_means.specs.Answers.{Enters}
-use Rattle.xrecover.specs.RedoneVolumes.{Draws}
+use Rattle.xrecover.specs.RedoneVolumes.{Draws, HoldsTracks}
 use Rattle.xrecover.proofs.Contents.{Done, done_none}
 use Rattle.std.specs.Prelude.{unwrap_or}
 use Rattle.xrc_journal.specs.Items.{form_of}
@@ -145,10 +145,10 @@ module _ (shape : Shape) (images : Images) (items its : List Item) (live : ℕ �
   ]
 
   -- At its end all items were applied.
-  pub all_again : FoundAgain at.set (found_at shape images r.s) its (Ok None) → (v : ℕ) → live v → Draws v items (first v) (now v)
+  pub all_again : FoundAgain at.set (found_at shape images r.s) its (Ok None) → (v : ℕ) → live v → Draws v items (first v) (now v) × HoldsTracks v items (first v) (now v)
   all_again found v is =
       let all : items ≡ r.before = r.items_are ∙ ap (λ (l : List Item). r.before ++ l) (again_end shape images r.s lower r.good found) ∙ append-nil r.before in
-      subst (λ (l : List Item). Draws v l (first v) (now v)) (sym all) (r.done v is).begins
+      subst (λ (l : List Item). Draws v l (first v) (now v) × HoldsTracks v l (first v) (now v)) (sym all) ((r.done v is).begins, (r.done v is).content)
 
   -- Only a fault can keep a record from being read once more.
   pub fault_again : (e : SiteError) → FoundAgain at.set (found_at shape images r.s) its (Err e) → (j : ℕ) × (e ≡ Fault (Journal j)) × Enters shape images j

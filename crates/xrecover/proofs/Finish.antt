@@ -21,7 +21,7 @@ use Rattle.xrecover.proofs.Seen.{now_means, read_lasts}
 use Rattle.xrecover.specs.Answers.{CountsVolumes, EndsLate, IsEarly, IsLate, IsOf, IsRecoverable, IsGoodOrCalledFor}
 use Rattle.xrecover.specs.Pairs.{HasDuplex, SparesOthers}
 use Rattle.xrecover.specs.declared.labelling.Labelling.{Labelling}
-use Rattle.xrecover.specs.RedoneVolumes.{BearsLabel, Draws, Recovers, Redone, meant_rows, rows_of}
+use Rattle.xrecover.specs.RedoneVolumes.{BearsLabel, Draws, HoldsTracks, Recovers, Redone, meant_rows, rows_of}
 use Rattle.xrecover.specs.Works.{Nothing, Works}
 use Rattle.xrecover.specs.Labels.{TreatsLabels}
 use Rattle.xrecover.proofs.Labels.{treats_after}
@@ -66,6 +66,8 @@ module _ (tells : Type 0) (old one : PlantState) (reads : ReadsAll tells old one
         record {
           draws = subst (λ (l : List ℕ). Draws row.device (walked old old.bytes) l (new.bytes (Volume row.device))) (reads.same told (Volume row.device))
               (subst (λ (l : List Item). Draws row.device l (one.bytes (Volume row.device)) (new.bytes (Volume row.device))) (items_are told) done.draws);
+          content = subst (λ (l : List ℕ). HoldsTracks row.device (walked old old.bytes) l (new.bytes (Volume row.device))) (reads.same told (Volume row.device))
+              (subst (λ (l : List Item). HoldsTracks row.device l (one.bytes (Volume row.device)) (new.bytes (Volume row.device))) (items_are told) done.content);
           label = subst (λ (l : List ℕ). BearsLabel labelling row l (new.bytes (Volume row.device))) (reads.same told (Volume row.device)) done.label;
           durable = done.durable;
         })

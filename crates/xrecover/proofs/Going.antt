@@ -22,7 +22,7 @@ use Rattle.xrecover.specs.FinishedPairs.{FinishesPairs}
 use Rattle.xrecover.specs.Labels.{TreatsLabels}
 use Rattle.xrecover.specs.Works.{Nothing, OfOneVolume, Works}
 use Rattle.xrecover.specs.declared.labelling.Labelling.{Labelling}
-use Rattle.xrecover.specs.RedoneVolumes.{BearsLabel, Draws, IsRedone, Recovers, Redoes}
+use Rattle.xrecover.specs.RedoneVolumes.{BearsLabel, Draws, HoldsTracks, IsRedone, Recovers, Redoes}
 use Rattle.xrecover.proofs.Relations.{recovers_same, redoes_same}
 use Rattle.xrecover.proofs.Rows.{recovers_one}
 use Rattle.xrecover.proofs.Works.{works_more, works_reads, works_trans}
@@ -185,7 +185,7 @@ listed_same (q ∷ front) r f g same apart =
     by_duplex true more own = (λ i. cond (own i) (q.device ∷ more i) (more i))
     by_duplex false more own = more
 
-devices_append : (front : List PairRow) (r : PairRow) (d : Bool) → is_duplex r.state ≡ d → duplex_devices (front ++ r ∷ []) ≡ duplex_devices front ++ cond d (r.device ∷ []) []
+pub devices_append : (front : List PairRow) (r : PairRow) (d : Bool) → is_duplex r.state ≡ d → duplex_devices (front ++ r ∷ []) ≡ duplex_devices front ++ cond d (r.device ∷ []) []
 devices_append front r d is =
     ap (map (λ (p : PairRow). p.device)) (filter-append (λ (p : PairRow). is_duplex p.state) front (r ∷ []))
     ∙ map-append (λ (p : PairRow). p.device) (filter (λ p. is_duplex p.state) front) (filter (λ p. is_duplex p.state) (r ∷ []))
@@ -294,6 +294,7 @@ module _ (tells : Type 0) (labelling : Labelling) (left : ℕ → Bool) (items :
       let same : c.bytes (Volume row.device) ≡ b.bytes (Volume row.device) = (works.bytes told (Volume row.device)).1 differ in
       record {
         draws = subst (λ (l : List ℕ). Draws row.device items (a.bytes (Volume row.device)) l) (sym same) done.draws;
+        content = subst (λ (l : List ℕ). HoldsTracks row.device items (a.bytes (Volume row.device)) l) (sym same) done.content;
         label = subst (λ (l : List ℕ). BearsLabel labelling row (a.bytes (Volume row.device)) l) (sym same) done.label;
         durable = λ z left.
             let came = works.moments told (Volume row.device) c.clock ((works.elapses told).kept (Volume row.device)).later (omega arith) z left in
@@ -307,6 +308,7 @@ module _ (tells : Type 0) (labelling : Labelling) (left : ℕ → Bool) (items :
       let done = redone told good in
       record {
         draws = subst (λ (l : List ℕ). Draws r.device items l (c.bytes (Volume r.device))) same done.draws;
+        content = subst (λ (l : List ℕ). HoldsTracks r.device items l (c.bytes (Volume r.device))) same done.content;
         label = subst (λ (l : List ℕ). BearsLabel labelling r l (c.bytes (Volume r.device))) same done.label;
         durable = done.durable;
       }

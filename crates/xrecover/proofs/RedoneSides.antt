@@ -18,10 +18,10 @@ use Rattle.xrecover.specs.FinishedPairs.{FinishesPairs}
 use Rattle.xrecover.specs.Labels.{KeepsLabels, LabelsLast, TreatsLabels}
 use Rattle.xrecover.specs.Pairs.{AreFaulty, HasDuplex, SparesOthers, duplex_devices, is_duplex_of}
 use Rattle.pair_table.specs.States.{is_duplex}
-use Rattle.xrecover.specs.RedoneVolumes.{Draws, Recovers, Redone, SameLabel}
+use Rattle.xrecover.specs.RedoneVolumes.{Draws, HoldsTracks, Recovers, Redone, SameLabel}
 use Rattle.xrecover.specs.SideVolumes.{AppliesSides, OfVolumes}
 use Rattle.xrecover.specs.Works.{Works}
-use Rattle.xrecover.proofs.Contents.{draws_after}
+use Rattle.xrecover.proofs.Contents.{draws_after, track_kept}
 use Rattle.xrecover.proofs.Fails.{counted_same, counted_then}
 use Rattle.xrecover.proofs.Going.{all_listed, either}
 use Rattle.xrecover.proofs.Labels.{bears_then, keeps_same, keeps_then, label_kept, last_redone, named_then, slots_label}
@@ -144,9 +144,12 @@ module _ (tells : Type 0) (rows : List PairRow) (items : List Item) (was left : 
 
     -- ---- what they hold
 
-    module _ (told : tells) (content : (v : ℕ) → left v ≡ false → Draws v items (a.bytes (Volume v)) (b.bytes (Volume v))) where
+    module _ (told : tells) (content : (v : ℕ) → left v ≡ false → Draws v items (a.bytes (Volume v)) (b.bytes (Volume v)) × HoldsTracks v items (a.bytes (Volume v)) (b.bytes (Volume v))) where
       draws_now : (v : ℕ) → HasDuplex rows v → left v ≡ false → Draws v items (a.bytes (Volume v)) (c.bytes (Volume v))
-      draws_now v has fit = draws_after v items (a.bytes (Volume v)) (b.bytes (Volume v)) (c.bytes (Volume v)) (content v fit) ((fin.works.bytes told (Volume v)).0 has)
+      draws_now v has fit = draws_after v items (a.bytes (Volume v)) (b.bytes (Volume v)) (c.bytes (Volume v)) (content v fit).0 ((fin.works.bytes told (Volume v)).0 has)
+
+      holds_now : (v : ℕ) → HasDuplex rows v → left v ≡ false → HoldsTracks v items (a.bytes (Volume v)) (c.bytes (Volume v))
+      holds_now v has fit x room = track_kept v x [] (b.bytes (Volume v)) (c.bytes (Volume v)) ((fin.works.bytes told (Volume v)).0 has) (λ none. absurd cc) ∙ (content v fit).1 x room
 
       good_flags : (x y : Bool) → ¬ ((x || y) ≡ true) → (x ≡ false) × (y ≡ false)
       good_flags true y none = absurd (none refl)
@@ -164,6 +167,7 @@ module _ (tells : Type 0) (rows : List PairRow) (items : List Item) (was left : 
           let done = fin.redone told k d lt is flags.0 flags.1 in
           record {
             draws = draws_now v (has_at rows k d lt is) flags.0;
+            content = holds_now v (has_at rows k d lt is) flags.0;
             label = bears_then labelling row (a.bytes (Volume v)) (b.bytes (Volume v)) (c.bytes (Volume v)) (walk_labels told v).bytes done.label;
             durable = done.durable;
           }

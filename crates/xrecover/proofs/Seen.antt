@@ -89,7 +89,7 @@ module _ (plant : PlantState) (a b : Images) (same : SameLogs plant.journals a b
 
 -- ---- a choice
 
-duplex_cases : (rows : List PairRow) (v : ℕ) → HasDuplex rows v ⊎ ¬ HasDuplex rows v
+pub duplex_cases : (rows : List PairRow) (v : ℕ) → HasDuplex rows v ⊎ ¬ HasDuplex rows v
 duplex_cases rows v = by_test (list_any (is_duplex_of v) rows) refl
   where
     by_test : (b : Bool) → list_any (is_duplex_of v) rows ≡ b → HasDuplex rows v ⊎ ¬ HasDuplex rows v
@@ -137,7 +137,7 @@ entered_within (suc turns) shape images s before within k is = by_step (step sha
     by_step (GoesOn groups n) e more here = more n (next groups n e) (set_within shape images s n groups e within) here
 
 -- A device that was read in its turn is one of the plant.
-turn_part : (plant : PlantState) (d : Device) → IsInTurn plant d → IsPart plant d
+pub turn_part : (plant : PlantState) (d : Device) → IsInTurn plant d → IsPart plant d
 turn_part plant Control turn = tt
 turn_part plant State turn = tt
 turn_part plant (Journal j) e =

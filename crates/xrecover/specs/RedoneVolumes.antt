@@ -1,6 +1,6 @@
 -- What recovery leaves on the volumes.
 use Rattle.std.specs.Prelude.{◌≡◌, ◌≤◌, ℕ, List, [], All, Contains, length, take, slice_range, Option, Some, None, true}
-use Rattle.ckd_track.specs.SlotPlaces.{slot_track}
+use Rattle.ckd_track.specs.SlotPlaces.{slot_end, slot_track}
 use Rattle.crash_plant.specs.declared.device.Device.{Device}
 use Rattle.crash_plant.specs.declared.device.Device.TheVariants.{Control, State, Journal, Volume}
 use Rattle.crash_plant.specs.Moments.{PlantState, on, IsDurable}
@@ -41,6 +41,10 @@ meant_rows plant images = rows_of (means_of plant images)
 abbrev pub Draws : (device : ℕ) → List Item → (old new : List ℕ) → Type 0
 Draws device items old new = (x : ℕ) → HasItem device x items → BeginsWithTrack new x (content_through device x items (slot_track old x))
 
+-- Each whole slot holds the content of its track.
+abbrev pub HoldsTracks : (device : ℕ) → List Item → (old new : List ℕ) → Type 0
+HoldsTracks device items old new = (x : ℕ) → slot_end x ≤ length old → slot_track new x ≡ content_through device x items (slot_track old x)
+
 -- the same 14 bytes of a label
 abbrev pub SameLabel : List ℕ → List ℕ → Type 0
 SameLabel b c = take 14 c ≡ take 14 b
@@ -53,6 +57,7 @@ BearsLabel AsItIs row old new = SameLabel old new
 -- A pair's volume: its tracks hold their content, it bears its label, and a crash leaves what reads give.
 pub record IsRedone (labelling : Labelling) (row : PairRow) (items : List Item) (old new : PlantState) : Type 0 where
   pub draws : Draws row.device items (old.bytes (Volume row.device)) (new.bytes (Volume row.device))
+  pub content : HoldsTracks row.device items (old.bytes (Volume row.device)) (new.bytes (Volume row.device))
   pub label : BearsLabel labelling row (old.bytes (Volume row.device)) (new.bytes (Volume row.device))
   pub durable : IsDurable (on new (Volume row.device))
 

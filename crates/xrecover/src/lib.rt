@@ -13,7 +13,7 @@ mod sides;
 mod volumes;
 
 pub use labelling::Labelling;
-pub use meaning::{examine_session, read_session};
+pub use meaning::{examine_session, read_recoverable, read_session};
 pub use outcome::Outcome;
 pub use recover_error::RecoverError;
 pub use recovering::{advance, recover, redo};

@@ -133,7 +133,7 @@ pub fn read_session<P: Plant>(
 }
 
 /// What was read of the devices of a session after syncs, if the volumes of the duplex pairs are long enough. Nothing is written.
-pub(crate) fn read_recoverable<P: Plant>(
+pub fn read_recoverable<P: Plant>(
     alloc: Global,
     plant: &mut P,
     session: Session,

@@ -14,7 +14,7 @@ ghost use Rattle.site_means.specs.Sight.{walked};
 ghost use Rattle.site_means.specs.Steps.{HoldsEveryBody};
 ghost use Rattle.xrecover.specs.Answers.{HasWalk, TellsFaults};
 ghost use Rattle.xrecover.specs.Rereading.{FoundAgain, IsAfter, IsWalkFault};
-ghost use Rattle.xrecover.specs.RedoneVolumes.{Draws};
+ghost use Rattle.xrecover.specs.RedoneVolumes.{Draws, HoldsTracks};
 ghost use Rattle.xrecover.specs.SideVolumes.{AppliesSides, AreHome, AreSet, is_left};
 
 use crate::sides::apply_record;
@@ -75,7 +75,7 @@ pub(crate) fn redo_walk<R: Threads + Sync, P: Plant>(
     requires walk { P.tells → HasWalk (P.state plant.old) mark.now }
     ensures jobs { AreHome (P.state plant.new).volumes jobs.new }
     ensures applies { AppliesSides P.tells (walked (P.state plant.old) (P.state plant.old).bytes) (is_left jobs.old) (is_left jobs.new) (P.state plant.old) (P.state plant.new) }
-    ensures content { P.tells → OnOk result ((v : ℕ) → is_left jobs.new v ≡ false → Draws v (walked (P.state plant.old) (P.state plant.old).bytes) ((P.state plant.old).bytes (Volume v)) ((P.state plant.new).bytes (Volume v))) }
+    ensures content { P.tells → OnOk result ((v : ℕ) → is_left jobs.new v ≡ false → Draws v (walked (P.state plant.old) (P.state plant.old).bytes) ((P.state plant.old).bytes (Volume v)) ((P.state plant.new).bytes (Volume v)) × HoldsTracks v (walked (P.state plant.old) (P.state plant.old).bytes) ((P.state plant.old).bytes (Volume v)) ((P.state plant.new).bytes (Volume v))) }
     ensures told { P.tells → (e : SiteErrorValue) → IsErrOf result e → IsWalkFault (P.state plant.old) e }
     ensures fault { TellsFaults (P.state plant.old).faults (P.state plant.new).faults (λ d. IsErrOf result (Fault d)) }
 {

@@ -1,5 +1,7 @@
-use Rattle.std.proofs.Common.{refl}
+use Rattle.std.proofs.Common.{◌≡◌, ℕ, List, refl, subst}
+use Rattle.xrc_status.specs.Saying.{SaysFront, SaysWhole}
 use Rattle.xrc_recovery.specs.Stops.{IsSite}
+use Rattle.xrc_recovery.specs.Texts.{site_text, site_word}
 use Rattle.xrc_recovery.proofs.Ending.{at_error, at_report, at_site}
 use Rattle.xrc_recovery.proofs.recovery.run_recovery.Goals as goal
 
@@ -30,7 +32,9 @@ returns-in-Ok g c =
     let site = c.is_site.ensures.0 c.if-not-is_site.false in
     let o = c.in-Ok.outcome in
     let redone = c.in-Ok.ensures in
-    let k = at_report g.P.Plant.tells c.args.labelling c.args.session a b (g.P.Plant.state c.report.new.plant) o.means o.failed c.report.result (record {
+    let d = g.P.Plant.state c.report.new.plant in
+    let word : c.site_word.result.now ≡ site_word c.args.labelling = c.site_word.ensures.text in
+    let k = at_report g.P.Plant.tells c.args.labelling c.args.session a b d o.means o.failed c.report.result (record {
       site = site;
       long = λ d first. let same = redone.short d first in cc;
       is_meant = redone.says;
@@ -47,8 +51,8 @@ returns-in-Ok g c =
       lines = c.report.ensures.lines;
       volume = c.report.ensures.volume;
       console = c.report.ensures.console;
-      front = c.report.ensures.front;
-      whole = c.report.ensures.whole;
+      front = subst (λ (w : List ℕ). SaysFront g.P.Plant.tells (site_text w c.args.session o.means.time.0 o.means.table.rows o.failed) b d) word c.report.ensures.front;
+      whole = λ other. subst (λ (w : List ℕ). SaysWhole g.P.Plant.tells (site_text w c.args.session o.means.time.0 o.means.table.rows o.failed) b d) word (c.report.ensures.whole other);
       later = c.report.ensures.later;
       by_one = c.report.ensures.by_one;
     }) in

@@ -13,7 +13,7 @@ use Rattle.site_means.specs.Images.{shape_of}
 use Rattle.site_means.specs.Sight.{walked}
 use Rattle.xrecover.specs.Answers.{TellsFaults}
 use Rattle.xrecover.specs.Rereading.{FoundAgain, IsAfter}
-use Rattle.xrecover.specs.RedoneVolumes.{Draws}
+use Rattle.xrecover.specs.RedoneVolumes.{Draws, HoldsTracks}
 use Rattle.xrecover.specs.SideVolumes.{is_left}
 use Rattle.xrecover.proofs.Again.{Next, all_again, fault_again, found_same, of_walk, reads_again, reads_first, reads_next}
 use Rattle.xrecover.proofs.Contents.{Done, done_then}
@@ -81,7 +81,7 @@ returns-in_default-clause-content g c = λ told v live.
     let same = found_same old cur r.s at last inv.applies.works.site (inv.applies.works.bytes told (Journal at.set)) r.at_is r.last_is in
     let here = subst (λ (o : Option (Stamp × Spot)). FoundAgain at.set (walk_one (form_of cur) cur.journals (cur.bytes (Journal at.set)) at last) its (let q : Result (Option (Stamp × Spot)) SiteError = Ok o in q)) c.in_default.is (c.in_ok-time.ensures.finds told) in
     let found = subst (λ (f : Found). FoundAgain at.set f its (Ok None)) (sym same) here in
-    subst (λ (l : List ℕ). Draws v items (old.bytes (Volume v)) l) (sym (c.read_again.ensures.reads.same told (Volume v)))
+    subst (λ (l : List ℕ). Draws v items (old.bytes (Volume v)) l × HoldsTracks v items (old.bytes (Volume v)) l) (sym (c.read_again.ensures.reads.same told (Volume v)))
     (all_again (shape_of old) old.bytes items its (λ (w : ℕ). is_left c.loop-time.jobs w ≡ false) (λ (w : ℕ). old.bytes (Volume w)) (λ (w : ℕ). cur.bytes (Volume w)) at last r c.read_again.ensures.number found v live)
 
 pub returns-in_err-time-clause-fault : goal.returns-in_err-time-clause-fault

@@ -1,14 +1,13 @@
 use Rattle.std.proofs.Common.{◌≡◌, Bool, false, List, [], refl, sym, ap, subst, ◌∙◌}
-use Rattle.applier.proofs.Works.{lent_of_works}
 use Rattle.pair_table.specs.Tables.{Table}
 use Rattle.site_store.specs.Causes.{FailByCounts}
 use Rattle.site_store.specs.Changing.{changed_items}
-use Rattle.site_store.specs.Records.{IsOfRecord}
 use Rattle.site_store.specs.RowRecords.{names_rows}
 use Rattle.site_store.specs.Sites.{SiteState}
 use Rattle.site_store.specs.Standing.{Leaves}
 use Rattle.site_store.proofs.ChangeEnds.{change_does, change_logs, level_view, no_items, none_done, none_leaves, told_is}
 use Rattle.site_store.proofs.LogFails.{none_fails}
+use Rattle.site_store.proofs.PlanEnds.{rows_works}
 use Rattle.site_store.proofs.VolumesStaying.{stay_here}
 use Rattle.site_store.proofs.site.Site.log_change.Given as given
 use Rattle.site_store.proofs.site.Site.log_change.Goals as goal
@@ -54,9 +53,9 @@ returns-then-not-names_rows-clause-volumes g c = stay_here g.P.Plant.tells (g.P.
 
 -- ---- a record is logged
 
-pub log_rows-requires-clause-may : goal.log_rows-requires-clause-may
-log_rows-requires-clause-may g c κs within =
-    let f = (goal.at.log_rows-requires-clause-may g c).After-names_rows in
+pub log_by_plan-requires-clause-may : goal.log_by_plan-requires-clause-may
+log_by_plan-requires-clause-may g c κs within =
+    let f = (goal.at.log_by_plan-requires-clause-may g c).After-names_rows in
     record { may = c.requires.may; level = λ not. absurd (let yes = sym (named g f) ∙ c.if-not-names_rows.false in cc (yes, not)) }
 
 pub returns : goal.returns
@@ -65,17 +64,18 @@ returns g c =
     let site = c.args.self.now in
     let tells = g.P.Plant.tells in
     let old = g.P.Plant.state c.args.plant.now in
-    let k = c.log_rows in
+    let k = c.log_by_plan in
+    let by = k.ensures.recorded in
     let new = g.P.Plant.state k.new.plant in
     let follow = sym (named g f) ∙ c.if-not-names_rows.false in
     record {
-      ok = change_logs tells c.args.cut.0 c.args.change.now site k.new.self old new k.result follow k.ensures.logs c.args.plant.now k.new.plant;
-      leaves = k.ensures.leaves;
-      moments = change_does tells c.args.cut.0 c.args.change.now site k.new.self old new k.result follow k.ensures.logs;
-      others = lent_of_works tells (IsOfRecord site) old new k.ensures.only;
-      volumes = k.ensures.volumes;
-      uncalled = λ spent. (k.ensures.uncalled spent).1;
-      heard_said = k.ensures.only.silent;
-      cause = k.ensures.cause;
-      failed = k.ensures.failed;
+      ok = change_logs tells c.args.cut.0 c.args.change.now site k.new.self old new k.result follow by.logged c.args.plant.now k.new.plant;
+      leaves = by.leaves;
+      moments = change_does tells c.args.cut.0 c.args.change.now site k.new.self old new k.result follow by.logged;
+      others = rows_works tells site old new by.works;
+      volumes = by.volumes;
+      uncalled = λ spent. (k.ensures.unwritten spent).1;
+      heard_said = by.works.silent;
+      cause = by.cause;
+      failed = by.failed;
     }

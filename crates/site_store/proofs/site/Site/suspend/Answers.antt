@@ -1,9 +1,8 @@
 use Rattle.std.proofs.Common.{◌≡◌, false, List, [], refl, sym, ap, ◌∙◌}
-use Rattle.applier.proofs.Works.{lent_of_works}
 use Rattle.pair_table.specs.declared.row.PairRow.{PairRow}
 use Rattle.record_rows.specs.Hits.{hit_now}
 use Rattle.site_store.specs.Hits.{are_some}
-use Rattle.site_store.specs.Records.{IsOfRecord}
+use Rattle.site_store.proofs.PlanEnds.{rows_works}
 use Rattle.site_store.proofs.SuspensionEnds.{may_log, none_does, none_of, none_suspends, suspends, suspends_does}
 use Rattle.site_store.proofs.Views.{flags_below}
 use Rattle.site_store.proofs.VolumesStaying.{stay_here}
@@ -40,9 +39,9 @@ returns-then-not-has_hit-clause-volumes g c = stay_here g.P.Plant.tells (g.P.Pla
 
 -- ---- a record is logged
 
-pub log_rows-requires-clause-may : goal.log_rows-requires-clause-may
-log_rows-requires-clause-may g c κs within =
-    let f = (goal.at.log_rows-requires-clause-may g c).After-has_hit in
+pub log_by_plan-requires-clause-may : goal.log_by_plan-requires-clause-may
+log_by_plan-requires-clause-may g c κs within =
+    let f = (goal.at.log_by_plan-requires-clause-may g c).After-has_hit in
     may_log g.P.Plant.tells c.args.cut.0 c.args.self.now (g.P.Plant.state c.args.plant.now) (told g f) c.requires.ready c.requires.cut
 
 pub returns : goal.returns
@@ -51,17 +50,18 @@ returns g c =
     let site = c.args.self.now in
     let tells = g.P.Plant.tells in
     let old = g.P.Plant.state c.args.plant.now in
-    let k = c.log_rows in
+    let k = c.log_by_plan in
+    let by = k.ensures.recorded in
     let new = g.P.Plant.state k.new.plant in
     let some = hit_is g f ∙ c.if-not-has_hit.false in
     record {
-      ok = suspends tells c.args.cut.0 site old (told g f) k.new.self new k.result some k.ensures.logs c.args.plant.now k.new.plant;
-      leaves = k.ensures.leaves;
-      moments = suspends_does tells c.args.cut.0 site old (told g f) k.new.self new k.result some k.ensures.logs;
-      others = lent_of_works tells (IsOfRecord site) old new k.ensures.only;
-      volumes = k.ensures.volumes;
-      uncalled = k.ensures.uncalled;
-      heard_said = k.ensures.only.silent;
-      cause = k.ensures.cause;
-      failed = k.ensures.failed;
+      ok = suspends tells c.args.cut.0 site old (told g f) k.new.self new k.result some by.logged c.args.plant.now k.new.plant;
+      leaves = by.leaves;
+      moments = suspends_does tells c.args.cut.0 site old (told g f) k.new.self new k.result some by.logged;
+      others = rows_works tells site old new by.works;
+      volumes = by.volumes;
+      uncalled = k.ensures.unwritten;
+      heard_said = by.works.silent;
+      cause = by.cause;
+      failed = by.failed;
     }

@@ -1,0 +1,9 @@
+pub mod Rows
+pub mod JobsDone
+pub mod Labels
+pub mod Finding
+pub mod Site
+pub mod Counting
+pub mod Redone
+pub mod SeenRows
+pub mod Phases

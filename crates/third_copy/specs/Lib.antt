@@ -1,0 +1,4 @@
+pub mod Targets
+pub mod Pairs
+pub mod Jobs
+pub mod Answers
