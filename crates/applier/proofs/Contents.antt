@@ -159,7 +159,7 @@ module _ (device : ℕ) where
   pub item_step : (earlier : Earlier) (i : Item) (b : List ℕ) → is_item anywhere earlier i ≡ true → Room (i ∷ []) (length b) → Step i b (written_by device b i)
   item_step earlier (Image of y recs) b keeps room = image_step earlier of y recs b keeps room (of == device) refl
   item_step earlier (Delta of y kind) b keeps room = absurd cc
-  item_step earlier (Pair row) b keeps room = still_step (Pair row) b (λ x. refl) (λ x t. refl)
+  item_step earlier (Pair version row) b keeps room = still_step (Pair version row) b (λ x. refl) (λ x t. refl)
   item_step earlier (Gone of) b keeps room = still_step (Gone of) b (λ x. refl) (λ x t. refl)
 
   -- ---- items in turn

@@ -37,7 +37,7 @@ told_of item bytes i device x t has = go i t.keeps t.told_is has
       | inr none ↦ absurd (false≢true none)
     ]
     go (Delta d y kind) keeps e own = absurd cc
-    go (Pair row) keeps e own = absurd cc
+    go (Pair version row) keeps e own = absurd cc
     go (Gone d) keeps e own = absurd cc
 
 -- An image of the device is an item of its track.
@@ -50,7 +50,7 @@ told_own device x bytes i t = go i t.keeps t.told_is
         let y_is : x ≡ y = cc in
         λ i. (eq-eqb d device (sym d_is) i && eq-eqb y x (sym y_is) i) || false
     go (Delta d y kind) keeps e = absurd cc
-    go (Pair row) keeps e = absurd cc
+    go (Pair version row) keeps e = absurd cc
     go (Gone d) keeps e = absurd cc
 
 module _ {D : Type 0} (state : D → Standing) (tells : Type 0) where
@@ -74,7 +74,7 @@ module _ {D : Type 0} (state : D → Standing) (tells : Type 0) where
           by_device true e = absurd (none x (λ i. (e i && eq-eqb x x refl i) || false))
           by_device false e = search e
       same_bytes (Delta d x kind) none = refl
-      same_bytes (Pair row) none = refl
+      same_bytes (Pair version row) none = refl
       same_bytes (Gone d) none = refl
 
   pub job_stays : (i : Item) (job : VolumeJob D) → ((x : ℕ) → ¬ HasItem job.device x (i ∷ [])) → WritesToJob state tells i job job

@@ -49,7 +49,7 @@ told_image of track bytes i t = go i t.keeps t.told_is t.spelled
           bytes_are = take_rest bytes 7 ∙ ap (λ (l : List ℕ). drop 7 l) spelled ∙ image_after d x r;
         }
     go (Delta d x kind) keeps e spelled = absurd cc
-    go (Pair row) keeps e spelled = absurd cc
+    go (Pair version row) keeps e spelled = absurd cc
     go (Gone d) keeps e spelled = absurd cc
 
 -- The image fits where the slot of its track lies in the device.

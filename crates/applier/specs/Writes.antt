@@ -32,7 +32,7 @@ HasSlotRoom state item job = (x : ℕ) → job.failed ≡ false → item ≡ Ima
 abbrev pub written_by : (device : ℕ) → List ℕ → Item → List ℕ
 written_by device bytes (Image d x recs) = if d == device then patched (slot_place x) (image recs) bytes else bytes
 written_by device bytes (Delta d x kind) = bytes
-written_by device bytes (Pair row) = bytes
+written_by device bytes (Pair version row) = bytes
 written_by device bytes (Gone d) = bytes
 
 -- the bytes after items in turn

@@ -1,6 +1,6 @@
 //! Rows of words, eight at a time. Each call gives what its plain one gives.
 
-ghost use Rattle.std.specs.Prelude.{◌≡◌, ◌<◌, ◌^◌, length, sum_by, count_ones, bit_or};
+ghost use Rattle.std.specs.Prelude.{◌≡◌, ℕ, ◌≤◌, ◌<◌, ◌^◌, length, get_or, sum_by, count_ones, bit_or};
 ghost use Rattle.std.specs.Simd.Lanes.{zip2};
 
 use crate::plain::{count_plain, or_plain};
@@ -34,4 +34,21 @@ pub fn count_lanes(words: &[u64]) -> u64
         counts = counts.strict_add(u64x8::from_slice(&words[k * LANES..]).count_ones());
     }
     counts.strict_reduce_sum() + count_plain(&words[whole * LANES..])
+}
+
+/// A word from one on, such that all words from there to it are 0.
+pub fn past_clear(words: &[u64], from: usize) -> usize
+    requires { from ≤ length words.now }
+    ensures later { from ≤ result }
+    ensures clear { (k : ℕ) → from ≤ k → k < result → get_or words.now k 0 ≡ 0 }
+{
+    let whole = (words.len() - from) / LANES;
+    for k in 0..whole {
+        let next = from + k * LANES;
+        let set = u64x8::from_slice(&words[next..]).simd_ne(u64x8::splat(0));
+        if set.to_bitmask() != 0 {
+            return next;
+        }
+    }
+    from + whole * LANES
 }

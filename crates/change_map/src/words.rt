@@ -4,7 +4,7 @@ ghost use Rattle.std.specs.Prelude.{◌≡◌, ℕ, ◌+◌, ◌*◌, ◌/◌, �
 ghost use Rattle.change_map.specs.Sets.{size};
 ghost use Rattle.change_map.specs.Words.{has_bit, set_in, IsNextBit};
 
-use crate::lanes::{count_lanes, or_lanes};
+use crate::lanes::{count_lanes, or_lanes, past_clear};
 
 /// The bits of a word.
 const BITS: u32 = 64;
@@ -63,13 +63,14 @@ pub fn next_bit(words: &[u64], from: u32) -> Option<u32>
     first_bit(words, first + 1)
 }
 
-/// The first bit from a word on that is set.
+/// The first bit from a word on that is set. Words without a bit are passed over eight at a time.
 fn first_bit(words: &[u64], from: usize) -> Option<u32>
     requires few { length words.now ≤ 2 ^ 26 }
+    requires from { from ≤ length words.now }
     ensures none { result ≡ None → (x : ℕ) → 64 * from ≤ x → has_bit words.now x ≡ false }
     ensures some { IfSome result (IsNextBit words.now (64 * from)) }
 {
-    for k in from..words.len() {
+    for k in past_clear(words, from)..words.len() {
         let word = words[k];
         if word != 0 {
             return Some(k as u32 * BITS + word.trailing_zeros());

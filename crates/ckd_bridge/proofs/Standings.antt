@@ -35,7 +35,7 @@ bytes_then a b c d e f one two = record { first_bytes = two.first_bytes ∙ one.
 pub still_ready : (job : Job) (a b c d : Standing) → AreFilesReady job a b → SameLengths a b c d → AreFilesReady job c d
 still_ready (Import shape) a b c d ready same = (subst (λ n. image_length shape ≤ n) (sym same.first_length) ready.0, ready.1)
 still_ready (Capture shape volume stamp) a b c d ready same =
-    (subst (λ n. image_length shape ≤ n) (sym same.first_length) ready.0, subst (λ n. image_length shape ≤ n) (sym same.second_length) ready.1, ready.2, ready.3)
+    (subst (λ n. image_length shape ≤ n) (sym same.first_length) ready.0, subst (λ n. image_length shape ≤ n) (sym same.second_length) ready.1, ready.2, ready.3, ready.4)
 still_ready (Export device_type cylinders) a b c d ready same = (subst (λ n. volume_need cylinders ≤ n) (sym same.first_length) ready.0, ready.1)
 
 pub same_pieces : (job : Job) (a b c d : Standing) (k : ℕ) → ReadSame a b c d → piece_of job c.bytes d.bytes k ≡ piece_of job a.bytes b.bytes k

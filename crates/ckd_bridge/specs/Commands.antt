@@ -1,8 +1,8 @@
 -- What the commands write for what they read.
 use Rattle.std.specs.Prelude.{◌≡◌, ◌⊎◌, ℕ, zero, suc, ◌*◌, ◌==◌, ◌&&◌, List, [], ◌∷◌, ◌++◌, Bool, Option, Result, Ok, Err, not, nat_le, if◌then◌else◌}
 use Rattle.std.specs.Int.{w16, w32, to_be_bytes}
-use Rattle.tod_stamp.specs.Fields.{◌>>=◌, within}
-use Rattle.xrc_edge.specs.declared.limits.TheConstants.{MOST_CYLINDERS, TRACKS_OF_CYLINDER}
+use Rattle.tod_stamp.specs.Fields.{◌>>=◌}
+use Rattle.xrc_edge.specs.declared.limits.TheConstants.{MOST_NARROW_CYLINDERS, TRACKS_OF_CYLINDER}
 use Rattle.ckd_track.specs.declared.rec.Rec.{Rec}
 use Rattle.volume_label.specs.Labels.{volume_need}
 use Rattle.write_trace.specs.declared.header.Header.{Header}
@@ -11,9 +11,10 @@ use Rattle.write_trace.specs.Headers.{Base, trace_mark, volume_spelling}
 use Rattle.ckd_image.specs.declared.shape.DeviceType.{DeviceType}
 use Rattle.ckd_image.specs.declared.shape.ImageShape.{ImageShape}
 use Rattle.ckd_image.specs.Shapes.{header_bytes, type_byte}
+use Rattle.ckd_bridge.specs.declared.named_volume.NamedVolume.{NamedVolume}
 use Rattle.ckd_bridge.specs.declared.stop.ImageFile.TheVariants.{First, Second}
 use Rattle.ckd_bridge.specs.declared.stop.Refusal.{Refusal}
-use Rattle.ckd_bridge.specs.declared.stop.Refusal.TheVariants.{NoLabel, OtherCylinders, OtherShape}
+use Rattle.ckd_bridge.specs.declared.stop.Refusal.TheVariants.{NoLabel, OtherCylinders, OtherShape, TooLarge}
 use Rattle.ckd_bridge.specs.declared.stop.Stop.{Stop}
 use Rattle.ckd_bridge.specs.declared.stop.Stop.TheVariants.{NoMemory, ReadFault, WriteFault, Refused}
 use Rattle.ckd_bridge.specs.Sinks.{Appends}
@@ -80,15 +81,17 @@ same_shape cylinders first second =
 abbrev pub captured_shape : (cylinders : ℕ) → (first second : List ℕ) → Result ImageShape Refusal
 captured_shape cylinders first second = shape_of_image First first >>= λ a. shape_of_image Second second >>= λ b. same_shape cylinders a b
 
-abbrev pub captured_bytes : ImageShape → (volume stamp : ℕ) → (first second : List ℕ) → List ℕ
+abbrev pub captured_bytes : ImageShape → NamedVolume → (stamp : ℕ) → (first second : List ℕ) → List ℕ
 captured_bytes shape volume stamp first second = pieces_up_to (captured_piece shape volume stamp first second) (tracks_of_shape shape)
 
 -- ---- the image of an export
 
--- The volume has 1 to the most cylinders, and its device is long enough for them.
+-- The volume has no more cylinders than an image can, it has one at least, and its device is long enough for them.
 abbrev pub exported_shape : DeviceType → (cylinders length : ℕ) → Result ImageShape Refusal
 exported_shape device_type cylinders length =
-    if within 1 MOST_CYLINDERS cylinders && nat_le (volume_need cylinders) length then Ok (record { device_type = device_type; cylinders = cylinders }) else Err NoLabel
+    if not (nat_le cylinders MOST_NARROW_CYLINDERS) then Err TooLarge
+    else if nat_le 1 cylinders && nat_le (volume_need cylinders) length then Ok (record { device_type = device_type; cylinders = cylinders })
+    else Err NoLabel
 
 abbrev pub exported_bytes : ImageShape → (volume : List ℕ) → List ℕ
 exported_bytes shape volume = header_bytes shape.device_type ++ pieces_up_to (exported_piece shape.device_type volume) (tracks_of_shape shape)

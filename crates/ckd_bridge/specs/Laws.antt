@@ -2,8 +2,8 @@
 use Rattle.std.specs.Prelude.{◌≡◌, ◌<◌, ℕ, List, IsTrue}
 use Rattle.tod_stamp.specs.Fields.{IsBytes, within}
 use Rattle.tod_stamp.specs.Names.{is_serial}
-use Rattle.xrc_edge.specs.declared.limits.TheConstants.{MOST_CYLINDERS}
-use Rattle.write_trace.specs.Headers.{is_header_of}
+use Rattle.xrc_edge.specs.declared.limits.TheConstants.{MOST_NARROW_CYLINDERS}
+use Rattle.write_trace.specs.Headers.{is_header}
 use Rattle.ckd_image.specs.declared.shape.ImageShape.{ImageShape}
 use Rattle.ckd_bridge.specs.declared.stop.ImageFile.TheVariants.{First}
 use Rattle.ckd_bridge.specs.Pieces.{AreGood}
@@ -13,8 +13,8 @@ use Rattle.ckd_bridge.specs.Commands.{exported_bytes, imported_header, tracks_of
 
 -- The header keeps the rules of traces, so what follows it is read as entries.
 abbrev pub ImportsAreTraces : Type 0
-ImportsAreTraces = (serial image : List ℕ) (shape : ImageShape) → IsBytes image → IsTrue (is_serial serial) → IsTrue (within 1 MOST_CYLINDERS shape.cylinders)
-    → AreGood (imported_piece shape image) (tracks_of_shape shape) → IsTrue (is_header_of 1 (imported_header serial shape image))
+ImportsAreTraces = (serial image : List ℕ) (shape : ImageShape) → IsBytes image → IsTrue (is_serial serial) → IsTrue (within 1 MOST_NARROW_CYLINDERS shape.cylinders)
+    → AreGood (imported_piece shape image) (tracks_of_shape shape) → IsTrue (is_header (imported_header serial shape image))
 
 -- Each track of the image holds the records that the volume's slot holds.
 abbrev pub ExportsReadBack : Type 0

@@ -24,10 +24,10 @@ use Rattle.ckd_bridge.specs.declared.stop.Stop.TheVariants.{NoMemory, ReadFault,
 abbrev pub first_of_serial : (serial : List ℕ) → List VolumeHead → Option ℕ
 first_of_serial serial volumes = position (λ v. bytes_eq v.serial serial) volumes
 
--- the volume of that number; there is none if no number is found
-abbrev pub volume_numbered : List VolumeHead → Option ℕ → Result NamedVolume Stop
-volume_numbered volumes (Some number) = Ok (record { number = number; cylinders = cylinders_of volumes number })
-volume_numbered volumes None = Err (Refused NoVolume)
+-- the volume of that number in a trace of a version; there is none if no number is found
+abbrev pub volume_numbered : (version : ℕ) → List VolumeHead → Option ℕ → Result NamedVolume Stop
+volume_numbered version volumes (Some number) = Ok (record { version = version; number = number; cylinders = cylinders_of volumes number })
+volume_numbered version volumes None = Err (Refused NoVolume)
 
 -- A write may follow a trace that is good to its end, if its stamp isn't below the last entry's.
 abbrev pub volume_at_end : NamedVolume → (stamp last : ℕ) → TraceEnd → Result NamedVolume Stop
@@ -43,7 +43,7 @@ stop_of_bad_header header.NoMemory = NoMemory
 -- the volume of this serial in a trace that a write of this stamp may follow, or what is wrong first: the header, the serial, the
 -- entries, or the stamp
 abbrev pub volume_to_follow : (serial : List ℕ) → (stamp : ℕ) → Result Trace HeaderError → Result NamedVolume Stop
-volume_to_follow serial stamp (Ok t) = volume_numbered t.header.volumes (first_of_serial serial t.header.volumes) >>= λ volume. volume_at_end volume stamp (last_entry_stamp 0 t.entries) t.end
+volume_to_follow serial stamp (Ok t) = volume_numbered t.header.version t.header.volumes (first_of_serial serial t.header.volumes) >>= λ volume. volume_at_end volume stamp (last_entry_stamp 0 t.entries) t.end
 volume_to_follow serial stamp (Err error) = Err (stop_of_bad_header error)
 
 -- What was found is what is to be found, unless the file failed or memory ran out.

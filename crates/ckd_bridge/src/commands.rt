@@ -1,8 +1,8 @@
 //! The commands: what each writes for what it reads.
 
 ghost use Rattle.std.specs.Prelude.{◌≡◌, ◌≤◌, IfOk, IsTrue};
-ghost use Rattle.tod_stamp.specs.Fields.{within};
-ghost use Rattle.xrc_edge.specs.declared.limits.TheConstants.{MOST_CYLINDERS};
+ghost use Rattle.tod_stamp.specs.Fields.{is_version, within};
+ghost use Rattle.xrc_edge.specs.declared.limits.TheConstants.{MOST_NARROW_CYLINDERS};
 ghost use Rattle.write_trace.specs.Headers.{header_spelling};
 ghost use Rattle.ckd_image.specs.Shapes.{image_length};
 ghost use Rattle.ckd_bridge.specs.declared.stop.ImageFile.TheVariants.{First};
@@ -24,11 +24,11 @@ use std::alloc::Global;
 use tod_stamp::{Serial, Stamp};
 use volume_label::need;
 use write_trace::{BaseList, Header, TraceWriter, VolumeHead, VolumeList};
-use xrc_edge::{Bytes, MOST_CYLINDERS, NoMemory, TRACKS_OF_CYLINDER};
+use xrc_edge::{Bytes, MOST_NARROW_CYLINDERS, NoMemory, TRACKS_OF_CYLINDER};
 
 /// The header of a trace of one volume, up to its base tracks.
 fn before_base(alloc: Global, serial: Serial, cylinders: u32) -> Result<Bytes, NoMemory>
-    requires { IsTrue (within 1 MOST_CYLINDERS cylinders) }
+    requires { IsTrue (within 1 MOST_NARROW_CYLINDERS cylinders) }
     ensures { IfOk result (λ bytes. bytes ≡ before_base serial cylinders) }
 {
     let mut volumes = VolumeList::make(alloc);
@@ -95,7 +95,7 @@ fn captured_shape<D: Disk + Drop>(files: &mut Files<D>, cylinders: u32) -> Resul
     ensures shape { D.tells → GivesPiece (λ shape. shape) result (captured_shape cylinders (D.state files.old.first).bytes (D.state files.old.second).bytes) }
     ensures first { IfOk result (λ shape. image_length shape ≡ (D.state files.old.first).length_is) }
     ensures second { IfOk result (λ shape. image_length shape ≡ (D.state files.old.second).length_is) }
-    ensures cylinders { IfOk result (λ shape. shape.cylinders ≤ MOST_CYLINDERS) }
+    ensures cylinders { IfOk result (λ shape. shape.cylinders ≤ MOST_NARROW_CYLINDERS) }
     ensures same { D.tells → ReadSame (D.state files.old.first) (D.state files.old.second) (D.state files.new.first) (D.state files.new.second) }
     ensures length { SameLengths (D.state files.old.first) (D.state files.old.second) (D.state files.new.first) (D.state files.new.second) }
     ensures cause { ReadsWithCause (fault_counts (D.state files.old.first) (D.state files.old.second)) (fault_counts (D.state files.new.first) (D.state files.new.second)) result }
@@ -115,7 +115,7 @@ fn captured_shape<D: Disk + Drop>(files: &mut Files<D>, cylinders: u32) -> Resul
 }
 
 /// Puts an entry after a trace for each track that differs between the two files, images of one shape: the track is replaced by the
-/// second's, on this volume of the trace and at this stamp. If something in an image can't be taken nothing is written.
+/// second's, on this volume of the trace and at this stamp. The entries are of the trace's version, which is 1 or 2. If something in an image can't be taken nothing is written.
 pub fn capture<D: Disk + Drop, S: Sink>(
     alloc: Global,
     files: &mut Files<D>,
@@ -123,8 +123,9 @@ pub fn capture<D: Disk + Drop, S: Sink>(
     stamp: Stamp,
     trace: &mut S,
 ) -> Result<ImageShape, Stop>
-    requires { 1 ≤ stamp.0 }
-    ensures captured { D.tells → EndsBridge (captured_shape volume.cylinders (D.state files.old.first).bytes (D.state files.old.second).bytes) (λ shape. captured_piece shape volume.number stamp.0 (D.state files.old.first).bytes (D.state files.old.second).bytes) (λ shape. captured_bytes shape volume.number stamp.0 (D.state files.old.first).bytes (D.state files.old.second).bytes) (S.written trace.old) (S.written trace.new) result }
+    requires stamp { 1 ≤ stamp.0 }
+    requires version { IsTrue (is_version volume.version) }
+    ensures captured { D.tells → EndsBridge (captured_shape volume.cylinders (D.state files.old.first).bytes (D.state files.old.second).bytes) (λ shape. captured_piece shape volume stamp.0 (D.state files.old.first).bytes (D.state files.old.second).bytes) (λ shape. captured_bytes shape volume stamp.0 (D.state files.old.first).bytes (D.state files.old.second).bytes) (S.written trace.old) (S.written trace.new) result }
     ensures cause { CopiesWithCause (fault_counts (D.state files.old.first) (D.state files.old.second)) (fault_counts (D.state files.new.first) (D.state files.new.second)) (S.faults trace.old) (S.faults trace.new) result }
 {
     let shape = match captured_shape(files, volume.cylinders) {
@@ -133,7 +134,7 @@ pub fn capture<D: Disk + Drop, S: Sink>(
     };
     let job = Job::Capture {
         shape,
-        volume: volume.number,
+        volume,
         stamp,
     };
     match copy_pieces(alloc, &job, files, &[], trace) {
@@ -150,7 +151,10 @@ fn exported_shape(
 ) -> Result<ImageShape, Refusal>
     ensures { result ≡ exported_shape device_type cylinders length }
 {
-    if cylinders < 1 || cylinders > u32::from(MOST_CYLINDERS) || length < need(cylinders) {
+    if cylinders > u32::from(MOST_NARROW_CYLINDERS) {
+        return Err(Refusal::TooLarge);
+    }
+    if cylinders < 1 || length < need(cylinders) {
         return Err(Refusal::NoLabel);
     }
     Ok(ImageShape {

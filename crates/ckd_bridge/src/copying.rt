@@ -1,7 +1,7 @@
 //! Writing a file track by track. First each piece is made and let go, so that nothing is written where one is refused.
 
 ghost use Rattle.std.specs.Prelude.{◌≡◌, ◌≤◌, OnOk};
-ghost use Rattle.xrc_edge.specs.declared.limits.TheConstants.{MOST_CYLINDERS};
+ghost use Rattle.xrc_edge.specs.declared.limits.TheConstants.{MOST_NARROW_CYLINDERS};
 ghost use Rattle.ckd_bridge.specs.Sinks.{Appends, PutsWithCause};
 ghost use Rattle.ckd_bridge.specs.Jobs.{AreFilesReady, ReadSame, SameLengths, fault_counts, job_count, job_cylinders, piece_of};
 ghost use Rattle.ckd_bridge.specs.Pieces.{AreGood, Checks, Copies, CopiesWithCause, IsNoRefusal, ReadsWithCause, pieces_up_to};
@@ -18,7 +18,7 @@ use xrc_edge::Failed;
 /// Whether each piece can be made, or the first that can't.
 fn check_pieces<D: Disk + Drop>(alloc: Global, job: &Job, files: &mut Files<D>) -> Result<(), Stop>
     requires ready { AreFilesReady job.now (D.state files.old.first) (D.state files.old.second) }
-    requires cylinders { job_cylinders job.now ≤ MOST_CYLINDERS }
+    requires cylinders { job_cylinders job.now ≤ MOST_NARROW_CYLINDERS }
     ensures checked { D.tells → Checks (piece_of job.now (D.state files.old.first).bytes (D.state files.old.second).bytes) (job_count job.now) result }
     ensures same { D.tells → ReadSame (D.state files.old.first) (D.state files.old.second) (D.state files.new.first) (D.state files.new.second) }
     ensures length { SameLengths (D.state files.old.first) (D.state files.old.second) (D.state files.new.first) (D.state files.new.second) }
@@ -52,7 +52,7 @@ fn write_pieces<D: Disk + Drop, S: Sink>(
     sink: &mut S,
 ) -> Result<(), Stop>
     requires ready { AreFilesReady job.now (D.state files.old.first) (D.state files.old.second) }
-    requires cylinders { job_cylinders job.now ≤ MOST_CYLINDERS }
+    requires cylinders { job_cylinders job.now ≤ MOST_NARROW_CYLINDERS }
     ensures written { D.tells → OnOk result (Appends (pieces_up_to (piece_of job.now (D.state files.old.first).bytes (D.state files.old.second).bytes) (job_count job.now)) (S.written sink.old) (S.written sink.new)) }
     ensures refusal { D.tells → AreGood (piece_of job.now (D.state files.old.first).bytes (D.state files.old.second).bytes) (job_count job.now) → IsNoRefusal result }
     ensures cause { CopiesWithCause (fault_counts (D.state files.old.first) (D.state files.old.second)) (fault_counts (D.state files.new.first) (D.state files.new.second)) (S.faults sink.old) (S.faults sink.new) result }
@@ -79,7 +79,7 @@ pub(crate) fn copy_pieces<D: Disk + Drop, S: Sink>(
     sink: &mut S,
 ) -> Result<(), Stop>
     requires ready { AreFilesReady job.now (D.state files.old.first) (D.state files.old.second) }
-    requires cylinders { job_cylinders job.now ≤ MOST_CYLINDERS }
+    requires cylinders { job_cylinders job.now ≤ MOST_NARROW_CYLINDERS }
     ensures copies { D.tells → Copies (piece_of job.now (D.state files.old.first).bytes (D.state files.old.second).bytes) (job_count job.now) opening.now (S.written sink.old) (S.written sink.new) result }
     ensures cause { CopiesWithCause (fault_counts (D.state files.old.first) (D.state files.old.second)) (fault_counts (D.state files.new.first) (D.state files.new.second)) (S.faults sink.old) (S.faults sink.new) result }
 {

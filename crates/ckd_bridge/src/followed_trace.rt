@@ -1,7 +1,8 @@
 //! A trace that a capture continues: whether it is whole, and which of its volumes is captured.
 
-ghost use Rattle.std.specs.Prelude.{◌≡◌, ◌≤◌, ◌∷◌, [], ℕ, List, length, false, None, Some, IsTrue};
+ghost use Rattle.std.specs.Prelude.{◌≡◌, ◌≤◌, ◌∷◌, [], ℕ, List, length, false, None, Some, IfOk, IsTrue};
 ghost use Rattle.xrc_edge.specs.declared.limits.TheConstants.{MOST_CONTROL_VOLUMES};
+ghost use Rattle.tod_stamp.specs.Fields.{is_version};
 ghost use Rattle.write_trace.specs.Headers.{are_volumes};
 ghost use Rattle.write_trace.specs.WholeTraces.{trace_of};
 ghost use Rattle.ckd_bridge.specs.NamedVolumes.{EndsEntries, GivesVolume, stop_of_bad_header, volume_at_end, volume_to_follow};
@@ -23,7 +24,7 @@ fn last_stamp<S: Source>(
     requires goes_on { reader.old.stopped ≡ None }
     requires first { reader.old.last ≡ 0 }
     requires few { length reader.old.volumes ≤ MOST_CONTROL_VOLUMES }
-    requires rules { IsTrue (are_volumes 1 [] reader.old.volumes) }
+    requires rules { IsTrue (are_volumes reader.old.version [] reader.old.volumes) }
     ensures { EndsEntries (S.left source.old) (S.left source.new) (S.faults source.old) (S.faults source.new) reader.old result }
 {
     let mut last = Stamp(0);
@@ -74,14 +75,15 @@ pub fn find_volume<S: Source>(
     serial: Serial,
     stamp: Stamp,
 ) -> Result<NamedVolume, Stop>
-    ensures found { (bytes : List ℕ) → S.left trace.old ≡ Some bytes → GivesVolume result (volume_to_follow serial stamp.0 (trace_of 1 false bytes)) }
+    ensures found { (bytes : List ℕ) → S.left trace.old ≡ Some bytes → GivesVolume result (volume_to_follow serial stamp.0 (trace_of false bytes)) }
+    ensures version { IfOk result (λ volume. IsTrue (is_version volume.version)) }
     ensures cause { ReadsWithCause (S.faults trace.old ∷ []) (S.faults trace.new ∷ []) result }
 {
     let (header, mut reader) = match start(alloc, trace) {
         Ok(started) => started,
         Err(error) => return Err(stop_of_bad_header(error)),
     };
-    let volume = match volume_numbered(header.volumes.as_slice(), serial) {
+    let volume = match volume_numbered(header.version, header.volumes.as_slice(), serial) {
         Ok(volume) => volume,
         Err(stop) => return Err(stop),
     };

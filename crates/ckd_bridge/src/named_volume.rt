@@ -10,9 +10,10 @@ use tod_stamp::Serial;
 use write_trace::VolumeHead;
 use xrc_edge::MOST_CONTROL_VOLUMES;
 
-/// A volume of a trace: its number there, and its cylinders.
+/// A volume of a trace: the trace's version, its number there, and its cylinders.
 #[derive(Clone, Copy, Debug, PartialEq, Eq)]
 pub struct NamedVolume {
+    pub version: u8,
     pub number: u16,
     pub cylinders: u32,
 }
@@ -26,13 +27,18 @@ fn first_of_serial(volumes: &[VolumeHead], serial: Serial) -> Option<usize>
         .position(|volume| volume.serial.as_bytes() == serial.as_bytes())
 }
 
-/// The volume of this serial.
-pub(crate) fn volume_numbered(volumes: &[VolumeHead], serial: Serial) -> Result<NamedVolume, Stop>
+/// The volume of this serial in a trace of this version.
+pub(crate) fn volume_numbered(
+    version: u8,
+    volumes: &[VolumeHead],
+    serial: Serial,
+) -> Result<NamedVolume, Stop>
     requires { length volumes.now ≤ MOST_CONTROL_VOLUMES }
-    ensures { result ≡ volume_numbered volumes.now (first_of_serial serial volumes.now) }
+    ensures { result ≡ volume_numbered version volumes.now (first_of_serial serial volumes.now) }
 {
     match first_of_serial(volumes, serial) {
         Some(number) => Ok(NamedVolume {
+            version,
             number: number as u16,
             cylinders: volumes[number].cylinders,
         }),

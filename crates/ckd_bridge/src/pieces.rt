@@ -1,7 +1,8 @@
 //! The pieces of a file that is written, one for each track.
 
-ghost use Rattle.std.specs.Prelude.{◌≡◌, ◌≤◌, ◌<◌, ◌*◌, ◌∷◌, [], IfOk};
-ghost use Rattle.xrc_edge.specs.declared.limits.TheConstants.{MOST_CYLINDERS, TRACKS_OF_CYLINDER};
+ghost use Rattle.std.specs.Prelude.{◌≡◌, ◌≤◌, ◌<◌, ◌*◌, ◌∷◌, [], IfOk, IsTrue};
+ghost use Rattle.xrc_edge.specs.declared.limits.TheConstants.{MOST_NARROW_CYLINDERS, TRACKS_OF_CYLINDER};
+ghost use Rattle.tod_stamp.specs.Fields.{is_version};
 ghost use Rattle.ckd_track.specs.SlotPlaces.{slot_end};
 ghost use Rattle.write_trace.specs.declared.entry.Entry.TheVariants.{Written};
 ghost use Rattle.write_trace.specs.Entries.{entry_spelling};
@@ -15,6 +16,7 @@ ghost use Rattle.ckd_bridge.specs.Tracks.{there_or};
 
 use crate::files::Files;
 use crate::job::Job;
+use crate::named_volume::NamedVolume;
 use crate::stop::{ImageFile, Refusal, Stop};
 use crate::tracks::{read_image_track, read_slot_track};
 use ckd_image::{DeviceType, ImageShape, fitted_track};
@@ -28,17 +30,20 @@ use xrc_edge::{Bytes, NoMemory};
 /// The bytes of an entry before its volume: its tag and its stamp.
 const BEFORE_VOLUME: usize = 9;
 
-/// The entry by which a track of this volume is replaced.
+/// The entry of a version by which a track of this volume is replaced.
+#[tactic(auto, using(crate::proofs::Versions::track_is_near))]
 fn whole_entry(
     alloc: Global,
+    version: u8,
     volume: u16,
     stamp: Stamp,
     number: u32,
     track: Track,
 ) -> Result<Bytes, NoMemory>
+    requires version { IsTrue (is_version version) }
     requires stamp { 1 ≤ stamp.0 }
-    requires number { number < TRACKS_OF_CYLINDER * MOST_CYLINDERS }
-    ensures { IfOk result (λ bytes. bytes ≡ entry_spelling 1 (Written (captured_write volume stamp.0 number track))) }
+    requires number { number < TRACKS_OF_CYLINDER * MOST_NARROW_CYLINDERS }
+    ensures { IfOk result (λ bytes. bytes ≡ entry_spelling version (Written (captured_write volume stamp.0 number track))) }
 {
     let write = Write {
         volume,
@@ -47,16 +52,16 @@ fn whole_entry(
         kind: Kind::Whole { track },
     };
     let mut entry = Bytes::make(alloc);
-    TraceWriter::write(alloc, &mut entry, &write)?;
+    TraceWriter::write(alloc, &mut entry, version, &write)?;
     Ok(entry)
 }
 
-/// A base track of a trace's first volume. It is spelled as an entry is that replaces it, without that entry's tag and stamp.
+/// A base track of the first volume of a trace of version 1. It is spelled as an entry is that replaces it, without that entry's tag and stamp.
 fn base_track(alloc: Global, number: u32, track: Track) -> Result<Bytes, NoMemory>
-    requires { number < TRACKS_OF_CYLINDER * MOST_CYLINDERS }
+    requires { number < TRACKS_OF_CYLINDER * MOST_NARROW_CYLINDERS }
     ensures { IfOk result (λ bytes. bytes ≡ base_spelling 1 (0, number, track)) }
 {
-    let entry = whole_entry(alloc, 0, Stamp(1), number, track)?;
+    let entry = whole_entry(alloc, 1, 0, Stamp(1), number, track)?;
     let (_, spelled) = entry.as_slice().split_at(BEFORE_VOLUME);
     let mut base = Bytes::make(alloc);
     base.extend_from_slice(alloc, spelled)?;
@@ -66,14 +71,15 @@ fn base_track(alloc: Global, number: u32, track: Track) -> Result<Bytes, NoMemor
 /// The entry by which a track becomes another, or nothing where they are the same.
 fn changed_track(
     alloc: Global,
-    volume: u16,
+    volume: NamedVolume,
     stamp: Stamp,
     number: u32,
     before: &Track,
     after: Track,
 ) -> Result<Bytes, NoMemory>
+    requires version { IsTrue (is_version volume.version) }
     requires stamp { 1 ≤ stamp.0 }
-    requires number { number < TRACKS_OF_CYLINDER * MOST_CYLINDERS }
+    requires number { number < TRACKS_OF_CYLINDER * MOST_NARROW_CYLINDERS }
     ensures { IfOk result (λ bytes. bytes ≡ changed_piece volume stamp.0 number before.now after) }
 {
     let mut old = Bytes::make(alloc);
@@ -83,7 +89,7 @@ fn changed_track(
     if old.as_slice() == new.as_slice() {
         Ok(Bytes::make(alloc))
     } else {
-        whole_entry(alloc, volume, stamp, number, after)
+        whole_entry(alloc, volume.version, volume.number, stamp, number, after)
     }
 }
 
@@ -94,7 +100,7 @@ fn track_on_device(
     number: u32,
     track: &Track,
 ) -> Result<Bytes, Stop>
-    requires { number < TRACKS_OF_CYLINDER * MOST_CYLINDERS }
+    requires { number < TRACKS_OF_CYLINDER * MOST_NARROW_CYLINDERS }
     ensures piece { GivesPiece (λ bytes. bytes) result (there_or (NoRoom number) (fitted_image_track (track_bytes device_type) number track.now)) }
     ensures cause { IsNoFault result }
 {
@@ -112,7 +118,7 @@ fn imported<D: Disk>(
     number: u32,
 ) -> Result<Bytes, Stop>
     requires long { image_length shape ≤ (D.state image.old).length_is }
-    requires cylinders { shape.cylinders ≤ MOST_CYLINDERS }
+    requires cylinders { shape.cylinders ≤ MOST_NARROW_CYLINDERS }
     requires number { number < TRACKS_OF_CYLINDER * shape.cylinders }
     ensures piece { D.tells → GivesPiece (λ bytes. bytes) result (imported_piece shape (D.state image.old).bytes number) }
     ensures same { D.tells → (D.state image.new).bytes ≡ (D.state image.old).bytes }
@@ -135,7 +141,7 @@ fn exported<D: Disk>(
     number: u32,
 ) -> Result<Bytes, Stop>
     requires long { slot_end number ≤ (D.state volume.old).length_is }
-    requires number { number < TRACKS_OF_CYLINDER * MOST_CYLINDERS }
+    requires number { number < TRACKS_OF_CYLINDER * MOST_NARROW_CYLINDERS }
     ensures piece { D.tells → GivesPiece (λ bytes. bytes) result (exported_piece device_type (D.state volume.old).bytes number) }
     ensures same { D.tells → (D.state volume.new).bytes ≡ (D.state volume.old).bytes }
     ensures length { (D.state volume.new).length_is ≡ (D.state volume.old).length_is }
@@ -152,14 +158,15 @@ fn captured_after<D: Disk>(
     alloc: Global,
     image: &mut D,
     shape: ImageShape,
-    volume: u16,
+    volume: NamedVolume,
     stamp: Stamp,
     number: u32,
     before: &Track,
 ) -> Result<Bytes, Stop>
     requires long { image_length shape ≤ (D.state image.old).length_is }
-    requires cylinders { shape.cylinders ≤ MOST_CYLINDERS }
+    requires cylinders { shape.cylinders ≤ MOST_NARROW_CYLINDERS }
     requires number { number < TRACKS_OF_CYLINDER * shape.cylinders }
+    requires version { IsTrue (is_version volume.version) }
     requires stamp { 1 ≤ stamp.0 }
     ensures piece { D.tells → GivesPiece (λ bytes. bytes) result (after_of shape volume stamp.0 before.now (D.state image.old).bytes number) }
     ensures same { D.tells → (D.state image.new).bytes ≡ (D.state image.old).bytes }
@@ -179,14 +186,15 @@ fn captured<D: Disk + Drop>(
     alloc: Global,
     files: &mut Files<D>,
     shape: ImageShape,
-    volume: u16,
+    volume: NamedVolume,
     stamp: Stamp,
     number: u32,
 ) -> Result<Bytes, Stop>
     requires first { image_length shape ≤ (D.state files.old.first).length_is }
     requires second { image_length shape ≤ (D.state files.old.second).length_is }
-    requires cylinders { shape.cylinders ≤ MOST_CYLINDERS }
+    requires cylinders { shape.cylinders ≤ MOST_NARROW_CYLINDERS }
     requires number { number < TRACKS_OF_CYLINDER * shape.cylinders }
+    requires version { IsTrue (is_version volume.version) }
     requires stamp { 1 ≤ stamp.0 }
     ensures piece { D.tells → GivesPiece (λ bytes. bytes) result (captured_piece shape volume stamp.0 (D.state files.old.first).bytes (D.state files.old.second).bytes number) }
     ensures same { D.tells → ReadSame (D.state files.old.first) (D.state files.old.second) (D.state files.new.first) (D.state files.new.second) }

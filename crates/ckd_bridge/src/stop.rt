@@ -31,8 +31,10 @@ pub enum Refusal {
     NoVolume,
     /// The trace's volume of this serial has other cylinders than the image.
     OtherCylinders,
-    /// The volume has no valid label, or one of more cylinders than a trace can name.
+    /// The volume has no valid label.
     NoLabel,
+    /// The volume has more cylinders than an image can.
+    TooLarge,
     /// The slot of the track of this number holds no track.
     NoTrack(u32),
     /// The track of this number has no room on a track of the image's device.
@@ -83,6 +85,7 @@ impl fmt::Display for Refusal {
             Refusal::NoVolume => write!(f, "NOVOLUME"),
             Refusal::OtherCylinders => write!(f, "OTHERCYLINDERS"),
             Refusal::NoLabel => write!(f, "NOLABEL"),
+            Refusal::TooLarge => write!(f, "TOOLARGE"),
             Refusal::NoTrack(number) => {
                 write!(f, "VOLUME")?;
                 write_place(f, *number)?;

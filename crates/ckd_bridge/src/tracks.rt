@@ -2,7 +2,7 @@
 
 ghost use Rattle.std.specs.Prelude.{◌≡◌, ◌≤◌, ◌<◌, ◌+◌, ◌*◌, ◌^◌, ◌∷◌, [], length, slice_range, IfOk, OnOk, IsTrue};
 ghost use Rattle.tod_stamp.specs.Fields.{within};
-ghost use Rattle.xrc_edge.specs.declared.limits.TheConstants.{MOST_CYLINDERS, TRACKS_OF_CYLINDER};
+ghost use Rattle.xrc_edge.specs.declared.limits.TheConstants.{MOST_NARROW_CYLINDERS, TRACKS_OF_CYLINDER};
 ghost use Rattle.ckd_track.specs.Images.{image_at};
 ghost use Rattle.ckd_track.specs.SlotPlaces.{slot_end, track_read};
 ghost use Rattle.ckd_image.specs.ImageTracks.{device_track_at};
@@ -59,7 +59,7 @@ fn read_bytes<D: Disk>(
 pub(crate) fn read_image_shape<D: Disk>(image: &mut D, file: ImageFile) -> Result<ImageShape, Stop>
     ensures shape { D.tells → GivesPiece (λ shape. shape) result (shape_of_image file (D.state image.old).bytes) }
     ensures long { IfOk result (λ shape. image_length shape ≡ (D.state image.old).length_is) }
-    ensures cylinders { IfOk result (λ shape. IsTrue (within 1 MOST_CYLINDERS shape.cylinders)) }
+    ensures cylinders { IfOk result (λ shape. IsTrue (within 1 MOST_NARROW_CYLINDERS shape.cylinders)) }
     ensures same { D.tells → (D.state image.new).bytes ≡ (D.state image.old).bytes }
     ensures length { (D.state image.new).length_is ≡ (D.state image.old).length_is }
     ensures cause { ReadsWithCause ((D.state image.old).faults ∷ []) ((D.state image.new).faults ∷ []) result }
@@ -81,7 +81,7 @@ pub(crate) fn read_image_shape<D: Disk>(image: &mut D, file: ImageFile) -> Resul
 
 /// The track that its bytes in an image are.
 fn image_track(alloc: Global, file: ImageFile, number: u32, bytes: &[u8]) -> Result<Track, Stop>
-    requires track { number < TRACKS_OF_CYLINDER * MOST_CYLINDERS }
+    requires track { number < TRACKS_OF_CYLINDER * MOST_NARROW_CYLINDERS }
     requires short { length bytes.now < 2 ^ 31 }
     ensures track { GivesPiece (λ track. track) result (named_track file number (device_track_at number bytes.now)) }
     ensures cause { IsNoFault result }
@@ -102,7 +102,7 @@ pub(crate) fn read_image_track<D: Disk>(
     number: u32,
 ) -> Result<Track, Stop>
     requires long { image_length shape ≤ (D.state image.old).length_is }
-    requires cylinders { shape.cylinders ≤ MOST_CYLINDERS }
+    requires cylinders { shape.cylinders ≤ MOST_NARROW_CYLINDERS }
     requires number { number < TRACKS_OF_CYLINDER * shape.cylinders }
     ensures track { D.tells → GivesPiece (λ track. track) result (track_of_device file shape.device_type (D.state image.old).bytes number) }
     ensures same { D.tells → (D.state image.new).bytes ≡ (D.state image.old).bytes }

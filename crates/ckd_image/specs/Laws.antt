@@ -1,7 +1,7 @@
 -- The laws of device images: what is spelled is read again, and what is read was spelled so.
 use Rattle.std.specs.Prelude.{◌≡◌, ◌≤◌, ◌<◌, ◌*◌, ℕ, List, ◌++◌, Ok, IsTrue}
 use Rattle.tod_stamp.specs.Fields.{IsBytes, within}
-use Rattle.xrc_edge.specs.declared.limits.TheConstants.{MOST_CYLINDERS, TRACKS_OF_CYLINDER}
+use Rattle.xrc_edge.specs.declared.limits.TheConstants.{MOST_NARROW_CYLINDERS, TRACKS_OF_CYLINDER}
 use Rattle.ckd_track.specs.declared.rec.Rec.{Rec}
 use Rattle.ckd_track.specs.Tracks.{IsTrack}
 use Rattle.ckd_image.specs.declared.shape.ImageShape.{ImageShape}
@@ -19,4 +19,4 @@ ImageTracksAreSpelled = (track : ℕ) (bytes : List ℕ) (recs : List Rec) → I
 
 -- What the header of a shape spells is read again as this shape.
 abbrev pub HeadersOfImagesReadBack : Type 0
-HeadersOfImagesReadBack = (shape : ImageShape) → IsTrue (within 1 MOST_CYLINDERS shape.cylinders) → shape_at (header_bytes shape.device_type) (image_length shape) ≡ Ok shape
+HeadersOfImagesReadBack = (shape : ImageShape) → IsTrue (within 1 MOST_NARROW_CYLINDERS shape.cylinders) → shape_at (header_bytes shape.device_type) (image_length shape) ≡ Ok shape

@@ -2,7 +2,7 @@
 use Rattle.std.specs.Prelude.{ℕ, ◌+◌, ◌-◌, ◌*◌, ◌/◌, ◌%◌, ◌==◌, ◌&&◌, ◌||◌, not, List, [], ◌∷◌, ◌++◌, take, drop, slice_range, slice_index, replicate, Bool, Option, Some, None, Result, Ok, Err, nat_le, nat_lt, codes, bytes_eq, if◌then◌else◌}
 use Rattle.std.specs.Int.{w32, to_le_bytes, from_le_bytes}
 use Rattle.tod_stamp.specs.Fields.{within}
-use Rattle.xrc_edge.specs.declared.limits.TheConstants.{MOST_CYLINDERS, TRACKS_OF_CYLINDER}
+use Rattle.xrc_edge.specs.declared.limits.TheConstants.{MOST_NARROW_CYLINDERS, TRACKS_OF_CYLINDER}
 use Rattle.ckd_image.specs.declared.layout.TheConstants.{HEADER_LENGTH}
 use Rattle.ckd_image.specs.declared.shape.DeviceType.{DeviceType}
 use Rattle.ckd_image.specs.declared.shape.DeviceType.TheVariants.{Ibm3380, Ibm3390, Ibm9345}
@@ -51,7 +51,7 @@ header_bytes device_type = header_front device_type ++ replicate 495 0
 abbrev pub is_image_length : DeviceType → (length : ℕ) → Bool
 is_image_length device_type length =
     let cylinders = (length - HEADER_LENGTH) / cylinder_bytes device_type in
-    within 1 MOST_CYLINDERS cylinders && length == HEADER_LENGTH + cylinders * cylinder_bytes device_type
+    within 1 MOST_NARROW_CYLINDERS cylinders && length == HEADER_LENGTH + cylinders * cylinder_bytes device_type
 
 -- the shape of an image of a type, by the bytes of its header and its length
 abbrev pub shape_of_type : (bytes : List ℕ) → (length : ℕ) → Option DeviceType → Result ImageShape ShapeFault

@@ -24,7 +24,7 @@ pub enum ShapeFault {
     /// It is one of several files of a volume.
     #[error("SEVERALFILES")]
     OneOfSeveral,
-    /// Its length is not that of a header and of 1 to `MOST_CYLINDERS` whole cylinders.
+    /// Its length is not that of a header and of 1 to `MOST_NARROW_CYLINDERS` whole cylinders.
     #[error("LENGTH")]
     Length,
 }

@@ -1,7 +1,7 @@
 //! What each track begins with.
 
 ghost use Rattle.std.specs.Prelude.{◌≡◌, ◌<◌, ◌*◌, ◌++◌};
-ghost use Rattle.xrc_edge.specs.declared.limits.TheConstants.{MOST_CYLINDERS, TRACKS_OF_CYLINDER};
+ghost use Rattle.xrc_edge.specs.declared.limits.TheConstants.{MOST_NARROW_CYLINDERS, TRACKS_OF_CYLINDER};
 ghost use Rattle.ckd_image.specs.ImageTracks.{begins_with, count_place, track_front};
 
 use crate::layout::{FRONT_LENGTH, HOME_LENGTH};
@@ -10,7 +10,7 @@ use xrc_edge::TRACKS_OF_CYLINDER;
 
 /// The cylinder and head of a track.
 pub(crate) fn count_place(track: u32) -> [u8; 4]
-    requires { track < TRACKS_OF_CYLINDER * MOST_CYLINDERS }
+    requires { track < TRACKS_OF_CYLINDER * MOST_NARROW_CYLINDERS }
     ensures { result ≡ count_place track }
 {
     let mut bytes = [0; 4];
@@ -21,7 +21,7 @@ pub(crate) fn count_place(track: u32) -> [u8; 4]
 
 /// The home address of a track, and record zero.
 pub(crate) fn track_front(track: u32) -> [u8; FRONT_LENGTH]
-    requires { track < TRACKS_OF_CYLINDER * MOST_CYLINDERS }
+    requires { track < TRACKS_OF_CYLINDER * MOST_NARROW_CYLINDERS }
     ensures { result ≡ track_front track }
 {
     let place = count_place(track);

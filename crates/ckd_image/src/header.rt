@@ -2,14 +2,14 @@
 
 ghost use Rattle.std.specs.Prelude.{◌≡◌, ◌==◌, take, IfOk, IsTrue};
 ghost use Rattle.tod_stamp.specs.Fields.{within};
-ghost use Rattle.xrc_edge.specs.declared.limits.TheConstants.{MOST_CYLINDERS};
+ghost use Rattle.xrc_edge.specs.declared.limits.TheConstants.{MOST_NARROW_CYLINDERS};
 ghost use Rattle.ckd_image.specs.Shapes.{header_bytes, header_front, image_length, is_compressed_mark, shape_at, shape_of_type};
 
 use crate::fault::ShapeFault;
 use crate::layout::HEADER_LENGTH;
 use crate::shape::{DeviceType, ImageShape};
 use byteorder::{ByteOrder, LittleEndian};
-use xrc_edge::{MOST_CYLINDERS, TRACKS_OF_CYLINDER};
+use xrc_edge::{MOST_NARROW_CYLINDERS, TRACKS_OF_CYLINDER};
 
 /// The mark of an image, and the marks of a compressed one and of a shadow.
 const MARK: &[u8] = b"CKD_P370";
@@ -62,7 +62,7 @@ fn typed_shape(
 ) -> Result<ImageShape, ShapeFault>
     ensures shape { result ≡ shape_of_type bytes.now length (Some device_type) }
     ensures long { IfOk result (λ shape. image_length shape ≡ length) }
-    ensures cylinders { IfOk result (λ shape. IsTrue (within 1 MOST_CYLINDERS shape.cylinders)) }
+    ensures cylinders { IfOk result (λ shape. IsTrue (within 1 MOST_NARROW_CYLINDERS shape.cylinders)) }
 {
     let track = device_type.track_bytes();
     if LittleEndian::read_u32(&bytes[TRACK_SIZE..TYPE]) != track {
@@ -73,7 +73,7 @@ fn typed_shape(
     }
     let cylinder = u64::from(TRACKS_OF_CYLINDER) * u64::from(track);
     let cylinders = length.saturating_sub(HEADER_LENGTH as u64) / cylinder;
-    if cylinders < 1 || cylinders > u64::from(MOST_CYLINDERS) {
+    if cylinders < 1 || cylinders > u64::from(MOST_NARROW_CYLINDERS) {
         return Err(ShapeFault::Length);
     }
     let shape = ImageShape {
@@ -91,7 +91,7 @@ fn typed_shape(
 pub fn read_shape(bytes: &[u8; HEADER_LENGTH], length: u64) -> Result<ImageShape, ShapeFault>
     ensures shape { result ≡ shape_at bytes.now length }
     ensures long { IfOk result (λ shape. image_length shape ≡ length) }
-    ensures cylinders { IfOk result (λ shape. IsTrue (within 1 MOST_CYLINDERS shape.cylinders)) }
+    ensures cylinders { IfOk result (λ shape. IsTrue (within 1 MOST_NARROW_CYLINDERS shape.cylinders)) }
 {
     let mark = &bytes[..HEADS];
     if is_compressed(mark) {

@@ -1,7 +1,7 @@
 //! Reading a track.
 
 ghost use Rattle.std.specs.Prelude.{◌≡◌, ◌≤◌, ◌<◌, ◌^◌, ◌*◌, ◌+◌, ◌-◌, ◌∷◌, [], length, IfOk};
-ghost use Rattle.xrc_edge.specs.declared.limits.TheConstants.{MOST_CYLINDERS, TRACKS_OF_CYLINDER};
+ghost use Rattle.xrc_edge.specs.declared.limits.TheConstants.{MOST_NARROW_CYLINDERS, TRACKS_OF_CYLINDER};
 ghost use Rattle.ckd_track.specs.Tracks.{capacity, last_number};
 ghost use Rattle.ckd_track.specs.Images.{record_at};
 ghost use Rattle.ckd_image.specs.ImageTracks.{GivesTrack, counted_at, counted_record as record_bytes, placed_in_track, records_to_end, device_track_at, track_fault_at};
@@ -62,7 +62,7 @@ fn counted_record(
     last: u8,
     bytes: &[u8],
 ) -> Result<(Rec, &[u8]), TrackFault>
-    requires { number < TRACKS_OF_CYLINDER * MOST_CYLINDERS }
+    requires { number < TRACKS_OF_CYLINDER * MOST_NARROW_CYLINDERS }
     ensures read { GivesTrack (λ x. (x.0, x.1.now)) result (counted_at number place last bytes.now) }
     ensures length { IfOk result (λ x. length bytes.now ≡ length (record_bytes number x.0) + length x.1.now) }
 {
@@ -87,7 +87,7 @@ fn place_of_rest(bytes: &[u8], rest: &[u8]) -> u32
 
 /// The records up to the end mark, of which the first stands after the front.
 fn records_to_end(alloc: Global, number: u32, bytes: &[u8]) -> Result<Track, TrackFault>
-    requires track { number < TRACKS_OF_CYLINDER * MOST_CYLINDERS }
+    requires track { number < TRACKS_OF_CYLINDER * MOST_NARROW_CYLINDERS }
     requires short { length bytes.now < 2 ^ 31 }
     ensures { GivesTrack (λ track. track) result (records_to_end 256 number 21 [] bytes.now) }
 {
@@ -112,7 +112,7 @@ fn records_to_end(alloc: Global, number: u32, bytes: &[u8]) -> Result<Track, Tra
 
 /// The track that the bytes begin with, by its number on the volume.
 pub fn read_track(alloc: Global, number: u32, bytes: &[u8]) -> Result<Track, TrackFault>
-    requires track { number < TRACKS_OF_CYLINDER * MOST_CYLINDERS }
+    requires track { number < TRACKS_OF_CYLINDER * MOST_NARROW_CYLINDERS }
     requires short { length bytes.now < 2 ^ 31 }
     ensures { GivesTrack (λ track. track) result (device_track_at number bytes.now) }
 {

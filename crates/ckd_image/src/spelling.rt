@@ -2,7 +2,7 @@
 
 ghost use Rattle.std.specs.Prelude.{◌≡◌, ◌<◌, ◌*◌, ◌∷◌, ◌++◌, length, IfOk, OnOk};
 ghost use Rattle.std.specs.Int.{w16, to_be_bytes};
-ghost use Rattle.xrc_edge.specs.declared.limits.TheConstants.{MOST_CYLINDERS, TRACKS_OF_CYLINDER};
+ghost use Rattle.xrc_edge.specs.declared.limits.TheConstants.{MOST_NARROW_CYLINDERS, TRACKS_OF_CYLINDER};
 ghost use Rattle.ckd_track.specs.Heads.{FitsHead};
 ghost use Rattle.ckd_image.specs.ImageTracks.{count_place, counted_record, fitted_image_track, image_track};
 
@@ -15,7 +15,7 @@ use xrc_edge::{Bytes, NoMemory};
 
 /// The count field of a record on this track.
 fn count_field(number: u32, rec: &Rec) -> [u8; COUNT_LENGTH]
-    requires track { number < TRACKS_OF_CYLINDER * MOST_CYLINDERS }
+    requires track { number < TRACKS_OF_CYLINDER * MOST_NARROW_CYLINDERS }
     requires fits { FitsHead rec.now }
     ensures { result ≡ count_place number ++ (rec.now.number ∷ length rec.now.key ∷ to_be_bytes w16 (length rec.now.content)) }
 {
@@ -29,7 +29,7 @@ fn count_field(number: u32, rec: &Rec) -> [u8; COUNT_LENGTH]
 
 /// Puts a record with its count field after other bytes.
 fn append_counted(alloc: Global, out: &mut Bytes, number: u32, rec: &Rec) -> Result<(), NoMemory>
-    requires track { number < TRACKS_OF_CYLINDER * MOST_CYLINDERS }
+    requires track { number < TRACKS_OF_CYLINDER * MOST_NARROW_CYLINDERS }
     requires fits { FitsHead rec.now }
     ensures { OnOk result (out.new ≡ out.old ++ counted_record number rec.now) }
 {
@@ -40,7 +40,7 @@ fn append_counted(alloc: Global, out: &mut Bytes, number: u32, rec: &Rec) -> Res
 
 /// The bytes of a track, by its number on the volume, up to its end mark.
 fn spelled_track(alloc: Global, number: u32, track: &Track) -> Result<Bytes, NoMemory>
-    requires { number < TRACKS_OF_CYLINDER * MOST_CYLINDERS }
+    requires { number < TRACKS_OF_CYLINDER * MOST_NARROW_CYLINDERS }
     ensures { IfOk result (λ bytes. bytes ≡ image_track number track.now) }
 {
     let mut bytes = Bytes::make(alloc);
@@ -60,7 +60,7 @@ pub fn fitted_track(
     track: &Track,
     size: usize,
 ) -> Result<Option<Bytes>, NoMemory>
-    requires { number < TRACKS_OF_CYLINDER * MOST_CYLINDERS }
+    requires { number < TRACKS_OF_CYLINDER * MOST_NARROW_CYLINDERS }
     ensures { IfOk result (λ bytes. bytes ≡ fitted_image_track size number track.now) }
 {
     let mut bytes = spelled_track(alloc, number, track)?.into_vec();

@@ -54,7 +54,7 @@ end_alike : (run : ScriptRun) (p q : Point) (c : Command) (time : Stamp) (sessio
     → accepts_end run (table_at run q) (Some (record { time = time; session = session; command = c })) ≡ true
 end_alike run p q End time session same accepted = subst (λ (e : Bool). accepts_end run (table_at run (record q { is_ended = e })) (Some (record { time = time; session = session; command = End })) ≡ true) same accepted
 end_alike run p q (Start level) time session same accepted = absurd cc
-end_alike run p q (AddPair primary secondary) time session same accepted = absurd cc
+end_alike run p q (AddPair primary secondary group) time session same accepted = absurd cc
 end_alike run p q (DelPair choice) time session same accepted = absurd cc
 end_alike run p q (Suspend choice) time session same accepted = absurd cc
 end_alike run p q Query time session same accepted = absurd cc

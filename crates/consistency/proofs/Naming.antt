@@ -1,6 +1,6 @@
 -- Names of sessions and volumes stay names over a course.
 use Rattle.std.proofs.Common.{◌≡◌, ℕ, zero, suc, ◌≤◌, ◌&&◌, Bool, true, false, cond, List, [], ◌∷◌, length, map, filter, Option, Some, None, refl, sym, ap, subst, ◌∙◌, arith}
-use Rattle.std.specs.Prelude.{◌==◌, bytes_eq, is_none, not, if◌then◌else◌}
+use Rattle.std.specs.Prelude.{bytes_eq, is_none, not, if◌then◌else◌}
 use Rattle.std.specs.List.{list_all}
 use Rattle.std.proofs.lemmas.Bool.{and_from, and_parts}
 use Rattle.std.proofs.lemmas.List.Folds.{list_all-append}
@@ -12,12 +12,12 @@ use Rattle.pair_table.specs.declared.level.Level.{Level}
 use Rattle.pair_table.specs.declared.names.NamedDevice.{NamedDevice}
 use Rattle.pair_table.specs.declared.names.NamedVolume.{NamedVolume}
 use Rattle.pair_table.specs.declared.row.PairRow.{PairRow}
-use Rattle.pair_table.specs.declared.row.PairState.TheVariants.{Pending, Suspended}
+use Rattle.pair_table.specs.declared.row.PairState.TheVariants.{Suspended}
 use Rattle.pair_table.specs.declared.row.SuspendCause.TheVariants.{Command as ByCommand}
 use Rattle.pair_table.specs.Commands.{accepted, add_to, is_chosen, is_to_suspend, new_row, new_row_for, rows_after, suspended_since}
 use Rattle.pair_table.specs.Naming.{label_in, lower, primary_of}
 use Rattle.pair_table.specs.Refusals.{is_of_primary, refusal, row_of_primary}
-use Rattle.pair_table.specs.Tables.{Table, in_state, is_of}
+use Rattle.pair_table.specs.Tables.{Table, in_state, resumed_in}
 use Rattle.pair_table.proofs.FindLaws.{found_all}
 use Rattle.row_changes.specs.Changes.{Timed, after_change, after_changes, reach_of, row_after_change}
 use Rattle.row_changes.proofs.Reaching.{changes_state}
@@ -73,19 +73,19 @@ filtered_serials keep (r ∷ rows) all =
 
 module _ (run : ScriptRun) (spoken : HasRunNames run) (rows : List PairRow) (all : list_all has_row_serials rows ≡ true) where
   -- A pair that is added has names that the run speaks of.
-  added_serials : (primary secondary : List ℕ) (o : Option PairRow) (v : Option NamedVolume) (l : Option NamedDevice) → primary_of primary (names_of run) ≡ v → label_in secondary run.labels ≡ l
-      → list_all has_row_serials (add_to rows o (new_row_for secondary v l)) ≡ true
-  added_serials primary secondary (Some r) v l volume label = mapped_serials (λ x. if is_of_primary r.primary x then in_state Pending x else x) (λ x. either_way (is_of_primary r.primary x) (in_state Pending x) x x refl refl) rows ∙ all
-  added_serials primary secondary None (Some v) (Some l) volume label =
+  added_serials : (primary secondary : List ℕ) (group : Option (List ℕ)) (o : Option PairRow) (v : Option NamedVolume) (l : Option NamedDevice) → primary_of primary (names_of run) ≡ v → label_in secondary run.labels ≡ l
+      → list_all has_row_serials (add_to group rows o (new_row_for secondary group v l)) ≡ true
+  added_serials primary secondary group (Some r) v l volume label = mapped_serials (λ x. if is_of_primary r.primary x then resumed_in group x else x) (λ x. either_way (is_of_primary r.primary x) (resumed_in group x) x x refl refl) rows ∙ all
+  added_serials primary secondary group None (Some v) (Some l) volume label =
       let of_volume = found_all (λ x. bytes_eq x.serial primary) (λ x. is_serial x.serial) (names_of run).primaries v volume spoken.volumes in
       let of_label = label_found secondary run.labels l label spoken.labels in
-      let new = new_row secondary v l in
+      let new = new_row secondary group v l in
       list_all-append has_row_serials rows (new ∷ []) ∙ and_from (list_all has_row_serials rows) (list_all has_row_serials (new ∷ [])) all (and_from (has_row_serials new) true (and_from (is_serial v.serial) (is_serial secondary) of_volume of_label) refl)
-  added_serials primary secondary None (Some v) None volume label = all
-  added_serials primary secondary None None l volume label = all
+  added_serials primary secondary group None (Some v) None volume label = all
+  added_serials primary secondary group None None l volume label = all
 
   command_serials : (time : ℕ) (command : Command) → list_all has_row_serials (rows_after (names_at time (breaks_of run) (names_of run)) time command rows) ≡ true
-  command_serials time (AddPair primary secondary) = added_serials primary secondary (row_of_primary primary rows) (primary_of primary (names_of run)) (label_in secondary run.labels) refl refl
+  command_serials time (AddPair primary secondary group) = added_serials primary secondary group (row_of_primary primary rows) (primary_of primary (names_of run)) (label_in secondary run.labels) refl refl
   command_serials time (DelPair choice) = filtered_serials (λ r. not (is_chosen choice r)) rows all
   command_serials time (Suspend choice) =
       mapped_serials (suspended_since choice time) (λ x. either_way (is_to_suspend choice x) (in_state (Suspended ByCommand (record { 0 = time })) x) x x refl refl) rows ∙ all

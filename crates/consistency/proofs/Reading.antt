@@ -53,7 +53,7 @@ told_same (Some s) (Some t) short brief same = ap Some (stamp_read s t short bri
 -- ---- an add
 
 abbrev is_add : Command → Bool
-is_add (AddPair primary secondary) = true
+is_add (AddPair primary secondary group) = true
 is_add (Start level) = false
 is_add (DelPair choice) = false
 is_add (Suspend choice) = false
@@ -61,7 +61,7 @@ is_add Query = false
 is_add End = false
 
 add_is : (command : Command) → bytes_eq (command_word command) (codes "XADDPAIR") ≡ is_add command
-add_is (AddPair primary secondary) = refl
+add_is (AddPair primary secondary group) = refl
 add_is (Start level) = refl
 add_is (DelPair choice) = refl
 add_is (Suspend choice) = refl
@@ -75,7 +75,7 @@ abbrev tracks_of_add : Bool → (tracks : ℕ) → Option ℕ
 tracks_of_add is tracks = if is then Some tracks else None
 
 add_words : (command : Command) (tracks : ℕ) → tracks_words command tracks ≡ words_of_add (is_add command) tracks
-add_words (AddPair primary secondary) tracks = refl
+add_words (AddPair primary secondary group) tracks = refl
 add_words (Start level) tracks = refl
 add_words (DelPair choice) tracks = refl
 add_words (Suspend choice) tracks = refl
@@ -83,7 +83,7 @@ add_words Query tracks = refl
 add_words End tracks = refl
 
 add_tracks : (command : Command) (change : Change) (tracks : ℕ) → said_tracks command (Ok change) tracks ≡ tracks_of_add (is_add command) tracks
-add_tracks (AddPair primary secondary) change tracks = refl
+add_tracks (AddPair primary secondary group) change tracks = refl
 add_tracks (Start level) change tracks = refl
 add_tracks (DelPair choice) change tracks = refl
 add_tracks (Suspend choice) change tracks = refl
@@ -91,7 +91,7 @@ add_tracks Query change tracks = refl
 add_tracks End change tracks = refl
 
 refused_tracks : (command : Command) (why : Refusal) (tracks : ℕ) → said_tracks command (Err why) tracks ≡ None
-refused_tracks (AddPair primary secondary) why tracks = refl
+refused_tracks (AddPair primary secondary group) why tracks = refl
 refused_tracks (Start level) why tracks = refl
 refused_tracks (DelPair choice) why tracks = refl
 refused_tracks (Suspend choice) why tracks = refl

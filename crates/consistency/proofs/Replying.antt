@@ -95,7 +95,7 @@ refusal_spaced refusal =
     ∙ refusal_is (decimal (refusal_number refusal)) (refusal_name refusal) (value_part refusal)
 
 abbrev pub tracks_words : Command → (tracks : ℕ) → List (List ℕ)
-tracks_words (AddPair primary secondary) tracks = codes "TRACKS" ∷ decimal tracks ∷ []
+tracks_words (AddPair primary secondary group) tracks = codes "TRACKS" ∷ decimal tracks ∷ []
 tracks_words (Start level) tracks = []
 tracks_words (DelPair choice) tracks = []
 tracks_words (Suspend choice) tracks = []
@@ -103,7 +103,7 @@ tracks_words Query tracks = []
 tracks_words End tracks = []
 
 tracks_spaced : (command : Command) (tracks : ℕ) → spaced (tracks_words command tracks) ≡ tracks_part command tracks
-tracks_spaced (AddPair primary secondary) tracks = ap (λ (l : List ℕ). codes " TRACKS " ++ l) (append-nil (decimal tracks))
+tracks_spaced (AddPair primary secondary group) tracks = ap (λ (l : List ℕ). codes " TRACKS " ++ l) (append-nil (decimal tracks))
 tracks_spaced (Start level) tracks = refl
 tracks_spaced (DelPair choice) tracks = refl
 tracks_spaced (Suspend choice) tracks = refl
@@ -111,7 +111,7 @@ tracks_spaced Query tracks = refl
 tracks_spaced End tracks = refl
 
 tracks_quiet : (command : Command) (tracks : ℕ) → AreQuiet (tracks_words command tracks)
-tracks_quiet (AddPair primary secondary) tracks = quiet_then (refl, refl) (refl, refl) (quiet_number tracks no_more)
+tracks_quiet (AddPair primary secondary group) tracks = quiet_then (refl, refl) (refl, refl) (quiet_number tracks no_more)
 tracks_quiet (Start level) tracks = no_more
 tracks_quiet (DelPair choice) tracks = no_more
 tracks_quiet (Suspend choice) tracks = no_more
@@ -172,7 +172,7 @@ module _ (time : ℕ) (command : Command) (answer : Result Change Refusal) (trac
     where
       of_command : (c : Command) → IsWord (command_word c)
       of_command (Start level) = (refl, refl)
-      of_command (AddPair primary secondary) = (refl, refl)
+      of_command (AddPair primary secondary group) = (refl, refl)
       of_command (DelPair choice) = (refl, refl)
       of_command (Suspend choice) = (refl, refl)
       of_command Query = (refl, refl)

@@ -70,7 +70,7 @@ stamp_is_word time = (digits_have_no 16 time 32 (omega arith), digits_have_no 16
 
 command_is_word : (command : Command) → IsWord (command_word command)
 command_is_word (Start level) = (refl, refl)
-command_is_word (AddPair primary secondary) = (refl, refl)
+command_is_word (AddPair primary secondary group) = (refl, refl)
 command_is_word (DelPair choice) = (refl, refl)
 command_is_word (Suspend choice) = (refl, refl)
 command_is_word Query = (refl, refl)

@@ -39,7 +39,7 @@ digits_lie_below (suc count) n byte high = has_no_both byte (hex_digits count (n
 -- The words of commands and answers say none.
 command_says_none : (command : Command) → (time_in_word (command_word command) ≡ []) × HasNo 74 (command_word command)
 command_says_none (Start level) = (refl, refl)
-command_says_none (AddPair primary secondary) = (refl, refl)
+command_says_none (AddPair primary secondary group) = (refl, refl)
 command_says_none (DelPair choice) = (refl, refl)
 command_says_none (Suspend choice) = (refl, refl)
 command_says_none Query = (refl, refl)

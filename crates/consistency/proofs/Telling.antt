@@ -9,12 +9,12 @@ use Rattle.tod_stamp.specs.Stamps.{stamp_text}
 use Rattle.ckd_track.specs.declared.write.Cause.{Cause}
 use Rattle.ckd_track.specs.declared.write.Cause.TheVariants.{ReadFault, BadTrace, Crowded}
 use Rattle.pair_table.specs.declared.level.Level.{Level}
-use Rattle.pair_table.specs.declared.level.Level.TheVariants.{Volume as ByVolume, Session as BySession}
+use Rattle.pair_table.specs.declared.level.Level.TheVariants.{Volume as ByVolume, Session as BySession, Group as ByGroup}
 use Rattle.pair_table.specs.declared.row.PairRow.{PairRow}
 use Rattle.pair_table.specs.declared.row.PairState.{PairState}
 use Rattle.pair_table.specs.declared.row.PairState.TheVariants.{Pending, Copy, Duplex, Suspended}
 use Rattle.pair_table.specs.declared.row.SuspendCause.{SuspendCause}
-use Rattle.pair_table.specs.declared.row.SuspendCause.TheVariants.{Command, Device, Session, Control}
+use Rattle.pair_table.specs.declared.row.SuspendCause.TheVariants.{Command, Device, Session, Control, Group}
 use Rattle.pair_table.specs.Tables.{Table}
 use Rattle.pair_table.specs.States.{cause_word}
 use Rattle.xquery_report.specs.Reports.{control_line, control_lines, control_part, report_text, row_line, session_line, state_part}
@@ -113,9 +113,16 @@ module _ (table : Table) (time : ℕ) (named : is_session table.session ≡ true
       ap (λ (l : List ℕ). (codes "SESSION " ++ (name ++ (codes " LEVEL SESSION JOURNALED " ++ (stamp ++ (codes " PAIRS " ++ l))))) ++ 10 ∷ []) (append-nil count)
       ∙ texts_are (codes "SESSION ") name (codes " LEVEL SESSION") (codes " JOURNALED ") stamp (codes " PAIRS") (32 ∷ count)
 
+  group_is : (name stamp count : List ℕ)
+      → spelled (codes "SESSION") (name ∷ codes "LEVEL" ∷ codes "GROUP" ∷ codes "JOURNALED" ∷ stamp ∷ codes "PAIRS" ∷ count ∷ []) ++ 10 ∷ [] ≡ codes "SESSION " ++ name ++ codes " LEVEL GROUP" ++ codes " JOURNALED " ++ stamp ++ codes " PAIRS" ++ 32 ∷ count ++ 10 ∷ []
+  group_is name stamp count =
+      ap (λ (l : List ℕ). (codes "SESSION " ++ (name ++ (codes " LEVEL GROUP JOURNALED " ++ (stamp ++ (codes " PAIRS " ++ l))))) ++ 10 ∷ []) (append-nil count)
+      ∙ texts_are (codes "SESSION ") name (codes " LEVEL GROUP") (codes " JOURNALED ") stamp (codes " PAIRS") (32 ∷ count)
+
   session_says : (level : Level) → Tells time (time ∷ []) (session_line table level time)
   session_says ByVolume = subst (Tells time (time ∷ [])) (volume_is table.session (stamp_text time) (decimal (length table.rows))) (level_says (codes "VOLUME") (refl, refl) (quiet_then (refl, refl) (refl, refl) (quiet_then (refl, refl) (refl, refl) no_more)))
   session_says BySession = subst (Tells time (time ∷ [])) (session_is table.session (stamp_text time) (decimal (length table.rows))) (level_says (codes "SESSION") (refl, refl) (quiet_then (refl, refl) (refl, refl) (quiet_then (refl, refl) (refl, refl) no_more)))
+  session_says ByGroup = subst (Tells time (time ∷ [])) (group_is table.session (stamp_text time) (decimal (length table.rows))) (level_says (codes "GROUP") (refl, refl) (quiet_then (refl, refl) (refl, refl) (quiet_then (refl, refl) (refl, refl) no_more)))
 
 -- ---- the lines of controllers
 
@@ -156,6 +163,7 @@ cause_quiet Command rest = quiet_then (refl, refl) (refl, refl) rest
 cause_quiet Device rest = quiet_then (refl, refl) (refl, refl) rest
 cause_quiet Session rest = quiet_then (refl, refl) (refl, refl) rest
 cause_quiet Control rest = quiet_then (refl, refl) (refl, refl) rest
+cause_quiet Group rest = quiet_then (refl, refl) (refl, refl) rest
 
 abbrev state_words : PairState → List (List ℕ)
 state_words Pending = codes "PENDING" ∷ []

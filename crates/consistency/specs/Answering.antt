@@ -50,7 +50,7 @@ pub record ReplyContent : Type 0 where
 
 -- the tracks that a command asks for, of these rows; 0 where it adds no pair
 abbrev pub tracks_of_command : ScriptRun → (first : Point) → List PassedPoint → List PairRow → (time : ℕ) → Command → ℕ
-tracks_of_command run first points rows time (AddPair primary secondary) = tracks_asked run first points rows primary time
+tracks_of_command run first points rows time (AddPair primary secondary group) = tracks_asked run first points rows primary time
 tracks_of_command run first points rows time (Start level) = 0
 tracks_of_command run first points rows time (DelPair choice) = 0
 tracks_of_command run first points rows time (Suspend choice) = 0

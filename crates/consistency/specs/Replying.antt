@@ -26,7 +26,7 @@ use Rattle.consistency.specs.Ways.{PassedPoint}
 abbrev pub is_query : Command → Bool
 is_query Query = true
 is_query (Start level) = false
-is_query (AddPair primary secondary) = false
+is_query (AddPair primary secondary group) = false
 is_query (DelPair choice) = false
 is_query (Suspend choice) = false
 is_query End = false
@@ -84,8 +84,8 @@ said_refusal (Err refusal) = Some refusal
 
 -- the tracks that an accepted add has to copy
 abbrev pub said_tracks : Command → Result Change Refusal → (tracks : ℕ) → Option ℕ
-said_tracks (AddPair primary secondary) (Ok change) tracks = Some tracks
-said_tracks (AddPair primary secondary) (Err refusal) tracks = None
+said_tracks (AddPair primary secondary group) (Ok change) tracks = Some tracks
+said_tracks (AddPair primary secondary group) (Err refusal) tracks = None
 said_tracks (Start level) answer tracks = None
 said_tracks (DelPair choice) answer tracks = None
 said_tracks (Suspend choice) answer tracks = None

@@ -1,7 +1,7 @@
 -- The start of a trace: nothing was read of what a source's bytes are.
 use Rattle.std.proofs.Common.{◌≡◌, ◌≤◌, ◌+◌, ℕ, zero, suc, Bool, true, false, cond, nat_eq, nat_le, ◌&&◌, List, [], ◌∷◌, length, Option, Some, None, Result, Ok, Err, refl, sym, ap, subst, ◌∙◌}
 use Rattle.std.specs.Int.{w8, w64}
-use Rattle.std.proofs.lemmas.Bool.{and_parts, and_from, leb-true, le-leb, eqb-true}
+use Rattle.std.proofs.lemmas.Bool.{and_parts, and_from, leb-true, le-leb}
 use Rattle.tod_stamp.specs.Fields.{◌>>=◌, Left, Bad, number_at, within, after}
 use Rattle.tod_stamp.specs.Fields.Bad.{Cut, Broken}
 use Rattle.tod_stamp.proofs.FieldLaws.{bind_ok, guard_ok, allow_ok}
@@ -12,7 +12,7 @@ use Rattle.write_trace.specs.declared.entry.Entry.TheVariants.{Written, Idle}
 use Rattle.write_trace.specs.declared.next.Stopped.{Stopped}
 use Rattle.write_trace.specs.declared.trace.Trace.{Trace}
 use Rattle.write_trace.specs.declared.trace.TraceEnd.TheVariants as ends
-use Rattle.write_trace.specs.Headers.{place_at, header_at, is_header_of, are_volumes, are_bases}
+use Rattle.write_trace.specs.Headers.{place_at, header_at}
 use Rattle.write_trace.specs.Entries.{stamp_of, entry_at, write_at, kind_at}
 use Rattle.write_trace.specs.WholeTraces.{entries_from, after_header, trace_of, whole_trace}
 use Rattle.write_trace.specs.UnreadBytes.{seen}
@@ -106,19 +106,12 @@ ahead_rises : (stopped : Option Stopped) (reader : ReaderState) (bytes : List �
 ahead_rises None reader bytes =
     let left = seen reader.left.place bytes in
     let n = length left.bytes in
-    entries_from_one n 1 reader.volumes reader.last left (entries_rise n 1 reader.volumes reader.last left)
+    entries_from_one n reader.version reader.volumes reader.last left (entries_rise n reader.version reader.volumes reader.last left)
 ahead_rises (Some why) reader bytes = refl
 
 -- ---- headers
 
-version_is : (h : Header) → is_header_of 1 h ≡ true → h.version ≡ 1
-version_is h is =
-    let one = and_parts (nat_eq h.version 1 && within 1 32 (length h.volumes) && are_volumes 1 [] h.volumes) (are_bases h.volumes (0, 0) h.base) is in
-    let two = and_parts (nat_eq h.version 1 && within 1 32 (length h.volumes)) (are_volumes 1 [] h.volumes) one.0 in
-    let three = and_parts (nat_eq h.version 1) (within 1 32 (length h.volumes)) two.0 in
-    eqb-true h.version 1 three.0
-
-read_header : (told : List ℕ) (h : Header) (left : Left) → header_at 1 (whole_trace told) ≡ Ok (h, left) → trace_of 1 false told ≡ Ok (after_header false told h (entries_from (length left.bytes) h.version h.volumes 0 left))
+read_header : (told : List ℕ) (h : Header) (left : Left) → header_at (whole_trace told) ≡ Ok (h, left) → trace_of false told ≡ Ok (after_header false told h (entries_from (length left.bytes) h.version h.volumes 0 left))
 unfolding trace_of
 read_header told h left is = rw (is, trace_of) refl
 
@@ -133,8 +126,8 @@ module _ (told : List ℕ) (now : Option (List ℕ)) (head : Header) (feed : Fee
   same_rest : (h.reads.reads told refl).0 ≡ rest
   same_rest = one_rest (h.reads.reads told refl).0 rest (sym (h.reads.reads told refl).1 ∙ h.there h.reads.goes_on)
 
-  header_is : header_at 1 (whole_trace told) ≡ Ok (head, seen reader.left.place rest)
-  header_is = subst (λ (r : List ℕ). header_at 1 (whole_trace told) ≡ Ok (head, seen reader.left.place r)) same_rest (h.reads.reads told refl).2
+  header_is : header_at (whole_trace told) ≡ Ok (head, seen reader.left.place rest)
+  header_is = subst (λ (r : List ℕ). header_at (whole_trace told) ≡ Ok (head, seen reader.left.place r)) same_rest (h.reads.reads told refl).2
 
   long : reader.left.place + length rest ≡ length told
   long = subst (λ (r : List ℕ). reader.left.place + length r ≡ length told) same_rest (h.reads.reads told refl).3
@@ -146,7 +139,7 @@ module _ (told : List ℕ) (now : Option (List ℕ)) (head : Header) (feed : Fee
   begins_whole : (left : List ℕ) → BeginsTrace Whole told rest left head feed
   begins_whole left =
       let is = read_header told head (seen reader.left.place rest) header_is in
-      let known = ahead_trace false told rest head reader whole header_is (sym long) (version_is head h.reads.kept) h.reads.volumes h.reads.last h.reads.goes_on is in
+      let known = ahead_trace false told rest head reader whole header_is (sym long) h.reads.version h.reads.volumes h.reads.last h.reads.goes_on is in
       record {
         trace = whole;
         headed = refl;
@@ -161,7 +154,7 @@ module _ (told : List ℕ) (now : Option (List ℕ)) (head : Header) (feed : Fee
       record {
         trace = given;
         headed = refl;
-        is = given_trace told rest later left head reader header_is (sym long) (version_is head h.reads.kept) h.reads.volumes h.reads.last h.reads.goes_on come.0 come.1;
+        is = given_trace told rest later left head reader header_is (sym long) h.reads.version h.reads.volumes h.reads.last h.reads.goes_on come.0 come.1;
         unread = first_is_unread Failing later given feed h.first refl (ahead_rises reader.stopped reader later) refl;
       }
 

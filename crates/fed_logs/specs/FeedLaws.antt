@@ -94,8 +94,8 @@ ComeSo Failing reader rest later left = (rest ≡ later ++ left) × IsFault read
 
 -- the trace of all bytes that a source told, or of those that it gave before it failed, with some left
 abbrev pub IsTraceOf : Outlook → (told left : List ℕ) → Trace → Type 0
-IsTraceOf Whole told left t = trace_of 1 false told ≡ Ok t
-IsTraceOf Failing told left t = trace_of 1 true (take (length told - length left) told) ≡ Ok t
+IsTraceOf Whole told left t = trace_of false told ≡ Ok t
+IsTraceOf Failing told left t = trace_of true (take (length told - length left) told) ≡ Ok t
 
 -- These bytes are ahead, after a header that was read of the bytes of a source.
 pub record IsAfterHeader (told : List ℕ) (now : Option (List ℕ)) (head : Header) (feed : FeedState) (rest : List ℕ) : Type 0 where

@@ -17,8 +17,8 @@ use Rattle.pair_table.specs.Commands.{MayCommand, accepted, answer, table_after}
 use Rattle.pair_table.specs.Naming.{Naming}
 use Rattle.pair_table.specs.Refusals.{refusal}
 use Rattle.pair_table.specs.Rows.{is_row, is_suspended}
-use Rattle.pair_table.specs.Tables.{AreRowsSound, Table, changed_row, in_state, is_of, row_of, with_rows, with_state}
-use Rattle.pair_table.proofs.MayLaws.{may_with_state}
+use Rattle.pair_table.specs.Tables.{AreRowsSound, Table, changed_row, in_state, is_of, row_of, with_resumed, with_rows, with_state}
+use Rattle.pair_table.proofs.MayLaws.{in_state_place, may_changed}
 use Rattle.pair_table.proofs.RowRules.{row_keeps}
 use Rattle.group_state.specs.Controls.{ControlState, begun_volume, counts, dropped, forgotten, resumed}
 use Rattle.group_state.specs.Groups.{Group, control_at, with_control}
@@ -71,7 +71,7 @@ counted_steps : Steps Counts FitsAny
 counted_steps = record {
   kept = λ s rows done j. j.kept;
   drop = λ s rows done r state all j among suspends device known. counted_with s rows (with_state r.device state rows) r.control (dropped r.volume all) (λ c. refl) j (kept_dropped_row s rows r j.kept among state all suspends);
-  resume = λ s rows done r j among suspended counted. counted_with s rows (with_state r.device Pending rows) r.control (resumed r.volume) (λ c. refl) j (kept_resumed_row s rows r j.kept among suspended counted);
+  resume = λ s rows done r group j among suspended counted. counted_with s rows (with_resumed r.device group rows) r.control (resumed r.volume) (λ c. refl) j (kept_resumed_row s rows r j.kept among group suspended counted);
   forget = λ s rows done r j among suspended. counted_with s rows _ r.control (forgotten r.volume) (λ c. refl) j (kept_forgotten_row s rows r j.kept among suspended);
   add = λ s rows done r j low counted pending apart fit. counted_with s rows (rows ++ r ∷ []) r.control (begun_volume r.volume _) (λ c. refl) j (kept_added_row s rows r j.kept low counted pending apart);
 }
@@ -173,4 +173,4 @@ failure_taken names table device at s h live = record { begun = tt; apart = h.ke
 pub failed_again : (names : Naming) (table : Table) (device at : ℕ) (s : Group) → TakesChanges names table s → are_live table.rows ≡ true
     → TakesChanges names (with_rows table (with_state device (failed_state at) table.rows)) (after_calls (calls_of_change Nothing s table.rows (with_state device (failed_state at) table.rows)) s)
 failed_again names table device at s h live =
-    taken_again names table (with_rows table (with_state device (failed_state at) table.rows)) s Nothing h (failure_taken names table device at s h live) (may_with_state names device (failed_state at) table.rows h.may) h.started
+    taken_again names table (with_rows table (with_state device (failed_state at) table.rows)) s Nothing h (failure_taken names table device at s h live) (may_changed names (is_of device) (in_state (failed_state at)) table.rows (in_state_place (failed_state at)) h.may) h.started

@@ -126,6 +126,7 @@ fn a_pair_comes_and_goes(rt: HostRuntime) {
     let add = Command::AddPair {
         primary: serial(&rt, b"PRIM01"),
         secondary: serial(&rt, b"SEC001"),
+        group: None,
     };
     let mut pairs = begun(&rt, alloc);
     let added = command(&rt, alloc, &mut pairs, &add, 1);

@@ -37,7 +37,7 @@ content_none device x (Image d y recs ∷ items) old none =
 content_none device x (Delta d y kind ∷ items) old none =
     let parts = or_parts (d == device && y == x) (list_any (is_of_track device x) items) none in
     ap (content_through device x items) (λ i. cond (parts.0 i) (Some (apply (unwrap_or old []) kind)) old) ∙ content_none device x items old parts.1
-content_none device x (Pair row ∷ items) old none = content_none device x items old none
+content_none device x (Pair version row ∷ items) old none = content_none device x items old none
 content_none device x (Gone d ∷ items) old none = content_none device x items old none
 
 -- one of the rules of an item in the place of another
@@ -69,7 +69,7 @@ allowed_after form earlier (Image d x recs ∷ items) all slots keep =
     or_right true b e = refl
     or_right false b e = e
 allowed_after form earlier (Delta d x kind ∷ items) all slots keep = absurd cc
-allowed_after form earlier (Pair row ∷ items) all slots keep = absurd cc
+allowed_after form earlier (Pair version row ∷ items) all slots keep = absurd cc
 allowed_after form earlier (Gone d ∷ items) all slots keep = absurd cc
 
 pub allowed_of : (items : List Item) → list_all is_image items ≡ true → AreItems anywhere items → AreItemsWhereAllowed items

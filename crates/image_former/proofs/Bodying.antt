@@ -107,7 +107,7 @@ pub late_images : (items : List Item) (earlier : Earlier) → list_all is_image 
 late_images [] earlier all = refl
 late_images (Image d x recs ∷ items) earlier all = late_images items (earlier_after (Image d x recs) earlier) all
 late_images (Delta d x kind ∷ items) earlier all = absurd cc
-late_images (Pair row ∷ items) earlier all = absurd cc
+late_images (Pair version row ∷ items) earlier all = absurd cc
 late_images (Gone d ∷ items) earlier all = absurd cc
 
 pub not_drawn : (device x : ℕ) (items : List Item) (earlier : Earlier) → list_all is_image items ≡ true → list_any (is_of_track device x) items ≡ false → is_drawn earlier.drawn device x ≡ false
@@ -117,7 +117,7 @@ not_drawn device x (Image d y recs ∷ items) earlier all none before =
     let parts = or_parts (d == device && y == x) (list_any (is_of_track device x) items) none in
     not_drawn device x items (earlier_after (Image d y recs) earlier) all parts.1 (λ i. parts.0 i || before i)
 not_drawn device x (Delta d y kind ∷ items) earlier all none before = absurd cc
-not_drawn device x (Pair row ∷ items) earlier all none before = absurd cc
+not_drawn device x (Pair version row ∷ items) earlier all none before = absurd cc
 not_drawn device x (Gone d ∷ items) earlier all none before = absurd cc
 
 pub spelled_more : (items : List Item) (i : Item) → length (body_spelling (items ++ i ∷ [])) ≡ length (body_spelling items) + length (item_spelling i)

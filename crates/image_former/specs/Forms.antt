@@ -12,7 +12,7 @@ use Rattle.image_former.specs.Changes.{AreSpelled, changed_through}
 abbrev pub is_image : Item → Bool
 is_image (Image device track recs) = true
 is_image (Delta device track kind) = false
-is_image (Pair row) = false
+is_image (Pair version row) = false
 is_image (Gone device) = false
 
 -- What the items leave of each track of a device, from what the volume's slot holds, is what the entries leave of it.

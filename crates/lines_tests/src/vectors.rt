@@ -14,27 +14,38 @@ fn is_said(rt: &impl Abort, alloc: Global, trace: &[u8], lines: &str) {
 
 #[test]
 fn traces_have_their_lines(rt: HostRuntime) {
-    let table: [(&[u8], &str); 6] = [
-        (b"XTR1\0\x01PRIM01\0\x01\0\0\0\0", "volume PRIM01 1\n"),
+    let table: [(&[u8], &str); 8] = [
+        (
+            b"XTR1\0\x01PRIM01\0\x01\0\0\0\0",
+            "version 1\nvolume PRIM01 1\n",
+        ),
         (
             b"XTR1\0\x01PRIM01\0\x01\0\0\0\0\x04\0\0\0\0\0\0\0\x64\0\0\0\0\0\x03\0\x01\x01\0\0\x02AB\x02\0\0\0\0\0\0\0\x6E\0\0\0\0\0\x03\x01\0\x01Z",
-            "volume PRIM01 1\nwrite 0000000000000064 0 3 1::\"AB\"\nupdate 000000000000006E 0 3 1 \"Z\"\n",
+            "version 1\nvolume PRIM01 1\nwrite 0000000000000064 0 3 1::\"AB\"\nupdate 000000000000006E 0 3 1 \"Z\"\n",
         ),
         (
             b"XTR1\0\x01PRIM01\0\x02\0\0\0\x02\0\0\0\0\0\x03\0\0\0\0\0\x01\0\x04\0\0",
-            "volume PRIM01 2\nbase 0 3\nbase 0 19\n",
+            "version 1\nvolume PRIM01 2\nbase 0 3\nbase 0 19\n",
         ),
         (
             b"XTR1\0\x01PRIM01\0\x01\0\0\0\0\x03\0\0\0\0\0\0\0\x64\0\0\0\0\0\x03\x01\x01\x02\0\0\x01Q",
-            "volume PRIM01 1\nformat 0000000000000064 0 3 1 2::\"Q\"\n",
+            "version 1\nvolume PRIM01 1\nformat 0000000000000064 0 3 1 2::\"Q\"\n",
         ),
         (
             b"XTR1\0\x01PRIM01\0\x01\0\0\0\0\x01\0\0\0\0\0\0\0\x64",
-            "volume PRIM01 1\nidle 0000000000000064\n",
+            "version 1\nvolume PRIM01 1\nidle 0000000000000064\n",
         ),
         (
             b"XTR1\0\x02A     \0\x01B     \0\x01\0\0\0\x02\0\0\0\0\0\x05\0\0\0\x01\0\0\0\0\0\0\x01\0\0\0\0\0\0\0\x09\x03\0\0\0\0\0\0\0\x09\0\0\0\0\0\x03\x01\x02\x02\x02\0\x02K:C \x03\0\0\0",
-            "volume A 1\nvolume B 1\nbase 0 5\nbase 1 0\nidle 0000000000000009\nformat 0000000000000009 0 3 1 2:4B3A:4320 3::\"\"\n",
+            "version 1\nvolume A 1\nvolume B 1\nbase 0 5\nbase 1 0\nidle 0000000000000009\nformat 0000000000000009 0 3 1 2:4B3A:4320 3::\"\"\n",
+        ),
+        (
+            b"XTR2\0\x01PRIM01\0\x01\x11\x70\0\0\0\0\x04\0\0\0\0\0\0\0\x64\0\0\0\x01\x11\x6F\0\x0E\0\x01\x01\0\0\x02AB",
+            "version 2\nvolume PRIM01 70000\nwrite 0000000000000064 0 1049999 1::\"AB\"\n",
+        ),
+        (
+            b"XTR2\0\x01PRIM01\0\x0F\x42\x40\0\0\0\x01\0\0\0\x0F\x42\x3F\0\x0E\0\0",
+            "version 2\nvolume PRIM01 1000000\nbase 0 14999999\n",
         ),
     ];
     for (trace, lines) in table {
@@ -43,9 +54,21 @@ fn traces_have_their_lines(rt: HostRuntime) {
 }
 
 #[test]
+fn lines_that_name_no_version_are_of_version_1(rt: HostRuntime) {
+    let written = trace_of_text(rt.alloc(), b"volume PRIM01 1\n").expect(&rt, "a trace");
+    assert!(rt; written.as_slice() == b"XTR1\0\x01PRIM01\0\x01\0\0\0\0".as_slice());
+}
+
+#[test]
 fn other_bytes_have_no_lines(rt: HostRuntime) {
-    let table: [(&[u8], Unread); 17] = [
-        (b"XTR2\0\x01", Unread::BadHeader(0)),
+    let table: [(&[u8], Unread); 20] = [
+        (b"XTR3\0\x01", Unread::BadHeader(0)),
+        (b"XTR2\0\x01", Unread::BadHeader(6)),
+        (b"XTR2\0\x01PRIM01\0\x01\0\0", Unread::BadHeader(16)),
+        (
+            b"XTR2\0\x01PRIM01\0\x0F\x42\x41\0\0\0\0",
+            Unread::BadHeader(12),
+        ),
         (b"XTR", Unread::BadHeader(0)),
         (b"XTR1\0", Unread::BadHeader(4)),
         (b"XTR1\0\0", Unread::BadHeader(4)),

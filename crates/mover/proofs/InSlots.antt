@@ -181,7 +181,7 @@ no_track : (v x : ℕ) (pairs : List Item) → list_all is_pair_item pairs ≡ t
 no_track v x [] are has = cc has
 no_track v x (Image d y recs ∷ pairs) are has = cc are
 no_track v x (Delta d y kind ∷ pairs) are has = cc are
-no_track v x (Pair row ∷ pairs) are has = no_track v x pairs are has
+no_track v x (Pair version row ∷ pairs) are has = no_track v x pairs are has
 no_track v x (Gone d ∷ pairs) are has = cc are
 
 -- What waits after a group is of tracks of rows that weren't suspended before it.

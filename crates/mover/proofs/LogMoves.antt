@@ -118,7 +118,7 @@ drawn_more : (d x : ℕ) (items : List Item) (earlier : Earlier) → is_drawn ea
 drawn_more d x [] earlier is = is
 drawn_more d x (Image e y recs ∷ items) earlier is = drawn_more d x items _ (or_right (nat_eq e d && nat_eq y x) (is_drawn earlier.drawn d x) is)
 drawn_more d x (Delta e y kind ∷ items) earlier is = drawn_more d x items earlier is
-drawn_more d x (Pair row ∷ items) earlier is = drawn_more d x items _ is
+drawn_more d x (Pair version row ∷ items) earlier is = drawn_more d x items _ is
 drawn_more d x (Gone e ∷ items) earlier is = drawn_more d x items _ is
 
 drawn_there : (d x : ℕ) (images more : List Item) (earlier : Earlier) → list_all is_image images ≡ true → HasItem d x images → is_drawn (earlier_after_all (images ++ more) earlier).drawn d x ≡ true
@@ -128,7 +128,7 @@ drawn_there d x (Image e y recs ∷ images) more earlier are has = elim (or_case
   | inr later ↦ drawn_there d x images more _ are later
 ]
 drawn_there d x (Delta e y kind ∷ images) more earlier are has = absurd cc
-drawn_there d x (Pair row ∷ images) more earlier are has = absurd cc
+drawn_there d x (Pair version row ∷ images) more earlier are has = absurd cc
 drawn_there d x (Gone e ∷ images) more earlier are has = absurd cc
 
 -- a track of which a device has an item
@@ -139,14 +139,14 @@ some_track v (Image e y recs ∷ images) are has = elim (or_cases (nat_eq e v) (
   | inr later ↦ let t = some_track v images are later in (t.0, or_right (nat_eq e v && nat_eq y t.0) (list_any (is_of_track v t.0) images) t.1)
 ]
 some_track v (Delta e y kind ∷ images) are has = absurd cc
-some_track v (Pair row ∷ images) are has = absurd cc
+some_track v (Pair version row ∷ images) are has = absurd cc
 some_track v (Gone e ∷ images) are has = absurd cc
 
 no_device : (v : ℕ) (pairs : List Item) → list_all is_pair_item pairs ≡ true → has_device v pairs ≡ false
 no_device v [] are = refl
 no_device v (Image e y recs ∷ pairs) are = absurd cc
 no_device v (Delta e y kind ∷ pairs) are = absurd cc
-no_device v (Pair row ∷ pairs) are = no_device v pairs are
+no_device v (Pair version row ∷ pairs) are = no_device v pairs are
 no_device v (Gone e ∷ pairs) are = absurd cc
 
 device_parts : (v : ℕ) (images pairs : List Item) → list_all is_pair_item pairs ≡ true → has_device v (images ++ pairs) ≡ true → has_device v images ≡ true

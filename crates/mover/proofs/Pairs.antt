@@ -1,5 +1,5 @@
 -- Rows of the same pairs: what entries are on, and which device a controller's volume has.
-use Rattle.std.proofs.Common.{◌≡◌, ℕ, zero, suc, ◌<◌, Bool, true, false, cond, not, nat_eq, ◌&&◌, ◌||◌, List, [], ◌∷◌, map, length, ◌⊎◌, inl, inr, Option, Some, refl, sym, ap, subst, ◌∙◌, arith, true≢false}
+use Rattle.std.proofs.Common.{◌≡◌, ℕ, zero, suc, ◌<◌, Bool, true, false, cond, not, nat_eq, ◌&&◌, ◌||◌, List, [], ◌∷◌, map, length, ◌⊎◌, inl, inr, Option, Some, None, refl, sym, ap, subst, ◌∙◌, arith, true≢false}
 use Rattle.std.specs.Prelude.{find, bytes_eq, slice_index_or}
 use Rattle.std.specs.List.{list_any, Contains}
 use Rattle.std.proofs.lemmas.Bool.{and_parts, and_from, eqb-true, eq-eqb}
@@ -7,7 +7,7 @@ use Rattle.pair_table.specs.declared.level.Level.{Level}
 use Rattle.pair_table.specs.declared.row.PairRow.{PairRow}
 use Rattle.pair_table.specs.declared.row.PairState.{PairState}
 use Rattle.pair_table.specs.declared.row.PairState.TheVariants.{Duplex}
-use Rattle.pair_table.specs.Tables.{clashes, in_state, is_of, none_clash, row_of}
+use Rattle.pair_table.specs.Tables.{clashes, is_of, none_clash, row_of}
 use Rattle.pair_table.proofs.PutLaws.{number_sym}
 use Rattle.pair_table.proofs.TableLaws.{either_false, first_apart}
 use Rattle.pending_queue.specs.Entries.{WaitingEntry}
@@ -19,9 +19,9 @@ use Rattle.fed_logs.specs.Moves.{HasRowIn}
 
 -- ---- pairs
 
--- a row's pair, whatever its state is
+-- a row's pair, whatever its state and its group are
 abbrev pub pair_of : PairRow → PairRow
-pair_of r = in_state Duplex r
+pair_of r = record r { state = Duplex; group = None }
 
 abbrev pub pairs_of : List PairRow → List PairRow
 pairs_of rows = map pair_of rows

@@ -113,6 +113,7 @@ pub(crate) fn add_pair<S: Drop, P: Plant>(
     let command = Command::AddPair {
         primary: primary(rt, number),
         secondary: secondary(rt, number),
+        group: None,
     };
     commanded(rt, alloc, course, plant, &command, at)
 }

@@ -127,7 +127,7 @@ fn is_in_ranges(volume: &NamedVolume) -> bool
     volume.control <= 15
         && volume.volume <= 31
         && 1 <= volume.cylinders
-        && volume.cylinders <= 65_520
+        && volume.cylinders <= 1_000_000
 }
 
 /// The names of these volumes, without a label.

@@ -93,7 +93,7 @@ fn put_whole(
         stamp: Stamp(stamp),
         kind,
     };
-    TraceWriter::write(alloc, out, &write).expect(rt, "memory");
+    TraceWriter::write(alloc, out, 1, &write).expect(rt, "memory");
 }
 
 /// Writes an entry.

@@ -114,17 +114,17 @@ one_place primary (w ∷ volumes) v r apart found named control volume =
     choose false found false is named none next = next found named
 
 -- no row of the primary, or of the device
-none_new : (names : Naming) (primary secondary : List ℕ) (v : NamedVolume) (l : NamedDevice) (rows : List PairRow) → AreNamesSound names → primary_of primary names ≡ Some v → list_all (has_named_primary names) rows ≡ true
-    → list_any (is_of_primary primary) rows ≡ false → list_any (is_of l.device) rows ≡ false → list_any (clashes (new_row secondary v l)) rows ≡ false
-none_new names primary secondary v l [] keeps found named other unused = refl
-none_new names primary secondary v l (r ∷ rows) keeps found named other unused =
+none_new : (names : Naming) (primary secondary : List ℕ) (group : Option (List ℕ)) (v : NamedVolume) (l : NamedDevice) (rows : List PairRow) → AreNamesSound names → primary_of primary names ≡ Some v → list_all (has_named_primary names) rows ≡ true
+    → list_any (is_of_primary primary) rows ≡ false → list_any (is_of l.device) rows ≡ false → list_any (clashes (new_row secondary group v l)) rows ≡ false
+none_new names primary secondary group v l [] keeps found named other unused = refl
+none_new names primary secondary group v l (r ∷ rows) keeps found named other unused =
     let names_here = both_true (has_named_primary names r) (list_all (has_named_primary names) rows) named in
     let others = either_false (bytes_eq r.primary primary) (list_any (is_of_primary primary) rows) other in
     let devices = either_false (nat_eq l.device r.device) (list_any (is_of l.device) rows) unused in
     let same : v.serial ≡ primary = (bytes_eq-Decides v.serial primary).0 (found_passes (λ w. bytes_eq w.serial primary) names.primaries v found) in
     let names_apart : bytes_eq v.serial r.primary ≡ false = ap (λ n. bytes_eq n r.primary) same ∙ name_sym primary r.primary ∙ others.0 in
     let places_apart : (nat_eq v.control r.control && nat_eq v.volume r.volume) ≡ false = choose names_here.0 names_apart (nat_eq v.control r.control) refl (nat_eq v.volume r.volume) refl in
-    rw (names_apart, devices.0, places_apart, none_new names primary secondary v l rows keeps found names_here.1 others.1 devices.1) refl
+    rw (names_apart, devices.0, places_apart, none_new names primary secondary group v l rows keeps found names_here.1 others.1 devices.1) refl
   where
     choose : has_named_primary names r ≡ true → bytes_eq v.serial r.primary ≡ false → (a : Bool) → nat_eq v.control r.control ≡ a → (b : Bool) → nat_eq v.volume r.volume ≡ b → (a && b) ≡ false
     choose named apart true e true f = absurd (true≢false (sym (one_place primary names.primaries v r keeps.apart found named (eqb-true v.control r.control e) (eqb-true v.volume r.volume f)) ∙ apart))
@@ -171,26 +171,26 @@ with_row-last row (r ∷ rows) none =
     let parts = either_false (nat_eq row.device r.device) (list_any (is_of row.device) rows) none in
     rw parts.0 (ap (λ (t : List PairRow). r ∷ t) (with_row-last row rows parts.1))
 
-pub new_row_named : (names : Naming) (primary secondary : List ℕ) (v : NamedVolume) (l : NamedDevice) → primary_of primary names ≡ Some v → has_named_primary names (new_row secondary v l) ≡ true
-new_row_named names primary secondary v l found =
-    found_any (λ w. bytes_eq w.serial primary) (is_volume_of (new_row secondary v l)) names.primaries v found
+pub new_row_named : (names : Naming) (primary secondary : List ℕ) (group : Option (List ℕ)) (v : NamedVolume) (l : NamedDevice) → primary_of primary names ≡ Some v → has_named_primary names (new_row secondary group v l) ≡ true
+new_row_named names primary secondary group v l found =
+    found_any (λ w. bytes_eq w.serial primary) (is_volume_of (new_row secondary group v l)) names.primaries v found
     (rw (same_name v.serial, eq-eqb v.control v.control refl, eq-eqb v.volume v.volume refl, eq-eqb v.cylinders v.cylinders refl) refl)
 
-pub may_command_new : (names : Naming) (primary secondary : List ℕ) (v : NamedVolume) (l : NamedDevice) (rows : List PairRow) → AreNamesSound names → MayCommand names rows → primary_of primary names ≡ Some v → labelled_device secondary names ≡ Some l
-    → MayCommand names (rows ++ new_row secondary v l ∷ [])
-may_command_new names primary secondary v l rows keeps may found labelled = record {
-  named = all-snoc (has_named_primary names) rows (new_row secondary v l) may.named (new_row_named names primary secondary v l found);
-  below = all-snoc (λ r. nat_lt r.device most_rows) rows (new_row secondary v l) may.below (label_all (λ k. nat_lt k.device most_rows) secondary names.labels l keeps.devices labelled);
+pub may_command_new : (names : Naming) (primary secondary : List ℕ) (group : Option (List ℕ)) (v : NamedVolume) (l : NamedDevice) (rows : List PairRow) → AreNamesSound names → MayCommand names rows → primary_of primary names ≡ Some v → labelled_device secondary names ≡ Some l
+    → MayCommand names (rows ++ new_row secondary group v l ∷ [])
+may_command_new names primary secondary group v l rows keeps may found labelled = record {
+  named = all-snoc (has_named_primary names) rows (new_row secondary group v l) may.named (new_row_named names primary secondary group v l found);
+  below = all-snoc (λ r. nat_lt r.device most_rows) rows (new_row secondary group v l) may.below (label_all (λ k. nat_lt k.device most_rows) secondary names.labels l keeps.devices labelled);
 }
 
-pub may_put_new : (names : Naming) (primary secondary : List ℕ) (rows : List PairRow) → AreNamesSound names → AreRowsSound rows → MayCommand names rows → row_of_primary primary rows ≡ None → (p : NewPair names rows primary secondary)
-    → MayPut (new_row secondary p.volume p.label) rows
-may_put_new names primary secondary rows keeps kept may none p =
-    let row = new_row secondary p.volume p.label in
-    let apart = none_new names primary secondary p.volume p.label rows keeps p.named may.named (none_found (is_of_primary primary) rows none) p.unused in
+pub may_put_new : (names : Naming) (primary secondary : List ℕ) (group : Option (List ℕ)) (rows : List PairRow) → AreNamesSound names → AreRowsSound rows → MayCommand names rows → row_of_primary primary rows ≡ None → (p : NewPair names rows primary secondary)
+    → MayPut (new_row secondary group p.volume p.label) rows
+may_put_new names primary secondary group rows keeps kept may none p =
+    let row = new_row secondary group p.volume p.label in
+    let apart = none_new names primary secondary group p.volume p.label rows keeps p.named may.named (none_found (is_of_primary primary) rows none) p.unused in
     let put : none_clash (with_row row rows) ≡ true = none-with_row row rows kept.apart ∙ not_false (list_any (clashes_apart row) rows) (all_apart row rows p.unused ∙ apart) in
     let last = with_row-last row rows p.unused in
-    let below = subst (λ (t : List PairRow). are_below most_rows t ≡ true) (sym last) (may_command_new names primary secondary p.volume p.label rows keeps may p.named p.labelled).below in
+    let below = subst (λ (t : List PairRow). are_below most_rows t ≡ true) (sym last) (may_command_new names primary secondary group p.volume p.label rows keeps may p.named p.labelled).below in
     record {
       rules = found_all (λ w. bytes_eq w.serial primary) (λ w. are_in_ranges w.control w.volume w.cylinders) names.primaries p.volume p.named keeps.ranges;
       apart = put;
@@ -200,22 +200,22 @@ may_put_new names primary secondary rows keeps kept may none p =
 -- ---- the row that is put
 
 -- what is known of the row of a new pair
-pub record NewRow (names : Naming) (rows : List PairRow) (primary secondary : List ℕ) (row : PairRow) : Type 0 where
+pub record NewRow (names : Naming) (rows : List PairRow) (primary secondary : List ℕ) (group : Option (List ℕ)) (row : PairRow) : Type 0 where
   pub put : MayPut row rows
-  pub last : with_row row rows ≡ add_to rows (row_of_primary primary rows) (new_row_for secondary (primary_of primary names) (labelled_device secondary names))
+  pub last : with_row row rows ≡ add_to group rows (row_of_primary primary rows) (new_row_for secondary group (primary_of primary names) (labelled_device secondary names))
   pub may : MayCommand names (with_row row rows)
 
-pub new_row_is : (names : Naming) (rows : List PairRow) (primary secondary : List ℕ) (row : PairRow) → AreNamesSound names → AreRowsSound rows → MayCommand names rows → refuses_primary primary secondary names rows (primary_of primary names) ≡ None
-    → row_of_primary primary rows ≡ None → Some row ≡ new_row_for secondary (primary_of primary names) (labelled_device secondary names) → NewRow names rows primary secondary row
-new_row_is names rows primary secondary row keeps kept may own none is =
+pub new_row_is : (names : Naming) (rows : List PairRow) (primary secondary : List ℕ) (group : Option (List ℕ)) (row : PairRow) → AreNamesSound names → AreRowsSound rows → MayCommand names rows → refuses_primary primary secondary names rows (primary_of primary names) ≡ None
+    → row_of_primary primary rows ≡ None → Some row ≡ new_row_for secondary group (primary_of primary names) (labelled_device secondary names) → NewRow names rows primary secondary group row
+new_row_is names rows primary secondary group row keeps kept may own none is =
     let p = new_pair names rows primary secondary own none in
-    let new = new_row secondary p.volume p.label in
-    let named : new_row_for secondary (primary_of primary names) (labelled_device secondary names) ≡ Some new = λ i. new_row_for secondary (p.named i) (p.labelled i) in
+    let new = new_row secondary group p.volume p.label in
+    let named : new_row_for secondary group (primary_of primary names) (labelled_device secondary names) ≡ Some new = λ i. new_row_for secondary group (p.named i) (p.labelled i) in
     let both : Some row ≡ Some new = is ∙ named in
     let same : new ≡ row = cc in
     let last = with_row-last new rows p.unused in
-    subst (NewRow names rows primary secondary) same (record {
-      put = may_put_new names primary secondary rows keeps kept may none p;
-      last = last ∙ (λ i. add_to rows (sym none i) (sym named i));
-      may = subst (MayCommand names) (sym last) (may_command_new names primary secondary p.volume p.label rows keeps may p.named p.labelled);
+    subst (NewRow names rows primary secondary group) same (record {
+      put = may_put_new names primary secondary group rows keeps kept may none p;
+      last = last ∙ (λ i. add_to group rows (sym none i) (sym named i));
+      may = subst (MayCommand names) (sym last) (may_command_new names primary secondary group p.volume p.label rows keeps may p.named p.labelled);
     })

@@ -5,6 +5,8 @@ pub mod FieldPlaces
 pub mod PutLaws
 pub mod RowsAgain
 pub mod RowReads
+pub mod NarrowRows
+pub mod Versions
 pub mod FlagLaws
 pub mod NamingLaws
 pub mod FindLaws

@@ -59,7 +59,7 @@ pub control_below : (control : ℕ) (volumes : List NamedVolume) → list_all (�
 control_below control [] all has = absurd cc
 control_below control (v ∷ volumes) all has =
     let parts = both_true (are_in_ranges v.control v.volume v.cylinders) (list_all (λ u. are_in_ranges u.control u.volume u.cylinders) volumes) all in
-    let ranges = both_true (nat_le v.control 15 && nat_le v.volume 31) (within 1 65520 v.cylinders) parts.0 in
+    let ranges = both_true (nat_le v.control 15 && nat_le v.volume 31) (within 1 1000000 v.cylinders) parts.0 in
     let below = leb-true v.control 15 (both_true (nat_le v.control 15) (nat_le v.volume 31) ranges.0).0 in
     choose (nat_eq v.control control) refl below has (control_below control volumes parts.1)
   where

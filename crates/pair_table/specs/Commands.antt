@@ -16,7 +16,7 @@ use Rattle.pair_table.specs.declared.row.SuspendCause.TheVariants.{Command as By
 use Rattle.pair_table.specs.Naming.{Naming, labelled_device, primary_of}
 use Rattle.pair_table.specs.Refusals.{is_of_primary, is_pair, refusal, row_of_primary}
 use Rattle.pair_table.specs.Rows.{is_suspended}
-use Rattle.pair_table.specs.Tables.{Table, are_below, in_state, most_rows}
+use Rattle.pair_table.specs.Tables.{Table, are_below, in_state, most_rows, resumed_in}
 
 -- ---- the rows
 
@@ -27,27 +27,27 @@ is_chosen All r = true
 abbrev pub is_to_suspend : Choice → PairRow → Bool
 is_to_suspend choice r = is_chosen choice r && not (is_suspended r.state)
 
-abbrev pub new_row : (secondary : List ℕ) → NamedVolume → NamedDevice → PairRow
-new_row secondary v l = record { primary = v.serial; secondary = secondary; control = v.control; volume = v.volume; device = l.device; cylinders = v.cylinders; state = Pending }
+abbrev pub new_row : (secondary : List ℕ) → (group : Option (List ℕ)) → NamedVolume → NamedDevice → PairRow
+new_row secondary group v l = record { primary = v.serial; secondary = secondary; control = v.control; volume = v.volume; device = l.device; cylinders = v.cylinders; state = Pending; group = group }
 
 -- a row of that primary, or else none
-abbrev pub add_to : List PairRow → Option PairRow → Option PairRow → List PairRow
-add_to rows (Some r) new = map (λ o. if is_of_primary r.primary o then in_state Pending o else o) rows
-add_to rows None (Some new) = rows ++ new ∷ []
-add_to rows None None = rows
+abbrev pub add_to : (group : Option (List ℕ)) → List PairRow → Option PairRow → Option PairRow → List PairRow
+add_to group rows (Some r) new = map (λ o. if is_of_primary r.primary o then resumed_in group o else o) rows
+add_to group rows None (Some new) = rows ++ new ∷ []
+add_to group rows None None = rows
 
-abbrev pub new_row_for : (secondary : List ℕ) → Option NamedVolume → Option NamedDevice → Option PairRow
-new_row_for secondary (Some v) (Some l) = Some (new_row secondary v l)
-new_row_for secondary None l = None
-new_row_for secondary (Some v) None = None
+abbrev pub new_row_for : (secondary : List ℕ) → (group : Option (List ℕ)) → Option NamedVolume → Option NamedDevice → Option PairRow
+new_row_for secondary group (Some v) (Some l) = Some (new_row secondary group v l)
+new_row_for secondary group None l = None
+new_row_for secondary group (Some v) None = None
 
 abbrev pub suspended_since : Choice → (time : ℕ) → PairRow → PairRow
 suspended_since choice time r = if is_to_suspend choice r then in_state (Suspended ByCommand (record { 0 = time })) r else r
 
--- The rows after an accepted command at a time. A new row goes last, pending; a suspended one becomes pending in its place. The
--- chosen rows go. Those of the chosen that aren't suspended become so by the command, since the time.
+-- The rows after an accepted command at a time. A new row goes last, pending; a suspended one becomes pending in its place. Either has
+-- the command's group, or none. The chosen rows go. Those of the chosen that aren't suspended become so by the command, since the time.
 abbrev pub rows_after : Naming → (time : ℕ) → Command → List PairRow → List PairRow
-rows_after names time (AddPair primary secondary) rows = add_to rows (row_of_primary primary rows) (new_row_for secondary (primary_of primary names) (labelled_device secondary names))
+rows_after names time (AddPair primary secondary group) rows = add_to group rows (row_of_primary primary rows) (new_row_for secondary group (primary_of primary names) (labelled_device secondary names))
 rows_after names time (DelPair choice) rows = filter (λ r. not (is_chosen choice r)) rows
 rows_after names time (Suspend choice) rows = map (suspended_since choice time) rows
 rows_after names time (Start level) rows = []
@@ -66,7 +66,7 @@ added None None = Nothing
 
 -- What a command changes: the devices of rows that go, and of rows that become suspended.
 abbrev pub change_of : Naming → Command → List PairRow → Change
-change_of names (AddPair primary secondary) rows = added (row_of_primary primary rows) (labelled_device secondary names)
+change_of names (AddPair primary secondary group) rows = added (row_of_primary primary rows) (labelled_device secondary names)
 change_of names (DelPair choice) rows = Gone (devices_of (filter (is_chosen choice) rows))
 change_of names (Suspend choice) rows = SuspendedRows (devices_of (filter (is_to_suspend choice) rows))
 change_of names (Start level) rows = Started
@@ -83,7 +83,7 @@ answer names table session command = answer_by (refusal names table session comm
 abbrev pub is_end : Command → Bool
 is_end End = true
 is_end (Start level) = false
-is_end (AddPair primary secondary) = false
+is_end (AddPair primary secondary group) = false
 is_end (DelPair choice) = false
 is_end (Suspend choice) = false
 is_end Query = false
@@ -97,7 +97,7 @@ table_after names table session command time = if is_none (refusal names table s
 
 -- Adding a pair takes memory for its row, and taking out or suspending pairs for the list of their devices.
 abbrev pub wants_memory : Command → Bool
-wants_memory (AddPair primary secondary) = true
+wants_memory (AddPair primary secondary group) = true
 wants_memory (DelPair choice) = true
 wants_memory (Suspend choice) = true
 wants_memory (Start level) = false

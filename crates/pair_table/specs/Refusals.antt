@@ -61,7 +61,7 @@ refuses_choice (One primary secondary) rows = if list_any (is_pair primary secon
 refuses_choice All rows = None
 
 abbrev pub refuses_command : Naming → List PairRow → Command → Option Refusal
-refuses_command names rows (AddPair primary secondary) = refuses_primary primary secondary names rows (primary_of primary names)
+refuses_command names rows (AddPair primary secondary group) = refuses_primary primary secondary names rows (primary_of primary names)
 refuses_command names rows (DelPair choice) = refuses_choice choice rows
 refuses_command names rows (Suspend choice) = refuses_choice choice rows
 refuses_command names rows (Start level) = None
@@ -72,7 +72,7 @@ refuses_command names rows End = None
 
 abbrev pub is_start : Command → Bool
 is_start (Start level) = true
-is_start (AddPair primary secondary) = false
+is_start (AddPair primary secondary group) = false
 is_start (DelPair choice) = false
 is_start (Suspend choice) = false
 is_start Query = false

@@ -3,7 +3,7 @@ use Rattle.std.specs.Prelude.{ℕ, ◌&&◌, ◌||◌, not, if◌then◌else◌,
 use Rattle.pair_table.specs.declared.row.PairState.{PairState}
 use Rattle.pair_table.specs.declared.row.PairState.TheVariants.{Pending, Copy, Duplex, Suspended}
 use Rattle.pair_table.specs.declared.row.SuspendCause.{SuspendCause}
-use Rattle.pair_table.specs.declared.row.SuspendCause.TheVariants.{Command, Device, Session, Control}
+use Rattle.pair_table.specs.declared.row.SuspendCause.TheVariants.{Command, Device, Session, Control, Group}
 
 -- ---- causes
 
@@ -13,12 +13,21 @@ cause_word Command = codes "COMMAND"
 cause_word Device = codes "DEVICE"
 cause_word Session = codes "SESSION"
 cause_word Control = codes "CONTROL"
+cause_word Group = codes "GROUP"
 
 abbrev pub is_by_device : SuspendCause → Bool
 is_by_device Device = true
 is_by_device Command = false
 is_by_device Session = false
 is_by_device Control = false
+is_by_device Group = false
+
+abbrev pub is_by_group : SuspendCause → Bool
+is_by_group Group = true
+is_by_group Command = false
+is_by_group Device = false
+is_by_group Session = false
+is_by_group Control = false
 
 -- ---- states
 
@@ -28,6 +37,13 @@ is_device_suspended Pending = false
 is_device_suspended Copy = false
 is_device_suspended Duplex = false
 is_device_suspended (Suspended cause since) = is_by_device cause
+
+-- whether a row in this state is suspended by the fault of another pair of its group
+abbrev pub is_group_suspended : PairState → Bool
+is_group_suspended Pending = false
+is_group_suspended Copy = false
+is_group_suspended Duplex = false
+is_group_suspended (Suspended cause since) = is_by_group cause
 
 -- A row that neither waits for its copy nor is copied.
 abbrev pub is_settled : PairState → Bool

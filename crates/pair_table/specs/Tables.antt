@@ -3,6 +3,7 @@ use Rattle.std.specs.Prelude.{ℕ, ◌≤◌, ◌==◌, ◌&&◌, ◌||◌, not,
 use Rattle.std.specs.List.{list_any, list_all}
 use Rattle.pair_table.specs.declared.limits.TheConstants.{MOST_ROWS}
 use Rattle.pair_table.specs.declared.row.PairState.{PairState}
+use Rattle.pair_table.specs.declared.row.PairState.TheVariants.{Pending}
 use Rattle.pair_table.specs.declared.row.PairRow.{PairRow}
 use Rattle.pair_table.specs.Devices.{is_among}
 use Rattle.pair_table.specs.Rows.{keeps_row_rules, is_row}
@@ -53,13 +54,24 @@ without_row device rows = filter (λ r. not (is_of device r)) rows
 abbrev pub in_state : PairState → PairRow → PairRow
 in_state state r = record r { state = state }
 
--- the row in another state, where it is the device's
+-- the row changed, where it is the device's
+abbrev pub row_changed : (device : ℕ) → (PairRow → PairRow) → PairRow → PairRow
+row_changed device change r = if is_of device r then change r else r
+
 abbrev pub changed_row : (device : ℕ) → PairState → PairRow → PairRow
-changed_row device state r = if is_of device r then in_state state r else r
+changed_row device state r = row_changed device (in_state state) r
 
 -- the rows with the device's in another state
 abbrev pub with_state : (device : ℕ) → PairState → List PairRow → List PairRow
 with_state device state rows = map (changed_row device state) rows
+
+-- a row that is resumed: it is pending, in this group or in none
+abbrev pub resumed_in : (group : Option (List ℕ)) → PairRow → PairRow
+resumed_in group r = record r { state = Pending; group = group }
+
+-- the rows with the device's resumed
+abbrev pub with_resumed : (device : ℕ) → (group : Option (List ℕ)) → List PairRow → List PairRow
+with_resumed device group rows = map (row_changed device (resumed_in group)) rows
 
 -- the rows with those of several devices in another state
 abbrev pub with_states : (devices : List ℕ) → PairState → List PairRow → List PairRow

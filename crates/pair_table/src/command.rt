@@ -45,9 +45,15 @@ impl Choice {
 #[derive(Clone, Copy, Debug, PartialEq, Eq)]
 pub enum Command {
     /// XSTART.
-    Start { level: Level },
-    /// XADDPAIR.
-    AddPair { primary: Serial, secondary: Serial },
+    Start {
+        level: Level,
+    },
+    /// XADDPAIR, with the name of the pair's group, if it gets one.
+    AddPair {
+        primary: Serial,
+        secondary: Serial,
+        group: Option<Serial>,
+    },
     /// XDELPAIR.
     DelPair(Choice),
     /// XSUSPEND.

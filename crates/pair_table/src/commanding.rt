@@ -63,9 +63,11 @@ impl PairTable {
         ensures { result ≡ refuses_command names.now self.now.rows command.now }
     {
         match command {
-            Command::AddPair { primary, secondary } => {
-                self.pair_refusal(names, *primary, *secondary)
-            }
+            Command::AddPair {
+                primary,
+                secondary,
+                ..
+            } => self.pair_refusal(names, *primary, *secondary),
             Command::DelPair(choice) | Command::Suspend(choice) => self.choice_refusal(choice),
             Command::Start { .. } | Command::Query | Command::End => None,
         }
@@ -139,9 +141,11 @@ impl PairTable {
                 self.start_empty();
                 Ok(Change::Started)
             }
-            Command::AddPair { primary, secondary } => {
-                Ok(self.add_pair(alloc, names, *primary, *secondary)?)
-            }
+            Command::AddPair {
+                primary,
+                secondary,
+                group,
+            } => Ok(self.add_pair(alloc, names, *primary, *secondary, *group)?),
             Command::DelPair(choice) => Ok(self.delete_pairs(alloc, choice)?),
             Command::Suspend(choice) => Ok(self.suspend_pairs(alloc, choice, at)?),
             Command::Query => Ok(Change::Nothing),
@@ -159,20 +163,21 @@ impl PairTable {
         names: &Names,
         primary: Serial,
         secondary: Serial,
+        group: Option<Serial>,
     ) -> Result<Change, NoMemory>
         requires rows { MayCommand names.now self.old.rows }
         requires own { refuses_primary primary secondary names.now self.old.rows (primary_of primary names.now) ≡ None }
-        ensures change { IfOk result (λ change. change ≡ change_of names.now (Command.AddPair primary secondary) self.old.rows) }
-        ensures ok { OnOk result (self.new ≡ with_rows self.old (rows_after names.now 0 (Command.AddPair primary secondary) self.old.rows)) }
+        ensures change { IfOk result (λ change. change ≡ change_of names.now (Command.AddPair primary secondary group) self.old.rows) }
+        ensures ok { OnOk result (self.new ≡ with_rows self.old (rows_after names.now 0 (Command.AddPair primary secondary group) self.old.rows)) }
         ensures err { OnErr result (self.new ≡ self.old) }
         ensures again { MayCommand names.now self.new.rows }
     {
         if let Some(row) = self.row_of_primary(primary) {
             let device = row.device;
-            self.set_state(device, PairState::Pending);
+            self.resume(device, group);
             return Ok(Change::Resumed(device));
         }
-        let Some(row) = new_row(names, primary, secondary) else {
+        let Some(row) = new_row(names, primary, secondary, group) else {
             unreachable!()
         };
         let device = row.device;
@@ -245,8 +250,13 @@ fn row_refusal(row: &PairRow, secondary: Serial) -> Option<Refusal>
 }
 
 /// The row of a new pair, if both names are known.
-fn new_row(names: &Names, primary: Serial, secondary: Serial) -> Option<PairRow>
-    ensures row { result ≡ new_row_for secondary (primary_of primary names.now) (labelled_device secondary names.now) }
+fn new_row(
+    names: &Names,
+    primary: Serial,
+    secondary: Serial,
+    group: Option<Serial>,
+) -> Option<PairRow>
+    ensures row { result ≡ new_row_for secondary group (primary_of primary names.now) (labelled_device secondary names.now) }
     ensures rules { AreNamesSound names.now }
 {
     let volume = names.volume_of(primary)?;
@@ -259,5 +269,6 @@ fn new_row(names: &Names, primary: Serial, secondary: Serial) -> Option<PairRow>
         device: label.device,
         cylinders: volume.cylinders,
         state: PairState::Pending,
+        group,
     })
 }

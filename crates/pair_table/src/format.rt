@@ -1,14 +1,18 @@
 //! The bytes of a row, big-endian: the serial of the primary (6 bytes, filled with spaces) and of the secondary (6), controller,
-//! volume of the controller, device and cylinders (2 each), state (1), cause (1), and the time since it is suspended (8).
+//! volume of the controller and device (2 each), cylinders (4), state (1), cause (1), the time since it is suspended (8), and the group's
+//! name or spaces (6). In version 1, which is only read, the cylinders have 2 bytes and no group stands at the end.
 
-ghost use Rattle.std.specs.Prelude.{◌≡◌, ◌<◌, ◌^◌, IsTrue};
+ghost use Rattle.std.specs.Prelude.{◌≡◌, ◌<◌, ◌^◌, length, IsTrue};
 ghost use Rattle.tod_stamp.specs.Names.{is_serial};
-ghost use Rattle.pair_table.specs.Rows.{is_row, is_state, keeps_row_rules, state_numbers, causeless_state, state_of_numbers as state_in, allowed, names_spelling, numbers_spelling, state_spelling, row_spelling, row_at};
+ghost use Rattle.pair_table.specs.Rows.{is_row, is_group, is_state, keeps_row_rules, state_numbers, causeless_state, state_of_numbers as state_in, group_of_field, allowed, if_narrow, names_spelling, numbers_spelling, state_spelling, group_field, row_spelling, row_at, narrow_row_at, row_by, row_length, widened};
 
-use crate::limits::ROW_LENGTH;
+use crate::limits::{NARROW_ROW_LENGTH, ROW_LENGTH};
 use crate::row::{PairRow, PairState, SuspendCause};
 use byteorder::{BigEndian, ByteOrder};
 use tod_stamp::{Serial, Stamp};
+
+/// The field of no group.
+const NO_GROUP: [u8; 6] = [b' '; 6];
 
 /// The row's bytes.
 pub fn encode_row(row: &PairRow) -> [u8; ROW_LENGTH]
@@ -17,8 +21,9 @@ pub fn encode_row(row: &PairRow) -> [u8; ROW_LENGTH]
     ensures row { IsTrue (is_row row.now) }
 {
     let mut bytes = [0; ROW_LENGTH];
-    bytes[20..].copy_from_slice(&state_bytes(row.state));
-    bytes[12..20].copy_from_slice(&numbers_bytes(row));
+    bytes[32..].copy_from_slice(&group_bytes(row.group));
+    bytes[22..32].copy_from_slice(&state_bytes(row.state));
+    bytes[12..22].copy_from_slice(&numbers_bytes(row));
     bytes[..12].copy_from_slice(&names_bytes(row));
     bytes
 }
@@ -34,17 +39,17 @@ fn names_bytes(row: &PairRow) -> [u8; 12]
     bytes
 }
 
-fn numbers_bytes(row: &PairRow) -> [u8; 8]
+fn numbers_bytes(row: &PairRow) -> [u8; 10]
     requires { IsTrue (keeps_row_rules row.now) }
     ensures spelled { result ≡ numbers_spelling row.now }
     ensures device { row.now.device < 2 ^ 16 }
 {
     let device = row.device;
-    let mut bytes = [0; 8];
+    let mut bytes = [0; 10];
     BigEndian::write_u16(&mut bytes, row.control);
     BigEndian::write_u16(&mut bytes[2..], row.volume);
     BigEndian::write_u16(&mut bytes[4..], device);
-    BigEndian::write_u16(&mut bytes[6..], row.cylinders as u16);
+    BigEndian::write_u32(&mut bytes[6..], row.cylinders);
     bytes
 }
 
@@ -58,6 +63,16 @@ fn state_bytes(state: PairState) -> [u8; 10]
     bytes
 }
 
+fn group_bytes(group: Option<Serial>) -> [u8; 6]
+    ensures spelled { result ≡ group_field group }
+    ensures valid { IsTrue (is_group group) }
+{
+    match group {
+        Some(name) => name.field(),
+        None => NO_GROUP,
+    }
+}
+
 /// The row that the bytes spell. None exactly where a field breaks its rule: a serial is no valid field, a number is out of its
 /// range, or a cause or a time stands beside a state that has none.
 pub fn decode_row(bytes: &[u8; ROW_LENGTH]) -> Option<PairRow>
@@ -69,9 +84,68 @@ pub fn decode_row(bytes: &[u8; ROW_LENGTH]) -> Option<PairRow>
         control: BigEndian::read_u16(&bytes[12..14]),
         volume: BigEndian::read_u16(&bytes[14..16]),
         device: BigEndian::read_u16(&bytes[16..18]),
-        cylinders: u32::from(BigEndian::read_u16(&bytes[18..20])),
-        state: state_of(bytes[20], bytes[21], BigEndian::read_u64(&bytes[22..30]))?,
+        cylinders: BigEndian::read_u32(&bytes[18..22]),
+        state: state_of(bytes[22], bytes[23], BigEndian::read_u64(&bytes[24..32]))?,
+        group: group_of(&bytes[32..])?,
     })
+}
+
+/// The row that bytes of version 1 spell. None exactly where a field breaks its rule there.
+pub fn decode_row1(bytes: &[u8; NARROW_ROW_LENGTH]) -> Option<PairRow>
+    ensures { result ≡ narrow_row_at bytes.now }
+{
+    let wide = widened(bytes);
+    match decode_row(&wide) {
+        Some(row) => if_narrow(row),
+        None => None,
+    }
+}
+
+/// The bytes of a row of a version.
+pub fn row_length(version: u8) -> usize
+    ensures { result ≡ row_length version }
+{
+    if version == 1 {
+        NARROW_ROW_LENGTH
+    } else {
+        ROW_LENGTH
+    }
+}
+
+/// The row that bytes of a version spell. None exactly where they are not as many as those of a row, or a field breaks its rule there.
+pub fn decode_row_of(version: u8, bytes: &[u8]) -> Option<PairRow>
+    ensures { result ≡ row_by version bytes.now }
+{
+    if bytes.len() != row_length(version) {
+        return None;
+    }
+    if version == 1 {
+        let mut row = [0; NARROW_ROW_LENGTH];
+        row.copy_from_slice(bytes);
+        decode_row1(&row)
+    } else {
+        let mut row = [0; ROW_LENGTH];
+        row.copy_from_slice(bytes);
+        decode_row(&row)
+    }
+}
+
+/// The bytes that a row of version 1 would have with four bytes of cylinders and no group.
+fn widened(bytes: &[u8; NARROW_ROW_LENGTH]) -> [u8; ROW_LENGTH]
+    ensures { result ≡ widened bytes.now }
+{
+    let mut wide = [0; ROW_LENGTH];
+    wide[32..].copy_from_slice(&NO_GROUP);
+    wide[20..32].copy_from_slice(&bytes[18..]);
+    wide[..18].copy_from_slice(&bytes[..18]);
+    wide
+}
+
+/// The row, where version 1 has it.
+fn if_narrow(row: PairRow) -> Option<PairRow>
+    ensures { result ≡ if_narrow row }
+{
+    if row.is_narrow() { Some(row) } else { None }
 }
 
 /// The row, where its numbers are in their ranges.
@@ -108,6 +182,18 @@ fn state_of(state: u8, cause: u8, since: u64) -> Option<PairState>
     } else {
         None
     }
+}
+
+/// The group in a field. None where the field is neither a name nor spaces.
+fn group_of(field: &[u8]) -> Option<Option<Serial>>
+    requires { length field.now ≡ 6 }
+    ensures { result ≡ group_of_field field.now }
+{
+    if field == NO_GROUP.as_slice() {
+        return Some(None);
+    }
+    let name = Serial::from_field(field)?;
+    Some(Some(name))
 }
 
 /// The state of a row that isn't suspended.

@@ -14,10 +14,10 @@ mod row;
 mod table;
 
 pub use command::{Change, Choice, Command, CommandError, DeviceList, Refusal};
-pub use format::{decode_row, encode_row};
-pub use laws::rows_read_back;
+pub use format::{decode_row, decode_row_of, decode_row1, encode_row, row_length};
+pub use laws::{narrow_rows_read_back, rows_read_back};
 pub use level::Level;
-pub use limits::{MOST_ROWS, ROW_LENGTH};
+pub use limits::{MOST_ROWS, NARROW_ROW_LENGTH, ROW_LENGTH};
 pub use names::{NamedDevice, NamedVolume, Names};
 pub use row::{PairRow, PairState, SuspendCause};
 pub use table::PairTable;

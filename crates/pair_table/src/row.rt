@@ -1,7 +1,7 @@
 //! Rows of pairs.
 
 use tod_stamp::{Serial, Stamp};
-use xrc_edge::{MOST_CONTROL_VOLUMES, MOST_CONTROLS, MOST_CYLINDERS};
+use xrc_edge::{MOST_CONTROL_VOLUMES, MOST_CONTROLS, MOST_CYLINDERS, MOST_NARROW_CYLINDERS};
 
 /// Why a pair is suspended.
 #[derive(Clone, Copy, Debug, PartialEq, Eq)]
@@ -14,6 +14,8 @@ pub enum SuspendCause {
     Session,
     /// The trace of the pair's controller broke.
     Control,
+    /// The volume of another pair of its group failed, where such a fault suspends the group.
+    Group,
 }
 
 /// How far a pair is.
@@ -43,12 +45,14 @@ pub struct PairRow {
     /// The primary's cylinders, which have `TRACKS_OF_CYLINDER` tracks each: 1 to `MOST_CYLINDERS`.
     pub cylinders: u32,
     pub state: PairState,
+    /// The name of its group, if it has one.
+    pub group: Option<Serial>,
 }
 
 impl SuspendCause {
     ghost use Rattle.std.specs.Prelude.{◌≡◌, ◌≤◌, length};
     ghost use Rattle.pair_table.specs.Rows.{cause_number, cause_of_number};
-    ghost use Rattle.pair_table.specs.States.{cause_word, is_by_device};
+    ghost use Rattle.pair_table.specs.States.{cause_word, is_by_device, is_by_group};
 
     /// The number that stands for the cause in the bytes of a row. Each cause has its own.
     pub fn number(self) -> u8
@@ -59,6 +63,7 @@ impl SuspendCause {
             SuspendCause::Device => 2,
             SuspendCause::Session => 3,
             SuspendCause::Control => 4,
+            SuspendCause::Group => 5,
         }
     }
 
@@ -71,6 +76,7 @@ impl SuspendCause {
             2 => Some(SuspendCause::Device),
             3 => Some(SuspendCause::Session),
             4 => Some(SuspendCause::Control),
+            5 => Some(SuspendCause::Group),
             _ => None,
         }
     }
@@ -85,6 +91,7 @@ impl SuspendCause {
             SuspendCause::Device => b"DEVICE",
             SuspendCause::Session => b"SESSION",
             SuspendCause::Control => b"CONTROL",
+            SuspendCause::Group => b"GROUP",
         }
     }
 
@@ -97,12 +104,22 @@ impl SuspendCause {
             _ => false,
         }
     }
+
+    /// Whether the volume of another pair of the group failed.
+    fn is_by_group(self) -> bool
+        ensures { result ≡ is_by_group self }
+    {
+        match self {
+            SuspendCause::Group => true,
+            _ => false,
+        }
+    }
 }
 
 impl PairState {
     ghost use Rattle.std.specs.Prelude.{◌≡◌, IsTrue};
     ghost use Rattle.pair_table.specs.Rows.{is_suspended, is_state};
-    ghost use Rattle.pair_table.specs.States.{is_device_suspended, is_duplex, is_settled, owes, owes_suspended};
+    ghost use Rattle.pair_table.specs.States.{is_device_suspended, is_duplex, is_group_suspended, is_settled, owes, owes_suspended};
 
     /// Whether there are a cause and a time.
     pub fn is_suspended(self) -> bool
@@ -121,6 +138,16 @@ impl PairState {
     {
         match self {
             PairState::Suspended { cause, since: _ } => cause.is_by_device(),
+            _ => false,
+        }
+    }
+
+    /// Whether the pair is suspended because the volume of another pair of its group failed.
+    fn is_suspended_by_group(self) -> bool
+        ensures { result ≡ is_group_suspended self }
+    {
+        match self {
+            PairState::Suspended { cause, since: _ } => cause.is_by_group(),
             _ => false,
         }
     }
@@ -185,7 +212,7 @@ const LAST_VOLUME: u16 = MOST_CONTROL_VOLUMES - 1;
 
 impl PairRow {
     ghost use Rattle.std.specs.Prelude.{◌≡◌};
-    ghost use Rattle.pair_table.specs.Rows.{keeps_row_rules};
+    ghost use Rattle.pair_table.specs.Rows.{is_narrow, keeps_row_rules};
     ghost use Rattle.pair_table.specs.Tables.{clashes};
 
     /// Whether controller, volume and cylinders are in their ranges.
@@ -194,7 +221,14 @@ impl PairRow {
     {
         self.control <= LAST_CONTROL
             && self.volume <= LAST_VOLUME
-            && (1..=u32::from(MOST_CYLINDERS)).contains(&self.cylinders)
+            && (1..=MOST_CYLINDERS).contains(&self.cylinders)
+    }
+
+    /// Whether version 1 has such a row.
+    pub(crate) fn is_narrow(&self) -> bool
+        ensures { result ≡ is_narrow self.now }
+    {
+        self.cylinders <= u32::from(MOST_NARROW_CYLINDERS) && !self.state.is_suspended_by_group()
     }
 
     /// Whether the two have one primary, one device, or one pair of controller and volume.

@@ -5,8 +5,8 @@ ghost use Rattle.std.specs.List.{All, list_any};
 ghost use Rattle.std.specs.Option.{option_copied};
 ghost use Rattle.pair_table.specs.Commands.{devices_of, is_chosen, is_to_suspend};
 ghost use Rattle.pair_table.specs.Refusals.{is_pair, row_of_primary};
-ghost use Rattle.pair_table.specs.Rows.{keeps_row_rules};
-ghost use Rattle.pair_table.specs.Tables.{most_rows, new_table, with_rows, row_of, HasRow, with_row, without_row, with_state, clashes_apart, AreRowsSound, MayPut, are_below};
+ghost use Rattle.pair_table.specs.Rows.{is_group, keeps_row_rules};
+ghost use Rattle.pair_table.specs.Tables.{most_rows, new_table, with_rows, row_of, HasRow, with_row, without_row, with_resumed, with_state, clashes_apart, AreRowsSound, MayPut, are_below};
 
 use crate::command::{Choice, DeviceList};
 use crate::limits::MOST_ROWS;
@@ -16,6 +16,21 @@ use std::alloc::Global;
 use std::marker::Model;
 use tod_stamp::{Serial, Session};
 use xrc_edge::NoMemory;
+
+/// A group, whose name is a serial.
+fn named(group: Option<Serial>) -> Option<Serial>
+    ensures same { result ≡ group }
+    ensures valid { IsTrue (is_group result) }
+{
+    match group {
+        Some(name) => {
+            // No serial is empty.
+            prove!(!name.as_bytes().is_empty());
+            Some(name)
+        }
+        None => None,
+    }
+}
 
 /// The pairs of a session. Contracts see the session, whether it is started, whether it has ended, and the rows in order of adding.
 #[derive(Drop)]
@@ -198,6 +213,18 @@ impl PairTable {
         }
     }
 
+    /// Makes the device's row pending, in a group or in none.
+    pub(crate) fn resume(&mut self, device: u16, group: Option<Serial>)
+        requires { HasRow device self.old.rows }
+        ensures { self.new ≡ with_rows self.old (with_resumed device group self.old.rows) }
+    {
+        let group = named(group);
+        if let Some(row) = self.rows.get_mut(&device) {
+            row.state = PairState::Pending;
+            row.group = group;
+        }
+    }
+
     /// Whether a row may be put: it is in its ranges, no row of another device has its primary or its controller and volume, and with
     /// it there are at most `MOST_ROWS` rows.
     pub fn may_put(&self, row: &PairRow) -> bool
@@ -233,6 +260,7 @@ impl PairTable {
         // No serial is empty.
         prove!(!row.primary.as_bytes().is_empty());
         prove!(!row.secondary.as_bytes().is_empty());
+        prove!(named(row.group) == row.group);
         self.rows.insert(row.device, row)?;
         Ok(())
     }

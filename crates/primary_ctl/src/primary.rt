@@ -1,5 +1,5 @@
 ghost use Rattle.std.specs.Prelude.{◌≡◌, ◌≤◌, ℕ, filter, All, IfOk, OnOk, IsTrue};
-ghost use Rattle.write_trace.specs.Headers.{is_track_of, is_header_of};
+ghost use Rattle.write_trace.specs.Headers.{is_track_of, is_header};
 ghost use Rattle.ckd_track.specs.declared.write.Write.{Write};
 ghost use Rattle.write_trace.specs.Writes.{IsWriteTo};
 ghost use Rattle.primary_ctl.specs.States.{PrimaryState, track_of, base_in, after_writes, is_on};
@@ -35,7 +35,7 @@ impl Model for Primary {
 impl Primary {
     /// The volumes before the first entry of their trace, at time 0.
     pub fn make(alloc: Global, header: Header) -> Result<Primary, NoMemory>
-        requires { IsTrue (is_header_of 1 header) }
+        requires { IsTrue (is_header header) }
         ensures volumes { IfOk result (λ primary. primary.volumes ≡ header.volumes) }
         ensures tracks { IfOk result (λ primary. (volume track : ℕ) → track_of primary volume track ≡ base_in header.base volume track) }
         ensures time { IfOk result (λ primary. primary.time ≡ 0) }

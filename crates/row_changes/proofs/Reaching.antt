@@ -1,33 +1,44 @@
 -- What holds of whom hits reach at each level. Changes change the states of rows alone, and so it stays as it is.
-use Rattle.std.proofs.Common.{◌≡◌, ℕ, Bool, true, false, cond, nat_eq, List, map, refl, ap, ◌∙◌, true≢false}
+use Rattle.std.proofs.Common.{◌≡◌, ℕ, Bool, true, false, not, ◌&&◌, ◌||◌, cond, nat_eq, List, [], ◌∷◌, map, refl, ap, ◌∙◌, true≢false}
 use Rattle.std.proofs.lemmas.List.{map-id}
 use Rattle.pair_table.specs.declared.level.Level.{Level}
-use Rattle.pair_table.specs.declared.level.Level.TheVariants.{Volume as VolumeLevel, Session as SessionLevel}
+use Rattle.pair_table.specs.declared.level.Level.TheVariants.{Volume as VolumeLevel, Session as SessionLevel, Group as GroupLevel}
 use Rattle.pair_table.specs.declared.row.PairRow.{PairRow}
 use Rattle.pair_table.specs.declared.row.PairState.{PairState}
 use Rattle.pair_table.specs.declared.row.SuspendCause.{SuspendCause}
-use Rattle.pair_table.specs.declared.row.SuspendCause.TheVariants.{Device as ByDevice, Control as ByControl}
+use Rattle.pair_table.specs.declared.row.SuspendCause.TheVariants.{Device as ByDevice, Control as ByControl, Group as ByGroup}
 use Rattle.pair_table.specs.Devices.{is_among}
 use Rattle.pair_table.specs.Rows.{is_suspended}
 use Rattle.pair_table.specs.States.{is_by_device}
 use Rattle.pair_table.specs.Tables.{in_state}
-use Rattle.row_changes.specs.Changes.{FaultReach, RowChange, Timed, hit_row, reach_of, reached_row, reaches_others, row_after_change, since, suspended_by}
+use Rattle.row_changes.specs.Changes.{FaultReach, RowChange, Timed, are_same_group, hit_row, reach_of, reached_row, reaches_others, row_after_change, shares_group, since, suspended_by}
 use Rattle.row_changes.specs.Changes.RowChange.{Break, Hit, MarkedHit, Mature, Reached}
+
+-- Rows that differ in their states alone have the same groups.
+same_shares : (f : PairRow → PairRow) → ((r : PairRow) → f r ≡ in_state (f r).state r) → (devices : List ℕ) (r : PairRow) (rows : List PairRow) → shares_group (map f rows) devices r ≡ shares_group rows devices r
+same_shares f keeps devices r [] = refl
+same_shares f keeps devices r (s ∷ rows) =
+    let first = ap (λ (x : PairRow). is_among x.device devices && are_same_group x.group r.group) (keeps s) in
+    let others = same_shares f keeps devices r rows in
+    λ i. first i || others i
 
 -- Rows that differ in their states alone are reached alike.
 pub same_reach : (level : Level) (f : PairRow → PairRow) → ((r : PairRow) → f r ≡ in_state (f r).state r) → (rows : List PairRow) → reach_of level (map f rows) ≡ reach_of level rows
 same_reach VolumeLevel f keeps rows = refl
 same_reach SessionLevel f keeps rows = refl
+same_reach GroupLevel f keeps rows = λ i. record { cause = ByGroup; reaches = λ devices r. not (is_among r.device devices) && same_shares f keeps devices r rows i }
 
 -- No device suspends the rows that hits reach.
 pub reach_is_other : (level : Level) (rows : List PairRow) → is_by_device (reach_of level rows).cause ≡ false
 reach_is_other VolumeLevel rows = refl
 reach_is_other SessionLevel rows = refl
+reach_is_other GroupLevel rows = refl
 
 -- Where failures reach no others, no row is reached.
 pub unreached : (level : Level) (devices : List ℕ) (time : ℕ) (rows : List PairRow) → reaches_others level ≡ false → map (reached_row (reach_of level rows) devices time) rows ≡ rows
 unreached VolumeLevel devices time rows none = map-id rows
 unreached SessionLevel devices time rows none = absurd (true≢false none)
+unreached GroupLevel devices time rows none = absurd (true≢false none)
 
 either_state : (b : Bool) (state : PairState) (r : PairRow) → cond b (in_state state r) r ≡ in_state (cond b (in_state state r) r).state r
 either_state true state r = refl

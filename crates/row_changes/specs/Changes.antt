@@ -2,12 +2,12 @@
 use Rattle.std.specs.Prelude.{ℕ, zero, suc, ◌==◌, ◌&&◌, not, List, [], ◌∷◌, ◌++◌, length, map, Bool, true, false, Option, Some, None, nat_le, bytes_eq, if◌then◌else◌}
 use Rattle.std.specs.List.{list_any, list_all}
 use Rattle.pair_table.specs.declared.level.Level.{Level}
-use Rattle.pair_table.specs.declared.level.Level.TheVariants.{Volume as VolumeLevel, Session as SessionLevel}
+use Rattle.pair_table.specs.declared.level.Level.TheVariants.{Volume as VolumeLevel, Session as SessionLevel, Group as GroupLevel}
 use Rattle.pair_table.specs.declared.row.PairRow.{PairRow}
 use Rattle.pair_table.specs.declared.row.PairState.{PairState}
 use Rattle.pair_table.specs.declared.row.PairState.TheVariants.{Pending, Copy, Duplex, Suspended}
 use Rattle.pair_table.specs.declared.row.SuspendCause.{SuspendCause}
-use Rattle.pair_table.specs.declared.row.SuspendCause.TheVariants.{Device as ByDevice, Session as BySession, Control as ByControl}
+use Rattle.pair_table.specs.declared.row.SuspendCause.TheVariants.{Device as ByDevice, Session as BySession, Control as ByControl, Group as ByGroup}
 use Rattle.pair_table.specs.Rows.{is_suspended}
 use Rattle.pair_table.specs.Tables.{changed_row as row_in_state, in_state, is_of, row_of}
 use Rattle.pair_table.specs.Devices.{is_among}
@@ -16,7 +16,7 @@ use Rattle.pair_table.specs.Devices.{is_among}
 --   Mature: a pending row becomes copying or duplex, or a copying row duplex.
 --   Break: every row of the controller that isn't suspended is suspended by the controller.
 --   Hit: volumes failed at one time. Their rows, suspended or not, are suspended by the device; and every other row that isn't suspended
---     and that the hit reaches is suspended: by the session under level SESSION.
+--     and that the hit reaches is suspended: by the session under level SESSION, by its group under level GROUP.
 --   MarkedHit: the same of a hit that stands in a mark which logging makes before its record, where the other rows still wait.
 --   Reached: after hits of these devices in such a mark, with the record: the rows that these reach are suspended.
 pub data RowChange : Type 0 where
@@ -47,15 +47,26 @@ broken_row control time r = if r.control == control then suspended_by ByControl 
 abbrev pub hit_row : (devices : List ℕ) → (time : ℕ) → PairRow → PairRow
 hit_row devices time r = if is_among r.device devices then in_state (since ByDevice time) r else r
 
+abbrev pub are_same_group : Option (List ℕ) → Option (List ℕ) → Bool
+are_same_group (Some g) (Some h) = bytes_eq g h
+are_same_group (Some g) None = false
+are_same_group None h = false
+
+-- whether a row of one of these devices has the row's group
+abbrev pub shares_group : List PairRow → (devices : List ℕ) → PairRow → Bool
+shares_group rows devices r = list_any (λ s. is_among s.device devices && are_same_group s.group r.group) rows
+
 -- What failures reach: by which cause a row is suspended then, and which rows hits of some devices reach.
 pub record FaultReach : Type 0 where
   pub cause : SuspendCause
   pub reaches : (devices : List ℕ) → PairRow → Bool
 
--- Among rows: none under level VOLUME, and all but those hit under level SESSION.
+-- Among rows: none under level VOLUME, all but those hit under level SESSION, and those of them with the group of a row that is hit under
+-- level GROUP.
 abbrev pub reach_of : Level → List PairRow → FaultReach
 reach_of VolumeLevel rows = record { cause = BySession; reaches = λ devices r. false }
 reach_of SessionLevel rows = record { cause = BySession; reaches = λ devices r. not (is_among r.device devices) }
+reach_of GroupLevel rows = record { cause = ByGroup; reaches = λ devices r. not (is_among r.device devices) && shares_group rows devices r }
 
 -- a row that hits of these devices reach is suspended
 abbrev pub reached_row : FaultReach → (devices : List ℕ) → (time : ℕ) → PairRow → PairRow
@@ -113,6 +124,7 @@ are_hit devices rows = nat_le 1 (length devices) && list_all (λ d. list_any (is
 abbrev pub reaches_others : Level → Bool
 reaches_others VolumeLevel = false
 reaches_others SessionLevel = true
+reaches_others GroupLevel = true
 
 -- ---- what a hit in a mark leaves due
 

@@ -132,9 +132,12 @@ impl<'a> Call<'a> {
         Ok(())
     }
 
-    /// The words that recover this call's session.
+    /// The words that recover this call's session. A copy is made again, which goes on with it.
     fn recovery(&self) -> Result<Vec<String>, Wrong> {
         let mut words = self.words;
+        if words.skip("copy") {
+            return all_words(self.alloc, self.words);
+        }
         // The command's own word.
         let _ = words.next();
         let session = words.next().unwrap_or("");

@@ -11,7 +11,7 @@ pub(crate) fn asked_line(text: &LineText) -> Option<Line>
     ensures spelled { result ≡ line_spelled (first_line text.now) }
     ensures read { IfSome result (λ line. IsLine line (first_line text.now)) }
     ensures every { (line : _) → IsLine line (first_line text.now) → result ≡ Some line }
-    ensures short { IsSome result → length (first_line text.now) ≤ 56 }
+    ensures short { IsSome result → length (first_line text.now) ≤ 70 }
 {
     read_line(text.line())
 }

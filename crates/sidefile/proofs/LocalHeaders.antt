@@ -18,9 +18,9 @@ use Rattle.sidefile.proofs.Steps.{seen_after, front_of_all}
 local_bad : {A : Type 0} (bad : Bad) → IsLocal {A = A} (λ left. Err bad)
 local_bad bad left x e = absurd cc
 
-local_version : (newest : ℕ) → IsLocal (version_at newest)
+local_version : IsLocal version_at
 unfolding version_at
-local_version newest = local_then (bytes_at 4 (is_trace_mark newest)) (λ m. Ok (slice_index m.0 3 - 48, m.1)) (local_bytes 4 (is_trace_mark newest)) (λ m. local_done (slice_index m 3 - 48))
+local_version = local_then (bytes_at 4 is_trace_mark) (λ m. Ok (slice_index m.0 3 - 48, m.1)) (local_bytes 4 is_trace_mark) (λ m. local_done (slice_index m 3 - 48))
 
 -- ---- volumes
 
@@ -60,12 +60,12 @@ local_bases version volumes (suc count) low =
 
 -- ---- headers
 
-local_header : (newest : ℕ) → IsLocal (header_at newest)
+local_header : IsLocal header_at
 unfolding header_at
-local_header newest =
-    local_then (version_at newest)
+local_header =
+    local_then version_at
     (λ version. number_at w16 (within 1 32) version.1 >>= λ count. volumes_at version.0 count.0 [] count.1 >>= λ volumes. number_at w32 (λ n. nat_le n (sum_by tracks_of volumes.0)) volumes.1 >>= λ many. bases_at version.0 volumes.0 many.0 (0, 0) many.1 >>= λ base. Ok (record { version = version.0; volumes = volumes.0; base = base.0 }, base.1))
-    (local_version newest)
+    local_version
     (λ version. local_then (number_at w16 (within 1 32))
     (λ count. volumes_at version count.0 [] count.1 >>= λ volumes. number_at w32 (λ n. nat_le n (sum_by tracks_of volumes.0)) volumes.1 >>= λ many. bases_at version volumes.0 many.0 (0, 0) many.1 >>= λ base. Ok (record { version = version; volumes = volumes.0; base = base.0 }, base.1))
     (local_number w16 (within 1 32))
@@ -78,10 +78,10 @@ local_header newest =
     (λ many. local_then (bases_at version volumes many (0, 0)) (λ base. Ok (record { version = version; volumes = volumes; base = base.0 }, base.1)) (local_bases version volumes many (0, 0)) (λ base. local_done (record { version = version; volumes = volumes; base = base }))))))
 
 -- Of a front of the bytes that goes beyond the header, and not beyond a trace's most bytes, the same header is read.
-pub header_of_front : (bytes rest front left : List ℕ) (header : Header) (place : ℕ) → header_at 1 (whole_trace bytes) ≡ Ok (header, seen place rest) → rest ≡ front ++ left → place + length front ≤ most_bytes
-    → (given : List ℕ) × (take (place + length front) bytes ≡ given) × (header_at 1 (whole_trace given) ≡ Ok (header, seen place front))
+pub header_of_front : (bytes rest front left : List ℕ) (header : Header) (place : ℕ) → header_at (whole_trace bytes) ≡ Ok (header, seen place rest) → rest ≡ front ++ left → place + length front ≤ most_bytes
+    → (given : List ℕ) × (take (place + length front) bytes ≡ given) × (header_at (whole_trace given) ≡ Ok (header, seen place front))
 header_of_front bytes rest front left header place read split le =
-    let t = local_header 1 (whole_trace bytes) (header, seen place rest) read in
+    let t = local_header (whole_trace bytes) (header, seen place rest) read in
     let after = (seen (place + length front) left).bytes in
     let parts : take most_bytes bytes ≡ (t.text ++ front) ++ after =
     t.parts
@@ -91,7 +91,7 @@ header_of_front bytes rest front left header place read split le =
     let long : place + length front ≡ length (t.text ++ front) = omega (arith, t.place, length-append t.text front) in (
       t.text ++ front,
       ap (λ n. take n bytes) long ∙ front_of_all (t.text ++ front) after bytes most_bytes parts,
-      ap (header_at 1) (seen_after 0 t.text front (omega (arith, le, t.place)))
+      ap header_at (seen_after 0 t.text front (omega (arith, le, t.place)))
           ∙ t.again (seen (0 + length t.text) front).bytes
           ∙ ap (λ n. Ok (header, seen n front)) (sym t.place),
     )

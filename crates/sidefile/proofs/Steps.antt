@@ -48,14 +48,14 @@ pub record Took (old new : ReaderState) (e : Entry) (bytes rest : List ℕ) : Ty
   pub text : List ℕ
   pub parts : bytes ≡ text ++ rest
   pub place : new.left.place ≡ old.left.place + length text
-  pub again : (front : List ℕ) → entry_at 1 old.volumes old.last (seen old.left.place (text ++ front)) ≡ Ok (e, seen new.left.place front)
+  pub again : (front : List ℕ) → entry_at old.version old.volumes old.last (seen old.left.place (text ++ front)) ≡ Ok (e, seen new.left.place front)
 
 pub took : (before now : Option (List ℕ)) (old new : ReaderState) (e : Entry) → ReadsEntry before now old new e → (bytes : List ℕ) → unread old.left.bytes before ≡ Some bytes
     → (rest : List ℕ) × (unread new.left.bytes now ≡ Some rest) × Took old new e bytes rest
 took before now old new e reads bytes told =
     let (rest, there, spelled, read) = reads.entry bytes told in
-    let spelling = entry_spelling 1 e in
-    let t = local_entry 1 old.volumes old.last (seen old.left.place bytes) (e, seen new.left.place rest) read in
+    let spelling = entry_spelling old.version e in
+    let t = local_entry old.version old.volumes old.last (seen old.left.place bytes) (e, seen new.left.place rest) read in
     let le : length t.text ≤ most_bytes - old.left.place = omega (arith, t.place, reads.within) in
     let front = front_of_all t.text (seen new.left.place rest).bytes bytes (most_bytes - old.left.place) t.parts in
     let same_length : length spelling ≡ length t.text = omega (arith, t.place, reads.place) in
@@ -67,7 +67,7 @@ took before now old new e reads bytes told =
         parts = spelled ∙ ap (λ (u : List ℕ). u ++ rest) (sym text_is);
         place = t.place;
         again = λ more.
-            ap (entry_at 1 old.volumes old.last) (seen_after old.left.place t.text more le)
+            ap (entry_at old.version old.volumes old.last) (seen_after old.left.place t.text more le)
             ∙ t.again (seen (old.left.place + length t.text) more).bytes
             ∙ ap (λ n. Ok (e, seen n more)) (sym t.place);
       },
@@ -76,18 +76,19 @@ took before now old new e reads bytes told =
 -- ---- one entry
 
 -- what is read of bytes that begin with an entry's
-pub read_after : (old new : ReaderState) (e : Entry) (bytes rest : List ℕ) (t : Took old new e bytes rest) → new.volumes ≡ old.volumes → new.last ≡ stamp_of e → (front : List ℕ)
+pub read_after : (old new : ReaderState) (e : Entry) (bytes rest : List ℕ) (t : Took old new e bytes rest) → new.version ≡ old.version → new.volumes ≡ old.volumes → new.last ≡ stamp_of e → (front : List ℕ)
     → read_of old (t.text ++ front) ≡ (e ∷ (read_of new front).0, (read_of new front).1)
-read_after old new e bytes rest t volumes last front =
+read_after old new e bytes rest t version volumes last front =
     let all = seen old.left.place (t.text ++ front) in
     let after = seen new.left.place front in
     let n = length all.bytes in
-    let less = shorter 1 old.volumes old.last all (e, after) (t.again front) in
-    let same : entries_from n 1 old.volumes (stamp_of e) after ≡ entries_from (length after.bytes) 1 new.volumes new.last after =
-    enough_turns n (length after.bytes) 1 old.volumes (stamp_of e) after (omega (arith, less)) (omega arith)
-    ∙ ap (λ (v : List VolumeHead). entries_from (length after.bytes) 1 v (stamp_of e) after) (sym volumes) ∙ ap (λ s. entries_from (length after.bytes) 1 new.volumes s after) (sym last) in
-    enough_turns n (suc n) 1 old.volumes old.last all (omega arith) (omega arith)
-    ∙ turn_ok n 1 old.volumes old.last all e after (t.again front)
+    let less = shorter old.version old.volumes old.last all (e, after) (t.again front) in
+    let same : entries_from n old.version old.volumes (stamp_of e) after ≡ entries_from (length after.bytes) new.version new.volumes new.last after =
+    enough_turns n (length after.bytes) old.version old.volumes (stamp_of e) after (omega (arith, less)) (omega arith)
+    ∙ ap (λ k. entries_from (length after.bytes) k old.volumes (stamp_of e) after) (sym version) ∙ ap (λ (v : List VolumeHead). entries_from (length after.bytes) new.version v (stamp_of e) after) (sym volumes)
+    ∙ ap (λ s. entries_from (length after.bytes) new.version new.volumes s after) (sym last) in
+    enough_turns n (suc n) old.version old.volumes old.last all (omega arith) (omega arith)
+    ∙ turn_ok n old.version old.volumes old.last all e after (t.again front)
     ∙ ap (λ (p : List Entry × Left). (e ∷ p.0, p.1)) same
 
 -- why a reader that goes on will break
@@ -97,7 +98,7 @@ cause_open r bytes goes = ap (λ (s : Option Stopped). cause_to_come s r bytes) 
 pub reads_all : (before now : Option (List ℕ)) (old new : ReaderState) (e : Entry) → old.stopped ≡ None → ReadsEntry before now old new e → ReadsAllEntries before now old new (e ∷ [])
 reads_all before now old new e goes reads bytes told =
     let (rest, there, t) = took before now old new e reads bytes told in
-    let after = λ (front : List ℕ). read_after old new e bytes rest t reads.volumes reads.last front in
+    let after = λ (front : List ℕ). read_after old new e bytes rest t reads.version reads.volumes reads.last front in
     let end : new.left.place + length rest ≡ old.left.place + length bytes = omega (arith, t.place, ap length t.parts, length-append t.text rest) in (
       rest,
       there,
@@ -107,6 +108,7 @@ reads_all before now old new e goes reads bytes told =
         place = t.place;
         fronts = λ front. after front;
         last = reads.last;
+        version = reads.version;
         volumes = reads.volumes;
         same_end =
             cause_open new rest reads.goes_on
@@ -128,7 +130,7 @@ nothing_seen place = none (most_bytes - place)
 pub ends_there : (before : Option (List ℕ)) (r : ReaderState) → r.stopped ≡ None → EndsThere before r → EndsAfter before r [] None
 ends_there before r goes ended bytes told =
     let none = ended bytes told in
-    let read : read_of r bytes ≡ ([], seen r.left.place []) = ap (read_of r) none ∙ turn_err (length (seen r.left.place []).bytes) 1 r.volumes r.last (seen r.left.place []) (Cut r.left.place) (ap (entry_at 1 r.volumes r.last) (nothing_seen r.left.place) ∙ none_there 1 r.volumes r.last r.left.place) in
+    let read : read_of r bytes ≡ ([], seen r.left.place []) = ap (read_of r) none ∙ turn_err (length (seen r.left.place []).bytes) r.version r.volumes r.last (seen r.left.place []) (Cut r.left.place) (ap (entry_at r.version r.volumes r.last) (nothing_seen r.left.place) ∙ none_there r.version r.volumes r.last r.left.place) in
     let there : nat_eq r.left.place (r.left.place + 0) ≡ true = eq-eqb r.left.place (r.left.place + 0) (omega arith) in (
       ap (λ (p : List Entry × Left). p.0) read,
       cause_open r bytes goes
@@ -144,7 +146,7 @@ some_bytes (b ∷ bytes) some = omega arith
 pub bad_there : (before : Option (List ℕ)) (r : ReaderState) (place : ℕ) → r.stopped ≡ None → place ≡ r.left.place → IsBadThere before r → EndsAfter before r [] (Some (BadTrace place))
 bad_there before r place goes at_place is bytes told =
     let (some, bad, err) = is bytes told in
-    let read : read_of r bytes ≡ ([], seen r.left.place bytes) = turn_err (length (seen r.left.place bytes).bytes) 1 r.volumes r.last (seen r.left.place bytes) bad err in
+    let read : read_of r bytes ≡ ([], seen r.left.place bytes) = turn_err (length (seen r.left.place bytes).bytes) r.version r.volumes r.last (seen r.left.place bytes) bad err in
     let before_end : nat_eq r.left.place (r.left.place + length bytes) ≡ false = ne_eqb r.left.place (r.left.place + length bytes) (λ e. omega (arith, some_bytes bytes some)) in (
       ap (λ (p : List Entry × Left). p.0) read,
       cause_open r bytes goes
@@ -162,20 +164,20 @@ pub fails_there : (before now : Option (List ℕ)) (old new : ReaderState) → F
 fails_there before now old new fails bytes told =
     let held = new.left.bytes in
     let (left, source, split) = told_still held bytes now (fails.given ∙ told) in
-    let read : read_of old held ≡ ([], seen old.left.place held) = turn_err (length (seen old.left.place held).bytes) 1 old.volumes old.last (seen old.left.place held) (Cut fails.cut.0) fails.cut.1 in
+    let read : read_of old held ≡ ([], seen old.left.place held) = turn_err (length (seen old.left.place held).bytes) old.version old.volumes old.last (seen old.left.place held) (Cut fails.cut.0) fails.cut.1 in
     (left, source, held, split, ap (λ (p : List Entry × Left). p.0) read, λ given len. fault_of given read (omega (arith, len, fails.place, fails.within)))
   where
     fault_of : (given : List ℕ) → read_of old new.left.bytes ≡ ([], seen old.left.place new.left.bytes) → length given ≤ most_bytes
-        → end_of true given 1 old.volumes (last_entry_stamp old.last (read_of old new.left.bytes).0) (read_of old new.left.bytes).1 ≡ ends.ReadFault
+        → end_of true given old.version old.volumes (last_entry_stamp old.last (read_of old new.left.bytes).0) (read_of old new.left.bytes).1 ≡ ends.ReadFault
     fault_of given read le =
-        ap (λ (x : List Entry × Left). end_of true given 1 old.volumes (last_entry_stamp old.last x.0) x.1) read
+        ap (λ (x : List Entry × Left). end_of true given old.version old.volumes (last_entry_stamp old.last x.0) x.1) read
         ∙ ap (bad_end true given old.left.place) fails.cut.1
         ∙ ap (λ b. cond b ends.ReadFault (ends.BadTrace old.left.place)) (le-leb (length given) most_bytes le)
 
 -- ---- one after another
 
 pub none_read : (told : Option (List ℕ)) (r : ReaderState) → ReadsAllEntries told told r r []
-none_read told r bytes there = (bytes, there, record { used = []; split = refl; place = omega arith; fronts = λ front. refl; last = refl; volumes = refl; same_end = refl })
+none_read told r bytes there = (bytes, there, record { used = []; split = refl; place = omega arith; fronts = λ front. refl; last = refl; version = refl; volumes = refl; same_end = refl })
 
 last_append : (last : ℕ) (xs ys : List Entry) → last_entry_stamp last (xs ++ ys) ≡ last_entry_stamp (last_entry_stamp last xs) ys
 last_append last [] ys = refl
@@ -197,6 +199,7 @@ read_then a b c r s t xs ys one two bytes told =
             ∙ ap (λ (x : List Entry × Left). (xs ++ x.0, x.1)) (q.fronts front)
             ∙ ap (λ (es : List Entry). (es, (read_of t front).1)) (sym (append_assoc xs ys (read_of t front).0));
         last = q.last ∙ ap (λ n. last_entry_stamp n ys) p.last ∙ sym (last_append r.last xs ys);
+        version = q.version ∙ p.version;
         volumes = q.volumes ∙ p.volumes;
         same_end = q.same_end ∙ p.same_end;
       },
@@ -217,9 +220,10 @@ ends_then a b r s xs ys cause one two bytes told =
 pub fault_before : (r s : ReaderState) (xs : List Entry) (bytes rest : List ℕ) (p : EntriesAreRead r s xs bytes rest) (front : List ℕ) → IsFault s front → IsFault r (p.used ++ front)
 fault_before r s xs bytes rest p front fault given len =
     let after = read_of s front in
-    ap (λ (x : List Entry × Left). end_of true given 1 r.volumes (last_entry_stamp r.last x.0) x.1) (p.fronts front)
-    ∙ ap (λ n. end_of true given 1 r.volumes n after.1) (last_append r.last xs after.0 ∙ ap (λ n. last_entry_stamp n after.0) (sym p.last))
-    ∙ ap (λ (v : List VolumeHead). end_of true given 1 v (last_entry_stamp s.last after.0) after.1) (sym p.volumes)
+    ap (λ (x : List Entry × Left). end_of true given r.version r.volumes (last_entry_stamp r.last x.0) x.1) (p.fronts front)
+    ∙ ap (λ n. end_of true given r.version r.volumes n after.1) (last_append r.last xs after.0 ∙ ap (λ n. last_entry_stamp n after.0) (sym p.last))
+    ∙ ap (λ k. end_of true given k r.volumes (last_entry_stamp s.last after.0) after.1) (sym p.version)
+    ∙ ap (λ (v : List VolumeHead). end_of true given s.version v (last_entry_stamp s.last after.0) after.1) (sym p.volumes)
     ∙ fault given (omega (arith, len, p.place, length-append p.used front))
 
 pub fails_then : (a b c : Option (List ℕ)) (r s : ReaderState) (xs ys : List Entry) → ReadsAllEntries a b r s xs → FailsAfter b c s ys → FailsAfter a c r (xs ++ ys)

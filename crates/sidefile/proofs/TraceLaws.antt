@@ -27,7 +27,7 @@ abbrev trace_by : (failed : Bool) → List ℕ → Result (Header × Left) Bad �
 trace_by failed given (Ok h) = Ok (after_header failed given h.0 (entries_from (length h.1.bytes) h.0.version h.0.volumes 0 h.1))
 trace_by failed given (Err bad) = Err (bad_start failed given bad)
 
-by_header : (failed : Bool) (given : List ℕ) → trace_of 1 failed given ≡ trace_by failed given (header_at 1 (whole_trace given))
+by_header : (failed : Bool) (given : List ℕ) → trace_of failed given ≡ trace_by failed given (header_at (whole_trace given))
 unfolding trace_of
 by_header failed given = refl
 
@@ -48,9 +48,9 @@ one_trace a b e = cc
 -- What is ahead of the reader that stands after a trace's header are the trace's entries, with the trace's end: where the source
 -- didn't fail, and where it failed after these bytes.
 pub ahead_trace : (failed : Bool) (given rest : List ℕ) (header : Header) (reader : ReaderState) (trace : Trace) →
-    header_at 1 (whole_trace given) ≡ Ok (header, seen reader.left.place rest) → length given ≡ reader.left.place + length rest →
-    header.version ≡ 1 → reader.volumes ≡ header.volumes → reader.last ≡ 0 → reader.stopped ≡ None →
-    trace_of 1 failed given ≡ Ok trace →
+    header_at (whole_trace given) ≡ Ok (header, seen reader.left.place rest) → length given ≡ reader.left.place + length rest →
+    reader.version ≡ header.version → reader.volumes ≡ header.volumes → reader.last ≡ 0 → reader.stopped ≡ None →
+    trace_of failed given ≡ Ok trace →
     (ahead None reader rest ≡ trace.entries) × (failed ≡ false → cause_ahead reader rest ≡ cause_of trace.end) × (failed ≡ true → IsFault reader rest → trace.end ≡ ReadFault)
 ahead_trace failed given rest header reader trace read len version volumes last goes is =
     let left = seen reader.left.place rest in
@@ -60,7 +60,8 @@ ahead_trace failed given rest header reader trace read len version volumes last 
     let made = after_header failed given header found in
     let trace_is : made ≡ trace = one_trace made trace whole in
     let same : read_of reader rest ≡ found =
-    ap (λ (v : List VolumeHead). entries_from n 1 v reader.last left) volumes ∙ ap (λ s. entries_from n 1 header.volumes s left) last ∙ ap (λ k. entries_from n k header.volumes 0 left) (sym version) in
+    ap (λ k. entries_from n k reader.volumes reader.last left) version ∙ ap (λ (v : List VolumeHead). entries_from n header.version v reader.last left) volumes
+    ∙ ap (λ s. entries_from n header.version header.volumes s left) last in
     let end = end_of failed given header.version header.volumes (last_entry_stamp 0 found.0) found.1 in (
       ahead_none reader rest goes ∙ ap (λ (p : List Entry × Left). p.0) same ∙ ap (λ (t : Trace). t.entries) trace_is,
       λ clean. cause_open reader rest goes
@@ -70,10 +71,10 @@ ahead_trace failed given rest header reader trace read len version volumes last 
           ∙ ap (λ (t : Trace). cause_of t.end) trace_is,
       λ fails fault. sym (ap (λ (t : Trace). t.end) trace_is)
           ∙ ap (λ b. end_of b given header.version header.volumes (last_entry_stamp 0 found.0) found.1) fails
-          ∙ ap (λ k. end_of true given k header.volumes (last_entry_stamp 0 found.0) found.1) version
-          ∙ ap (λ (v : List VolumeHead). end_of true given 1 v (last_entry_stamp 0 found.0) found.1) (sym volumes)
-          ∙ ap (λ s. end_of true given 1 reader.volumes (last_entry_stamp s found.0) found.1) (sym last)
-          ∙ ap (λ (p : List Entry × Left). end_of true given 1 reader.volumes (last_entry_stamp reader.last p.0) p.1) (sym same)
+          ∙ ap (λ k. end_of true given k header.volumes (last_entry_stamp 0 found.0) found.1) (sym version)
+          ∙ ap (λ (v : List VolumeHead). end_of true given reader.version v (last_entry_stamp 0 found.0) found.1) (sym volumes)
+          ∙ ap (λ s. end_of true given reader.version reader.volumes (last_entry_stamp s found.0) found.1) (sym last)
+          ∙ ap (λ (p : List Entry × Left). end_of true given reader.version reader.volumes (last_entry_stamp reader.last p.0) p.1) (sym same)
           ∙ fault given len,
     )
 
@@ -92,23 +93,23 @@ fault_within given place (Err (Cut at)) h = within (nat_le (length given) most_b
 -- Where the header of all bytes was read, and the source failed after a front of those that follow it: the trace of the bytes that
 -- it gave has this header, the entries that are read of the front, and ends by the fault.
 pub given_trace : (bytes rest front left : List ℕ) (header : Header) (reader : ReaderState) →
-    header_at 1 (whole_trace bytes) ≡ Ok (header, seen reader.left.place rest) → length bytes ≡ reader.left.place + length rest →
-    header.version ≡ 1 → reader.volumes ≡ header.volumes → reader.last ≡ 0 → reader.stopped ≡ None →
+    header_at (whole_trace bytes) ≡ Ok (header, seen reader.left.place rest) → length bytes ≡ reader.left.place + length rest →
+    reader.version ≡ header.version → reader.volumes ≡ header.volumes → reader.last ≡ 0 → reader.stopped ≡ None →
     rest ≡ front ++ left → IsFault reader front →
-    trace_of 1 true (take (length bytes - length left) bytes) ≡ Ok (record { header = header; entries = ahead None reader front; end = ReadFault })
+    trace_of true (take (length bytes - length left) bytes) ≡ Ok (record { header = header; entries = ahead None reader front; end = ReadFault })
 given_trace bytes rest front left header reader read len version volumes last goes split fault =
     let place = reader.left.place in
     let n = place + length front in
     let less : length bytes - length left ≡ n = omega (arith, len, ap length split, length-append front left) in
     let long : length (take n bytes) ≡ n = omega (arith, length-take n bytes, len, ap length split, length-append front left) in
     let found = read_of reader front in
-    let within = fault_within (take n bytes) found.1.place (entry_at 1 reader.volumes (last_entry_stamp reader.last found.0) found.1) (fault (take n bytes) long) in
+    let within = fault_within (take n bytes) found.1.place (entry_at reader.version reader.volumes (last_entry_stamp reader.last found.0) found.1) (fault (take n bytes) long) in
     let (given, is, same) = header_of_front bytes rest front left header place read split (omega (arith, long, within)) in
     let trace = after_header true given header (entries_from (length (seen place front).bytes) header.version header.volumes 0 (seen place front)) in
-    let made : trace_of 1 true given ≡ Ok trace = by_header true given ∙ ap (trace_by true given) same in
+    let made : trace_of true given ≡ Ok trace = by_header true given ∙ ap (trace_by true given) same in
     let known = ahead_trace true given front header reader trace same (ap length (sym is) ∙ long) version volumes last goes made in
-    ap (λ k. trace_of 1 true (take k bytes)) less
-    ∙ ap (trace_of 1 true) is
+    ap (λ k. trace_of true (take k bytes)) less
+    ∙ ap (trace_of true) is
     ∙ made
     ∙ ap (λ (es : List Entry). Ok (record { header = header; entries = es; end = trace.end })) (sym known.0)
     ∙ ap (λ (x : TraceEnd). Ok (record { header = header; entries = ahead None reader front; end = x })) (known.2 refl fault)

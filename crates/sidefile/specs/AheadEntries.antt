@@ -19,7 +19,7 @@ IsAhead reader told bytes = reader.stopped ≡ None → unread reader.left.bytes
 
 -- the entries that are read of bytes at a reader's place, and what is left where none is read
 abbrev pub read_of : ReaderState → List ℕ → List Entry × Left
-read_of reader bytes = entries_from (length (seen reader.left.place bytes).bytes) 1 reader.volumes reader.last (seen reader.left.place bytes)
+read_of reader bytes = entries_from (length (seen reader.left.place bytes).bytes) reader.version reader.volumes reader.last (seen reader.left.place bytes)
 
 abbrev pub entries_ahead : Option Stopped → ReaderState → List ℕ → List Entry
 entries_ahead None reader bytes = (read_of reader bytes).0
@@ -32,7 +32,7 @@ end_at bytes_end left = if left.place == bytes_end then Ended else BadTrace left
 -- The source failed after these bytes, and after the entries that are read of them stands one that is cut.
 abbrev pub IsFault : ReaderState → List ℕ → Type 0
 IsFault reader bytes =
-    (given : List ℕ) → length given ≡ reader.left.place + length bytes → end_of true given 1 reader.volumes (last_entry_stamp reader.last (read_of reader bytes).0) (read_of reader bytes).1 ≡ ReadFault
+    (given : List ℕ) → length given ≡ reader.left.place + length bytes → end_of true given reader.version reader.volumes (last_entry_stamp reader.last (read_of reader bytes).0) (read_of reader bytes).1 ≡ ReadFault
 
 abbrev pub cause_of_stop : Stopped → Option Cause
 cause_of_stop (AtEnd end) = cause_of end

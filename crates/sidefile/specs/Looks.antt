@@ -46,6 +46,7 @@ pub record EntriesAreRead (old new : ReaderState) (taken : List Entry) (bytes re
   pub place : new.left.place ≡ old.left.place + length used
   pub fronts : (front : List ℕ) → read_of old (used ++ front) ≡ (taken ++ (read_of new front).0, (read_of new front).1)
   pub last : new.last ≡ last_entry_stamp old.last taken
+  pub version : new.version ≡ old.version
   pub volumes : new.volumes ≡ old.volumes
   pub same_end : cause_ahead new rest ≡ cause_ahead old bytes
 

@@ -10,7 +10,7 @@ use Rattle.xrc_journal.specs.Contents.{content_by, content_through}
 same_draw : (device track : ℕ) (i : Item) (old new : Option (List Rec)) → draws device track i ≡ true → content_by device track new i ≡ content_by device track old i
 same_draw device track (Image d x recs) old new e = ap (λ (b : Bool). cond b (Some recs) new) e ∙ sym (ap (λ (b : Bool). cond b (Some recs) old) e)
 same_draw device track (Delta d x kind) old new e = absurd cc
-same_draw device track (Pair row) old new e = absurd cc
+same_draw device track (Pair version row) old new e = absurd cc
 same_draw device track (Gone d) old new e = absurd cc
 
 -- Where the items have an image of a track, its content doesn't depend on what stood there before.

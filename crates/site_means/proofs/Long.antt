@@ -4,7 +4,7 @@ use Rattle.std.specs.Prelude.{slice_range}
 use Rattle.std.specs.List.{flat_map}
 use Rattle.std.specs.Int.{Width, w8, w16, w32, byte_len, from_be_bytes}
 use Rattle.std.proofs.lemmas.Bool.{ltb-false, and_parts}
-use Rattle.tod_stamp.specs.Fields.{◌>>=◌, Left, Bad, bytes_at, number_at, after, any}
+use Rattle.tod_stamp.specs.Fields.{◌>>=◌, Left, Bad, bytes_at, number_at, after, any, is_version}
 use Rattle.tod_stamp.specs.Fields.Bad.{Cut, Broken}
 use Rattle.tod_stamp.proofs.FieldLaws.{bind_ok, guard_ok, allow_ok}
 use Rattle.ckd_track.specs.declared.fault.ImageError.{ImageError}
@@ -12,12 +12,13 @@ use Rattle.ckd_track.specs.declared.fault.ImageError.TheVariants.{Short, TooBig,
 use Rattle.ckd_track.specs.declared.rec.Rec.{Rec}
 use Rattle.ckd_track.specs.Tracks.{record_size, capacity}
 use Rattle.ckd_track.specs.Images.{image, image_at, record_after_head, record_at, record_spelling, records_at}
-use Rattle.pair_table.specs.Rows.{row_at}
+use Rattle.pair_table.specs.Rows.{is_version_row, row_by, row_length}
+use Rattle.pair_table.proofs.Versions.{text_length}
 use Rattle.xrc_journal.specs.Items.{Item, Form, Earlier, anywhere, may_draw, earlier_after, is_item, are_items_after, item_spelling, body_spelling}
 use Rattle.xrc_journal.specs.Items.Item.{Image, Delta, Pair, Gone}
 use Rattle.xrc_journal.specs.Deltas.{change_at}
 use Rattle.xrc_journal.specs.Reading.{Items, track_at, body_image_field, row_or, image_item_at, delta_item_at, pair_item_at, gone_item_at, is_tag, item_at, no_items, first_and_rest, items_from}
-use Rattle.xrc_journal.proofs.Fields.{given_is, field_ok, spelled_length}
+use Rattle.xrc_journal.proofs.Fields.{given_is, field_ok}
 
 -- So many bytes were read from the front of what was left.
 record ReadsOn (left next : Left) (size : ℕ) : Type 0 where
@@ -166,18 +167,20 @@ module _ (form : Form) (earlier : Earlier) (left : Left) (item : Item) (next : L
       clash : false ≡ true → ⊥
       clash e = cc
 
-  pair_item_long : (e : Earlier) → is_item anywhere e item ≡ true → pair_item_at left ≡ Ok (item, next) → Tagged left next item
+  pair_item_long : (version : ℕ) (e : Earlier) → is_item anywhere e item ≡ true → pair_item_at version left ≡ Ok (item, next) → Tagged left next item
   unfolding pair_item_at
-  pair_item_long e keep read =
-      let one = bind_ok (bytes_at 30 any left) (λ t. row_or left (row_at t.0) >>= (λ r. Ok (Pair r, t.1))) (item, next) read in
-      let two = bind_ok (row_or left (row_at one.0.0)) (λ r. Ok (Pair r, one.0.1)) (item, next) one.2 in
-      let is = given_is (Pair two.0, one.0.1) (item, next) two.2 in
-      let row = bytes_long 30 any left one.0.0 one.0.1 one.1 in
-      let thirty = spelled_length two.0 (ap (λ (p : Item × Left). is_item anywhere e p.0) is ∙ keep) in
+  pair_item_long version e keep read =
+      let long = row_length version in
+      let one = bind_ok (bytes_at long any left) (λ t. row_or left (row_by version t.0) >>= (λ r. Ok (Pair version r, t.1))) (item, next) read in
+      let two = bind_ok (row_or left (row_by version one.0.0)) (λ r. Ok (Pair version r, one.0.1)) (item, next) one.2 in
+      let is = given_is (Pair version two.0, one.0.1) (item, next) two.2 in
+      let row = bytes_long long any left one.0.0 one.0.1 one.1 in
+      let kept = and_parts (is_version version) (is_version_row version two.0) (ap (λ (p : Item × Left). is_item anywhere e p.0) is ∙ keep) in
+      let spelled = text_length version two.0 kept.1 in
       let size = ap (λ (p : Item × Left). length (item_spelling p.0)) is in
       record {
-        long = omega (arith, row.long, thirty, size, ap (λ (p : Item × Left). length p.1.bytes) is);
-        place = omega (arith, row.place, thirty, size, ap (λ (p : Item × Left). p.1.place) is);
+        long = omega (arith, row.long, spelled, size, ap (λ (p : Item × Left). length p.1.bytes) is);
+        place = omega (arith, row.place, spelled, size, ap (λ (p : Item × Left). p.1.place) is);
       }
 
   gone_item_long : gone_item_at left ≡ Ok (item, next) → Tagged left next item
@@ -196,16 +199,17 @@ item_long : (form : Form) (earlier : Earlier) (left : Left) (item : Item) (next 
 unfolding item_at
 item_long form earlier left item next e keep read =
     let one = bind_ok (number_at w8 (is_tag form.deltas earlier.late) left)
-    (λ t. cond (nat_eq t.0 1) (image_item_at form earlier t.1) (cond (nat_eq t.0 2) (delta_item_at form t.1) (cond (nat_eq t.0 3) (pair_item_at t.1) (gone_item_at t.1)))) (item, next) read in
+    (λ t. cond (nat_eq t.0 1) (image_item_at form earlier t.1) (cond (nat_eq t.0 2) (delta_item_at form t.1) (cond (nat_eq t.0 3) (pair_item_at 1 t.1) (cond (nat_eq t.0 5) (pair_item_at 2 t.1) (gone_item_at t.1))))) (item, next) read in
     let tag = number_long w8 (is_tag form.deltas earlier.late) left one.0.0 one.0.1 one.1 in
-    let after_tag = choose one.0.1 (nat_eq one.0.0 1) (nat_eq one.0.0 2) (nat_eq one.0.0 3) one.2 in
+    let after_tag = choose one.0.1 (nat_eq one.0.0 1) (nat_eq one.0.0 2) (nat_eq one.0.0 3) (nat_eq one.0.0 5) one.2 in
     record { long = omega (arith, tag.long, after_tag.long); place = omega (arith, tag.place, after_tag.place) }
   where
-    choose : (after : Left) (one two three : Bool) → cond one (image_item_at form earlier after) (cond two (delta_item_at form after) (cond three (pair_item_at after) (gone_item_at after))) ≡ Ok (item, next) → Tagged after next item
-    choose after true two three read = image_item_long form earlier after item next read
-    choose after false true three read = absurd (no_delta form earlier after item next e keep read)
-    choose after false false true read = pair_item_long form earlier after item next e keep read
-    choose after false false false read = gone_item_long form earlier after item next read
+    choose : (after : Left) (one two three five : Bool) → cond one (image_item_at form earlier after) (cond two (delta_item_at form after) (cond three (pair_item_at 1 after) (cond five (pair_item_at 2 after) (gone_item_at after)))) ≡ Ok (item, next) → Tagged after next item
+    choose after true two three five read = image_item_long form earlier after item next read
+    choose after false true three five read = absurd (no_delta form earlier after item next e keep read)
+    choose after false false true five read = pair_item_long form earlier after item next 1 e keep read
+    choose after false false false true read = pair_item_long form earlier after item next 2 e keep read
+    choose after false false false false read = gone_item_long form earlier after item next read
 
 -- The good items are no longer than the bytes, and end where the first bad one begins.
 pub record Ending (left : Left) (items : Items) : Type 0 where

@@ -22,7 +22,7 @@ use Rattle.site_means.proofs.RowRules.{below_without}
 pub below_by : (volumes : ℕ) (rows : List PairRow) (i : Item) → are_below volumes rows ≡ true → fits_rows volumes rows i ≡ true → are_below volumes (rows_by i rows) ≡ true
 below_by volumes rows (Image device track recs) below fits = below
 below_by volumes rows (Delta device track kind) below fits = below
-below_by volumes rows (Pair row) below fits = (rows_parts volumes (with_row row rows) fits).below
+below_by volumes rows (Pair version row) below fits = (rows_parts volumes (with_row row rows) fits).below
 below_by volumes rows (Gone device) below fits = below_without volumes device rows below
 
 -- ---- how far the items were taken

@@ -21,7 +21,7 @@ use Rattle.site_means.specs.Images.{Images, Shape}
 abbrev pub rows_by : Item → List PairRow → List PairRow
 rows_by (Image device track recs) rows = rows
 rows_by (Delta device track kind) rows = rows
-rows_by (Pair row) rows = with_row row rows
+rows_by (Pair version row) rows = with_row row rows
 rows_by (Gone device) rows = without_row device rows
 
 -- the rows after items in turn
@@ -33,7 +33,7 @@ rows_through (i ∷ items) rows = rows_through items (rows_by i rows)
 abbrev pub fits_rows : (volumes : ℕ) → List PairRow → Item → Bool
 fits_rows volumes rows (Image device track recs) = true
 fits_rows volumes rows (Delta device track kind) = true
-fits_rows volumes rows (Pair row) = are_rows volumes (with_row row rows)
+fits_rows volumes rows (Pair version row) = are_rows volumes (with_row row rows)
 fits_rows volumes rows (Gone device) = list_any (is_of device) rows
 
 -- the place of the first item that breaks one of these rules, where the first item stands at `place`

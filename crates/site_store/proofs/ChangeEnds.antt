@@ -149,7 +149,7 @@ module _ (tells : Type 0) (cut : Stamp) (change : Change) (site : SiteState) (ol
   are_rows_alone : AreRowItems now.items
   are_rows_alone = subst AreRowItems (sym parts) (both_rows changed pairs (changes_rows change site.table.rows) (next_rows (with_hits forms.hits) site.table.rows))
 
-  short : length (body_spelling now.items) ≤ 128 * 31
+  short : length (body_spelling now.items) ≤ 128 * 39
   short = omega (arith, forms.short, may.few)
 
   are_ready : (at : SiteState) (plant : PlantState) (placement : Placement) → FitsPlant at plant → at.waiting ≡ [] → at.time ≤ cut.0 → list_all (row_has_volume plant) site.table.rows ≡ true → HasRoomBy plant placement at.mark.at at.at now.items → at.at.number ≤ 2 ^ 64 - 2 → IsReady cut.0 placement at rows plant now.items

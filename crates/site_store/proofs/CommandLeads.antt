@@ -9,17 +9,17 @@ use Rattle.pair_table.specs.declared.command.Command.{Command}
 use Rattle.pair_table.specs.declared.command.Command.TheVariants.{Start, AddPair, DelPair, Suspend, Query, End}
 use Rattle.pair_table.specs.declared.names.NamedDevice.{NamedDevice}
 use Rattle.pair_table.specs.declared.row.PairState.{PairState}
-use Rattle.pair_table.specs.declared.row.PairState.TheVariants.{Pending, Suspended}
+use Rattle.pair_table.specs.declared.row.PairState.TheVariants.{Suspended}
 use Rattle.pair_table.specs.declared.row.PairRow.{PairRow}
 use Rattle.pair_table.specs.declared.row.SuspendCause.TheVariants.{Command as ByCommand}
 use Rattle.pair_table.specs.Commands.{add_to, added, change_of, devices_of, is_chosen, is_to_suspend, new_row, new_row_for, rows_after, wants_memory}
 use Rattle.pair_table.specs.Naming.{Naming, labelled_device, primary_of}
 use Rattle.pair_table.specs.Refusals.{is_of_primary, is_start, refuses_command, refuses_primary, row_of_primary}
-use Rattle.pair_table.specs.Tables.{AreRowsSound, are_below, in_state, is_of, most_rows, none_clash, row_of, with_row, with_state, without_row}
+use Rattle.pair_table.specs.Tables.{AreRowsSound, are_below, in_state, is_of, most_rows, none_clash, resumed_in, row_changed, row_of, with_resumed, with_row, without_row}
 use Rattle.pair_table.proofs.AddLaws.{new_pair, with_row-last}
 use Rattle.pair_table.proofs.PutLaws.{number_sym}
-use Rattle.pair_table.proofs.StateLaws.{state_of_primary}
-use Rattle.pair_table.proofs.TableLaws.{either_false, first_apart, not_false, with_state-absent, without-absent}
+use Rattle.pair_table.proofs.StateLaws.{changed_of_primary}
+use Rattle.pair_table.proofs.TableLaws.{changed-absent, either_false, first_apart, not_false, without-absent}
 use Rattle.state_set.specs.Slots.{are_rows}
 use Rattle.record_rows.specs.ChangedRows.{rows_in_states}
 use Rattle.record_rows.specs.GroupRows.{row_in}
@@ -44,7 +44,7 @@ few_chosen test (r ∷ rows) = by_test (test r) (few_chosen test rows)
 
 pub few_named : (names : Naming) (command : Command) (rows : List PairRow) → (wants_memory command ≡ true → length rows ≤ 64) → named_devices (change_of names command rows) ≤ 64
 few_named names (Start level) rows few = omega arith
-few_named names (AddPair p s) rows few = by_names (row_of_primary p rows) (labelled_device s names)
+few_named names (AddPair p s g) rows few = by_names (row_of_primary p rows) (labelled_device s names)
   where
     by_names : (o : Option PairRow) (l : Option NamedDevice) → named_devices (added o l) ≤ 64
     by_names (Some r) l = omega arith
@@ -170,7 +170,7 @@ pairs_where test state (r ∷ rows) apart =
         → pairs_of (devices_of (cond b (r ∷ filter test rows) (filter test rows))) (cond b (in_state state r) r ∷ map (λ s. cond (test s) (in_state state s) s) rows) ≡ pair_in r (cond b (Some state) None) ++ pairs_with_next (next_where test state) rows
     by_test true others more =
         (λ i. pair_item (cond (eq-eqb r.device r.device refl i) (Some (in_state state r)) (row_of r.device (map (λ s. cond (test s) (in_state state s) s) rows))) ++ pairs_after (devices_of (filter test rows)) (in_state state r) (map (λ s. cond (test s) (in_state state s) s) rows) others i)
-        ∙ ap (λ (l : List Item). Pair (in_state state r) ∷ l) more
+        ∙ ap (λ (l : List Item). Pair 2 (in_state state r) ∷ l) more
     by_test false others more = pairs_after (devices_of (filter test rows)) r (map (λ s. cond (test s) (in_state state s) s) rows) others ∙ more
 
 -- ---- one row
@@ -207,30 +207,38 @@ row_there test (s ∷ rows) r apart found =
     by_test true found more = own (cc found)
     by_test false found more = after_other s rows r apart (more found)
 
--- A row put in another state is in the place of its own.
-put_state : (state : PairState) (rows : List PairRow) (r : PairRow) → none_clash rows ≡ true → row_of r.device rows ≡ Some r → with_row (in_state state r) rows ≡ with_state r.device state rows
-put_state state [] r apart found = absurd (cc found)
-put_state state (s ∷ rows) r apart found =
+-- A change of a row leaves its device.
+abbrev LeavesDevice : (PairRow → PairRow) → Type 0
+LeavesDevice change = (r : PairRow) → (change r).device ≡ r.device
+
+-- A row put as it is changed is in the place of its own.
+put_changed : (change : PairRow → PairRow) (leaves : LeavesDevice change) (rows : List PairRow) (r : PairRow) → none_clash rows ≡ true → row_of r.device rows ≡ Some r → with_row (change r) rows ≡ map (row_changed r.device change) rows
+put_changed change leaves [] r apart found = absurd (cc found)
+put_changed change leaves (s ∷ rows) r apart found =
     let first = first_apart s rows apart in
-    by_device (r.device == s.device) refl found (λ e. put_state state rows r first.others e)
+    ap (λ (d : ℕ). cond (d == s.device) (change r ∷ rows) (s ∷ with_row (change r) rows)) (leaves r)
+    ∙ by_device (r.device == s.device) refl found (λ e. put_changed change leaves rows r first.others e)
   where
-    by_device : (b : Bool) → (r.device == s.device) ≡ b → cond b (Some s) (row_of r.device rows) ≡ Some r → (row_of r.device rows ≡ Some r → with_row (in_state state r) rows ≡ with_state r.device state rows)
-        → cond b (in_state state r ∷ rows) (s ∷ with_row (in_state state r) rows) ≡ cond b (in_state state s) s ∷ with_state r.device state rows
+    by_device : (b : Bool) → (r.device == s.device) ≡ b → cond b (Some s) (row_of r.device rows) ≡ Some r → (row_of r.device rows ≡ Some r → with_row (change r) rows ≡ map (row_changed r.device change) rows)
+        → cond b (change r ∷ rows) (s ∷ with_row (change r) rows) ≡ cond b (change s) s ∷ map (row_changed r.device change) rows
     by_device true is found more =
         let first = first_apart s rows apart in
         let same : s ≡ r = cc found in
         let absent : list_any (is_of r.device) rows ≡ false = ap (λ (d : ℕ). list_any (is_of d) rows) (eqb-true r.device s.device is) ∙ first.devices in
-        (λ i. in_state state (sym same i) ∷ sym (with_state-absent r.device state rows absent) i)
+        (λ i. change (sym same i) ∷ sym (changed-absent r.device change rows absent) i)
     by_device false is found more = ap (λ (l : List PairRow). s ∷ l) (more found)
 
-row_in_state : (state : PairState) (rows : List PairRow) (r : PairRow) → row_of r.device rows ≡ Some r → row_of r.device (with_state r.device state rows) ≡ Some (in_state state r)
-row_in_state state [] r found = absurd (cc found)
-row_in_state state (s ∷ rows) r found = by_device (r.device == s.device) refl found (row_in_state state rows r)
+row_as_changed : (change : PairRow → PairRow) (leaves : LeavesDevice change) (rows : List PairRow) (r : PairRow) → row_of r.device rows ≡ Some r → row_of r.device (map (row_changed r.device change) rows) ≡ Some (change r)
+row_as_changed change leaves [] r found = absurd (cc found)
+row_as_changed change leaves (s ∷ rows) r found = by_device (r.device == s.device) refl found (row_as_changed change leaves rows r)
   where
-    by_device : (b : Bool) → (r.device == s.device) ≡ b → cond b (Some s) (row_of r.device rows) ≡ Some r → (row_of r.device rows ≡ Some r → row_of r.device (with_state r.device state rows) ≡ Some (in_state state r))
-        → cond (is_of r.device (cond b (in_state state s) s)) (Some (cond b (in_state state s) s)) (row_of r.device (with_state r.device state rows)) ≡ Some (in_state state r)
-    by_device true is found more = let same : s ≡ r = cc found in (λ i. cond (is i) (Some (in_state state s)) (row_of r.device (with_state r.device state rows))) ∙ ap (λ (k : PairRow). Some (in_state state k)) same
-    by_device false is found more = (λ i. cond (is i) (Some s) (row_of r.device (with_state r.device state rows))) ∙ more found
+    by_device : (b : Bool) → (r.device == s.device) ≡ b → cond b (Some s) (row_of r.device rows) ≡ Some r → (row_of r.device rows ≡ Some r → row_of r.device (map (row_changed r.device change) rows) ≡ Some (change r))
+        → cond (is_of r.device (cond b (change s) s)) (Some (cond b (change s) s)) (row_of r.device (map (row_changed r.device change) rows)) ≡ Some (change r)
+    by_device true is found more =
+        let same : s ≡ r = cc found in
+        let own : is_of r.device (change s) ≡ true = ap (λ (d : ℕ). r.device == d) (leaves s) ∙ is in
+        (λ i. cond (own i) (Some (change s)) (row_of r.device (map (row_changed r.device change) rows))) ∙ ap (λ (k : PairRow). Some (change k)) same
+    by_device false is found more = (λ i. cond (is i) (Some s) (row_of r.device (map (row_changed r.device change) rows))) ∙ more found
 
 -- Rows that keep the rules over rows, on devices of a plant.
 are_by : (volumes : ℕ) (rows : List PairRow) → length rows ≤ most_rows → none_clash rows ≡ true → are_below volumes rows ≡ true → are_rows volumes rows ≡ true
@@ -238,7 +246,7 @@ are_by volumes rows few apart below =
     and_from (nat_le (length rows) most_rows && none_clash rows) (are_below volumes rows) (and_from (nat_le (length rows) most_rows) (none_clash rows) (le-leb (length rows) most_rows few) apart) below
 
 -- One pair leads to the rows with it, where these keep the rules.
-one_leads : (volumes : ℕ) (row : PairRow) (before after : List PairRow) → with_row row before ≡ after → are_rows volumes after ≡ true → Lead volumes (Pair row ∷ []) before after
+one_leads : (volumes : ℕ) (row : PairRow) (before after : List PairRow) → with_row row before ≡ after → are_rows volumes after ≡ true → Lead volumes (Pair 2 row ∷ []) before after
 one_leads volumes row before after is are = record { leads = is; fit = (λ i. cond ((ap (λ (l : List PairRow). are_rows volumes l) is ∙ are) i) None (Some 0)) }
 
 -- ---- a put row
@@ -259,34 +267,34 @@ put_leads volumes row rows few apart below =
 -- ---- a command
 
 module _ (volumes : ℕ) (names : Naming) (time : ℕ) (rows : List PairRow) (below : are_below volumes rows ≡ true) where
-  add_leads : (p s : List ℕ) → AreRowsSound rows → refuses_primary p s names rows (primary_of p names) ≡ None → AreRowsSound (rows_after names time (AddPair p s) rows) → are_below volumes (rows_after names time (AddPair p s) rows) ≡ true
-      → Lead volumes (changed_items (change_of names (AddPair p s) rows) (rows_after names time (AddPair p s) rows)) rows (rows_after names time (AddPair p s) rows)
-  add_leads p s keeps own keeps_then below_then = by_row (row_of_primary p rows) refl keeps_then below_then
+  add_leads : (p s : List ℕ) (g : Option (List ℕ)) → AreRowsSound rows → refuses_primary p s names rows (primary_of p names) ≡ None → AreRowsSound (rows_after names time (AddPair p s g) rows) → are_below volumes (rows_after names time (AddPair p s g) rows) ≡ true
+      → Lead volumes (changed_items (change_of names (AddPair p s g) rows) (rows_after names time (AddPair p s g) rows)) rows (rows_after names time (AddPair p s g) rows)
+  add_leads p s g keeps own keeps_then below_then = by_row (row_of_primary p rows) refl keeps_then below_then
     where
-      new : row_of_primary p rows ≡ None → AreRowsSound (add_to rows None (new_row_for s (primary_of p names) (labelled_device s names))) → are_below volumes (add_to rows None (new_row_for s (primary_of p names) (labelled_device s names))) ≡ true
-          → Lead volumes (changed_items (added None (labelled_device s names)) (add_to rows None (new_row_for s (primary_of p names) (labelled_device s names)))) rows (add_to rows None (new_row_for s (primary_of p names) (labelled_device s names)))
+      new : row_of_primary p rows ≡ None → AreRowsSound (add_to g rows None (new_row_for s g (primary_of p names) (labelled_device s names))) → are_below volumes (add_to g rows None (new_row_for s g (primary_of p names) (labelled_device s names))) ≡ true
+          → Lead volumes (changed_items (added None (labelled_device s names)) (add_to g rows None (new_row_for s g (primary_of p names) (labelled_device s names)))) rows (add_to g rows None (new_row_for s g (primary_of p names) (labelled_device s names)))
       new found keeps_then below_then =
           let n = new_pair names rows p s own found in
-          let row = new_row s n.volume n.label in
+          let row = new_row s g n.volume n.label in
           let last : rows ++ row ∷ [] ≡ with_row row rows = sym (with_row-last row rows n.unused) in
-          let then : AreRowsSound (with_row row rows) = subst AreRowsSound last (subst (λ (x : Type 0). x) (λ i. AreRowsSound (add_to rows None (new_row_for s (n.named i) (n.labelled i)))) keeps_then) in
+          let then : AreRowsSound (with_row row rows) = subst AreRowsSound last (subst (λ (x : Type 0). x) (λ i. AreRowsSound (add_to g rows None (new_row_for s g (n.named i) (n.labelled i)))) keeps_then) in
           subst (λ (x : Type 0). x)
-          (λ i. Lead volumes (changed_items (added None (sym n.labelled i)) (add_to rows None (new_row_for s (sym n.named i) (sym n.labelled i)))) rows (add_to rows None (new_row_for s (sym n.named i) (sym n.labelled i))))
+          (λ i. Lead volumes (changed_items (added None (sym n.labelled i)) (add_to g rows None (new_row_for s g (sym n.named i) (sym n.labelled i)))) rows (add_to g rows None (new_row_for s g (sym n.named i) (sym n.labelled i))))
           (subst (λ (l : List PairRow). Lead volumes (changed_items (Added n.label.device) l) rows l) (sym last)
           (put_leads volumes row rows then.few then.apart
-          (subst (λ (l : List PairRow). are_below volumes l ≡ true) last (subst (λ (x : Type 0). x) (λ i. are_below volumes (add_to rows None (new_row_for s (n.named i) (n.labelled i))) ≡ true) below_then))))
+          (subst (λ (l : List PairRow). are_below volumes l ≡ true) last (subst (λ (x : Type 0). x) (λ i. are_below volumes (add_to g rows None (new_row_for s g (n.named i) (n.labelled i))) ≡ true) below_then))))
 
-      old : (r : PairRow) → row_of_primary p rows ≡ Some r → (let then = map (λ o. cond (is_of_primary r.primary o) (in_state Pending o) o) rows in
+      old : (r : PairRow) → row_of_primary p rows ≡ Some r → (let then = map (λ o. cond (is_of_primary r.primary o) (resumed_in g o) o) rows in
           AreRowsSound then → are_below volumes then ≡ true → Lead volumes (changed_items (Resumed r.device) then) rows then)
       old r found keeps_then below_then =
           let there = row_there (is_of_primary p) rows r keeps.apart found in
-          let is : with_state r.device Pending rows ≡ map (λ o. cond (is_of_primary r.primary o) (in_state Pending o) o) rows = state_of_primary p Pending rows r keeps.apart found in
-          let shown : row_of r.device (map (λ o. cond (is_of_primary r.primary o) (in_state Pending o) o) rows) ≡ Some (in_state Pending r) = ap (λ (l : List PairRow). row_of r.device l) (sym is) ∙ row_in_state Pending rows r there in
-          subst (λ (o : Option PairRow). Lead volumes (pair_item o ++ []) rows (map (λ k. cond (is_of_primary r.primary k) (in_state Pending k) k) rows)) (sym shown)
-          (one_leads volumes (in_state Pending r) rows _ (put_state Pending rows r keeps.apart there ∙ is) (are_by volumes _ keeps_then.few keeps_then.apart below_then))
+          let is : with_resumed r.device g rows ≡ map (λ o. cond (is_of_primary r.primary o) (resumed_in g o) o) rows = changed_of_primary p (resumed_in g) rows r keeps.apart found in
+          let shown : row_of r.device (map (λ o. cond (is_of_primary r.primary o) (resumed_in g o) o) rows) ≡ Some (resumed_in g r) = ap (λ (l : List PairRow). row_of r.device l) (sym is) ∙ row_as_changed (resumed_in g) (λ k. refl) rows r there in
+          subst (λ (o : Option PairRow). Lead volumes (pair_item o ++ []) rows (map (λ k. cond (is_of_primary r.primary k) (resumed_in g k) k) rows)) (sym shown)
+          (one_leads volumes (resumed_in g r) rows _ (put_changed (resumed_in g) (λ k. refl) rows r keeps.apart there ∙ is) (are_by volumes _ keeps_then.few keeps_then.apart below_then))
 
-      by_row : (o : Option PairRow) → row_of_primary p rows ≡ o → AreRowsSound (add_to rows o (new_row_for s (primary_of p names) (labelled_device s names))) → are_below volumes (add_to rows o (new_row_for s (primary_of p names) (labelled_device s names))) ≡ true
-          → Lead volumes (changed_items (added o (labelled_device s names)) (add_to rows o (new_row_for s (primary_of p names) (labelled_device s names)))) rows (add_to rows o (new_row_for s (primary_of p names) (labelled_device s names)))
+      by_row : (o : Option PairRow) → row_of_primary p rows ≡ o → AreRowsSound (add_to g rows o (new_row_for s g (primary_of p names) (labelled_device s names))) → are_below volumes (add_to g rows o (new_row_for s g (primary_of p names) (labelled_device s names))) ≡ true
+          → Lead volumes (changed_items (added o (labelled_device s names)) (add_to g rows o (new_row_for s g (primary_of p names) (labelled_device s names)))) rows (add_to g rows o (new_row_for s g (primary_of p names) (labelled_device s names)))
       by_row (Some r) found keeps_then below_then = old r found keeps_then below_then
       by_row None found keeps_then below_then = new found keeps_then below_then
 
@@ -301,7 +309,7 @@ module _ (volumes : ℕ) (names : Naming) (time : ℕ) (rows : List PairRow) (be
   pub command_leads : (command : Command) → (wants_memory command ≡ true → AreRowsSound rows) → is_start command ≡ false → refuses_command names rows command ≡ None → AreRowsSound (rows_after names time command rows) → are_below volumes (rows_after names time command rows) ≡ true
       → Lead volumes (changed_items (change_of names command rows) (rows_after names time command rows)) rows (rows_after names time command rows)
   command_leads (Start level) keeps starts own keeps_then below_then = absurd (cc starts)
-  command_leads (AddPair p s) keeps starts own keeps_then below_then = add_leads p s (keeps refl) own keeps_then below_then
+  command_leads (AddPair p s g) keeps starts own keeps_then below_then = add_leads p s g (keeps refl) own keeps_then below_then
   command_leads (DelPair choice) keeps starts own keeps_then below_then = let k = keeps refl in record { leads = gone_leads (is_chosen choice) rows k.apart; fit = gone_fits volumes 0 (is_chosen choice) rows k.apart }
   command_leads (Suspend choice) keeps starts own keeps_then below_then = suspend_leads (is_to_suspend choice) (Suspended ByCommand (record { 0 = time })) (keeps refl)
   command_leads Query keeps starts own keeps_then below_then = record { leads = refl; fit = refl }

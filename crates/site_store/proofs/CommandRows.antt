@@ -17,7 +17,7 @@ use Rattle.pair_table.specs.declared.row.PairRow.{PairRow}
 use Rattle.pair_table.specs.Commands.{accepted, add_to, added, answer, answer_by, change_of, devices_of, is_chosen, is_to_suspend, new_row, new_row_for, rows_after, suspended_since, table_after, wants_memory}
 use Rattle.pair_table.specs.Naming.{Naming, is_broken, labelled_device, primary_of}
 use Rattle.pair_table.specs.Refusals.{is_of_primary, is_start, refusal, refuses_command, refuses_found, refuses_label, refuses_primary, row_of_primary}
-use Rattle.pair_table.specs.Tables.{Table, are_below, in_state, is_of}
+use Rattle.pair_table.specs.Tables.{Table, are_below, in_state, is_of, resumed_in}
 use Rattle.pair_table.proofs.AddLaws.{label_all}
 use Rattle.pair_table.proofs.FindLaws.{all-filter, all-map, all-snoc, found_all}
 use Rattle.site_store.specs.Commands.{AddsBelow, added_device, alters, is_added, without_flag}
@@ -83,9 +83,9 @@ map_none test state (r ∷ rows) none = by_test (test r) none (map_none test sta
 -- A change that alters no row leaves the rows.
 pub unaltered : (names : Naming) (time : ℕ) (command : Command) (rows : List PairRow) → is_start command ≡ false → alters (change_of names command rows) ≡ false → rows_after names time command rows ≡ rows
 unaltered names time (Start level) rows starts none = absurd (cc starts)
-unaltered names time (AddPair p s) rows starts none = by_names (row_of_primary p rows) (primary_of p names) (labelled_device s names) none
+unaltered names time (AddPair p s g) rows starts none = by_names (row_of_primary p rows) (primary_of p names) (labelled_device s names) none
   where
-    by_names : (o : Option PairRow) (v : Option NamedVolume) (l : Option NamedDevice) → alters (added o l) ≡ false → add_to rows o (new_row_for s v l) ≡ rows
+    by_names : (o : Option PairRow) (v : Option NamedVolume) (l : Option NamedDevice) → alters (added o l) ≡ false → add_to g rows o (new_row_for s g v l) ≡ rows
     by_names (Some r) v l none = absurd (cc none)
     by_names None v (Some l) none = absurd (cc none)
     by_names None (Some v) None none = refl
@@ -97,21 +97,25 @@ unaltered names time End rows starts none = refl
 
 -- ---- what all rows pass
 
-module _ (test : PairRow → Bool) (of_state : (state : PairState) (r : PairRow) → test (in_state state r) ≡ test r) where
+module _ (test : PairRow → Bool) (of_state : (state : PairState) (group : Option (List ℕ)) (r : PairRow) → test (record r { state = state; group = group }) ≡ test r) where
   by_state : (b : Bool) (state : PairState) (r : PairRow) → test (cond b (in_state state r) r) ≡ test r
-  by_state true state r = of_state state r
+  by_state true state r = of_state state r.group r
   by_state false state r = refl
 
-  -- What rows pass whatever their state, the rows after a command pass, if a new row does.
+  -- What rows pass whatever their state and group, the rows after a command pass, if a new row does.
   pub rows_pass : (names : Naming) (time : ℕ) (command : Command) (rows : List PairRow)
-      → ((p s : List ℕ) (v : NamedVolume) (l : NamedDevice) → command ≡ AddPair p s → primary_of p names ≡ Some v → labelled_device s names ≡ Some l → row_of_primary p rows ≡ None → test (new_row s v l) ≡ true)
+      → ((p s : List ℕ) (g : Option (List ℕ)) (v : NamedVolume) (l : NamedDevice) → command ≡ AddPair p s g → primary_of p names ≡ Some v → labelled_device s names ≡ Some l → row_of_primary p rows ≡ None → test (new_row s g v l) ≡ true)
       → list_all test rows ≡ true → list_all test (rows_after names time command rows) ≡ true
   rows_pass names time (Start level) rows new all = refl
-  rows_pass names time (AddPair p s) rows new all = by_names (row_of_primary p rows) refl (primary_of p names) refl (labelled_device s names) refl
+  rows_pass names time (AddPair p s g) rows new all = by_names (row_of_primary p rows) refl (primary_of p names) refl (labelled_device s names) refl
     where
-      by_names : (o : Option PairRow) → row_of_primary p rows ≡ o → (v : Option NamedVolume) → primary_of p names ≡ v → (l : Option NamedDevice) → labelled_device s names ≡ l → list_all test (add_to rows o (new_row_for s v l)) ≡ true
-      by_names (Some r) found v named l labelled = all-map test (λ o. cond (is_of_primary r.primary o) (in_state Pending o) o) rows (λ o. by_state (is_of_primary r.primary o) Pending o) all
-      by_names None found (Some v) named (Some l) labelled = all-snoc test rows (new_row s v l) all (new p s v l refl named labelled found)
+      by_resumed : (b : Bool) (o : PairRow) → test (cond b (resumed_in g o) o) ≡ test o
+      by_resumed true o = of_state Pending g o
+      by_resumed false o = refl
+
+      by_names : (o : Option PairRow) → row_of_primary p rows ≡ o → (v : Option NamedVolume) → primary_of p names ≡ v → (l : Option NamedDevice) → labelled_device s names ≡ l → list_all test (add_to g rows o (new_row_for s g v l)) ≡ true
+      by_names (Some r) found v named l labelled = all-map test (λ o. cond (is_of_primary r.primary o) (resumed_in g o) o) rows (λ o. by_resumed (is_of_primary r.primary o) o) all
+      by_names None found (Some v) named (Some l) labelled = all-snoc test rows (new_row s g v l) all (new p s g v l refl named labelled found)
       by_names None found (Some v) named None labelled = all
       by_names None found None named l labelled = all
   rows_pass names time (DelPair choice) rows new all = all-filter test (λ r. not (is_chosen choice r)) rows all
@@ -121,13 +125,13 @@ module _ (test : PairRow → Bool) (of_state : (state : PairState) (r : PairRow)
 
 -- The rows after a command are on the devices of the labels and of the rows before it.
 pub after_below : (n : ℕ) (names : Naming) (time : ℕ) (command : Command) (rows : List PairRow) → list_all (λ l. nat_lt l.device n) names.labels ≡ true → are_below n rows ≡ true → are_below n (rows_after names time command rows) ≡ true
-after_below n names time command rows labels below = rows_pass (λ r. nat_lt r.device n) (λ state r. refl) names time command rows (λ p s v l is named labelled none. label_all (λ k. nat_lt k.device n) s names.labels l labels labelled) below
+after_below n names time command rows labels below = rows_pass (λ r. nat_lt r.device n) (λ state group r. refl) names time command rows (λ p s g v l is named labelled none. label_all (λ k. nat_lt k.device n) s names.labels l labels labelled) below
 
 -- ---- the device of an added pair
 
 pub adds_below : (n : ℕ) (names : Naming) (command : Command) (rows : List PairRow) → list_all (λ l. nat_lt l.device n) names.labels ≡ true → are_below n rows ≡ true → AddsBelow n (change_of names command rows)
 adds_below n names (Start level) rows labels below d is = absurd (cc is)
-adds_below n names (AddPair p s) rows labels below d is = by_names (row_of_primary p rows) refl (labelled_device s names) refl is
+adds_below n names (AddPair p s g) rows labels below d is = by_names (row_of_primary p rows) refl (labelled_device s names) refl is
   where
     by_names : (o : Option PairRow) → row_of_primary p rows ≡ o → (l : Option NamedDevice) → labelled_device s names ≡ l → is_added (added o l) d ≡ true → d < n
     by_names (Some r) found l labelled is = omega (arith, eqb-true r.device d is, ltb-true r.device n (found_all (is_of_primary p) (λ o. nat_lt o.device n) rows r found below))
@@ -139,8 +143,8 @@ adds_below n names Query rows labels below d is = absurd (cc is)
 adds_below n names End rows labels below d is = absurd (cc is)
 
 -- The secondary of a pair that is added has as many cylinders as its primary.
-pub large_enough : (names : Naming) (rows : List PairRow) (p s : List ℕ) (v : NamedVolume) (l : NamedDevice) → refuses_command names rows (AddPair p s) ≡ None → primary_of p names ≡ Some v → labelled_device s names ≡ Some l → row_of_primary p rows ≡ None → v.cylinders ≤ l.cylinders
-large_enough names rows p s v l own named labelled none = by_break (is_broken v.control names) (ap (refuses_primary p s names rows) (sym named) ∙ own)
+pub large_enough : (names : Naming) (rows : List PairRow) (p s : List ℕ) (g : Option (List ℕ)) (v : NamedVolume) (l : NamedDevice) → refuses_command names rows (AddPair p s g) ≡ None → primary_of p names ≡ Some v → labelled_device s names ≡ Some l → row_of_primary p rows ≡ None → v.cylinders ≤ l.cylinders
+large_enough names rows p s g v l own named labelled none = by_break (is_broken v.control names) (ap (refuses_primary p s names rows) (sym named) ∙ own)
   where
     by_size : (used small : Bool) (why : Refusal) → nat_lt l.cylinders v.cylinders ≡ small → cond used (Some SecondaryInUse) (cond small (Some why) None) ≡ None → v.cylinders ≤ l.cylinders
     by_size true small why is e = absurd (cc e)
@@ -208,7 +212,7 @@ flag_away first (suc i) change (flag ∷ flags) added =
 -- A change that alters a row is one of a command that may.
 pub alters_wants : (names : Naming) (command : Command) (rows : List PairRow) → alters (change_of names command rows) ≡ true → wants_memory command ≡ true
 alters_wants names (Start level) rows some = some
-alters_wants names (AddPair p s) rows some = refl
+alters_wants names (AddPair p s g) rows some = refl
 alters_wants names (DelPair choice) rows some = refl
 alters_wants names (Suspend choice) rows some = refl
 alters_wants names Query rows some = some

@@ -1,5 +1,5 @@
 -- What commands and rows that are put leave of a site, on a plant that it fits.
-use Rattle.std.proofs.Common.{◌≡◌, ◌⊎◌, inl, inr, ℕ, ◌+◌, ◌*◌, ◌≤◌, ◌&&◌, ◌||◌, Bool, true, false, cond, nat_le, nat_lt, List, [], ◌∷◌, length, Some, None, Ok, refl, sym, ap, subst, ◌∙◌, arith}
+use Rattle.std.proofs.Common.{◌≡◌, ◌⊎◌, inl, inr, ℕ, ◌+◌, ◌*◌, ◌≤◌, ◌&&◌, ◌||◌, Bool, true, false, cond, nat_le, nat_lt, List, [], ◌∷◌, length, Option, Some, None, Ok, refl, sym, ap, subst, ◌∙◌, arith}
 use Rattle.std.specs.Prelude.{is_none}
 use Rattle.std.specs.List.{list_all}
 use Rattle.std.proofs.lemmas.Bool.{and_from, and_parts, cases_Bool, le-leb, leb-true}
@@ -59,11 +59,11 @@ module _ (names : Naming) (site : SiteState) (session : List ℕ) (command : Com
 
   module _ (plant : PlantState) (labels : LabelsFit plant names) (fits : FitsPlant site plant) where
     -- A new pair's device has the slots of the primary's cylinders.
-    new_has : (p s : List ℕ) (v : NamedVolume) (l : NamedDevice) → command ≡ AddPair p s → primary_of p names ≡ Some v → labelled_device s names ≡ Some l → row_of_primary p site.table.rows ≡ None
-        → row_has_volume plant (new_row s v l) ≡ true
-    new_has p s v l command_is named labelled none =
+    new_has : (p s : List ℕ) (g : Option (List ℕ)) (v : NamedVolume) (l : NamedDevice) → command ≡ AddPair p s g → primary_of p names ≡ Some v → labelled_device s names ≡ Some l → row_of_primary p site.table.rows ≡ None
+        → row_has_volume plant (new_row s g v l) ≡ true
+    new_has p s g v l command_is named labelled none =
         let own = ap (λ (k : Command). refuses_command names site.table.rows k) (sym command_is) ∙ by_itself.own in
-        let large = large_enough names site.table.rows p s v l own named labelled none in
+        let large = large_enough names site.table.rows p s g v l own named labelled none in
         let has = and_parts (nat_lt l.device plant.volumes) (nat_le (512 + l.cylinders * 860160) (plant.lengths (Volume l.device))) (label_all (label_has_volume plant) s names.labels l labels labelled) in
         and_from (nat_lt l.device plant.volumes) (nat_le (512 + v.cylinders * 860160) (plant.lengths (Volume l.device))) has.0
         (le-leb (512 + v.cylinders * 860160) (plant.lengths (Volume l.device)) (omega (arith, large, leb-true (512 + l.cylinders * 860160) (plant.lengths (Volume l.device)) has.1)))
@@ -73,7 +73,7 @@ module _ (names : Naming) (site : SiteState) (session : List ℕ) (command : Com
       home = fits.home;
       controls = fits.controls;
       lengths = fits.lengths;
-      rows = ap (λ (l : List PairRow). list_all (row_has_volume plant) l) rows_are ∙ rows_pass (row_has_volume plant) (λ state r. refl) names at command site.table.rows new_has fits.rows;
+      rows = ap (λ (l : List PairRow). list_all (row_has_volume plant) l) rows_are ∙ rows_pass (row_has_volume plant) (λ state group r. refl) names at command site.table.rows new_has fits.rows;
       told = fits.told;
       mark = fits.mark;
       session = fits.session ∙ ap (λ (t : Table). t.session) (sym after_is);

@@ -51,7 +51,7 @@ any_here test a xs is = ap (λ (b : Bool). b || list_any test xs) is
 -- The track of an item of a device.
 track_of : (d : ℕ) (items : List Item) → has_device d items ≡ true → (x : ℕ) × HasItem d x items
 track_of d [] has = absurd cc
-track_of d (Pair row ∷ items) has = track_of d items has
+track_of d (Pair version row ∷ items) has = track_of d items has
 track_of d (Gone e ∷ items) has = track_of d items has
 track_of d (Image e y recs ∷ items) has = elim (or_cases (e == d) (has_device d items) has) [
   | inl here ↦ (y, any_here (is_of_track d y) (Image e y recs) items (and_from (e == d) (y == y) here (eq-eqb y y refl)))
@@ -64,7 +64,7 @@ track_of d (Delta e y kind ∷ items) has = elim (or_cases (e == d) (has_device 
 
 device_of : (d x : ℕ) (items : List Item) → HasItem d x items → has_device d items ≡ true
 device_of d x [] has = absurd cc
-device_of d x (Pair row ∷ items) has = device_of d x items has
+device_of d x (Pair version row ∷ items) has = device_of d x items has
 device_of d x (Gone e ∷ items) has = device_of d x items has
 device_of d x (Image e y recs ∷ items) has = elim (or_cases (e == d && y == x) (list_any (is_of_track d x) items) has) [
   | inl here ↦ any_here (is_of_device d) (Image e y recs) items (and_parts (e == d) (y == x) here).0
@@ -93,7 +93,7 @@ entry_on rows d x (e ∷ entries) has = elim (or_cases (is_entry_on rows d x e) 
 -- Pairs are of no volume.
 no_device : (d : ℕ) (images pairs : List Item) → list_all is_pair_item pairs ≡ true → has_device d (images ++ pairs) ≡ has_device d images
 no_device d [] [] are = refl
-no_device d [] (Pair row ∷ pairs) are = no_device d [] pairs are
+no_device d [] (Pair version row ∷ pairs) are = no_device d [] pairs are
 no_device d [] (Image e y recs ∷ pairs) are = absurd cc
 no_device d [] (Delta e y kind ∷ pairs) are = absurd cc
 no_device d [] (Gone e ∷ pairs) are = absurd cc

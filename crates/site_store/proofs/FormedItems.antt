@@ -56,7 +56,7 @@ pairs_keep form next (r ∷ rows) are earlier =
     by_state : (state : Option PairState) → is_row_in r state ≡ true → ((e : Earlier) → are_items_after form e (pairs_with_next next rows) ≡ true) → are_items_after form earlier (pair_in r state ++ pairs_with_next next rows) ≡ true
     by_state None is more = more earlier
     by_state (Some state) is more =
-        let item : Item = Pair (in_state state r) in
+        let item : Item = Pair 2 (in_state state r) in
         and_from (is_item form earlier item) (are_items_after form (earlier_after item earlier) (pairs_with_next next rows)) is (more (earlier_after item earlier))
 
 -- The slot of a track with an entry is one of the plant's.

@@ -97,8 +97,8 @@ module _ (next : NextStates) where
           let among : IsAmongBare ns row = ap (λ (l : List PairRow). row_of row.device l) same ∙ within row here in
           let still : bare_rows (with_row row ns) ≡ bare_rows all = bare_with row ns among ∙ same in
           let fits : are_rows volumes (with_row row ns) ≡ true = same_are volumes (with_row row ns) all still ∙ are in
-          (λ i. cond (fits i) (first_unfit volumes (place + length (item_spelling (Pair row))) (with_row row ns) (pairs_with_next next rows)) (Some place))
-          ∙ more (place + length (item_spelling (Pair row))) (with_row row ns) still
+          (λ i. cond (fits i) (first_unfit volumes (place + length (item_spelling (Pair 2 row))) (with_row row ns) (pairs_with_next next rows)) (Some place))
+          ∙ more (place + length (item_spelling (Pair 2 row))) (with_row row ns) still
 
   -- ---- and lead
 
@@ -144,7 +144,7 @@ hit_changes : (level : Level) (time : Stamp) (failed : List Bool) (marked : List
 hit_changes level time failed marked rows hits are apart below i row at hit =
     let lt = below_at rows i row below at in
     let among : is_among row.device (hit_now failed rows) ≡ true = among_hit failed rows i row (apart_of rows apart) at ∙ hit in
-    (Suspended Device hits.time, ap (λ (b : Bool). state_by_hits b (is_reached_by hits row.device) hits.time row.state) (are.devices row.device lt ∙ among))
+    (Suspended Device hits.time, ap (λ (b : Bool). state_by_hits b (is_reached_by hits row.device) hits.cause hits.time row.state) (are.devices row.device lt ∙ among))
   where
     below_at : (rows : List PairRow) (i : ℕ) (row : PairRow) → are_below 64 rows ≡ true → slice_get rows i ≡ Some row → row.device < 64
     below_at [] i row below is = absurd cc

@@ -25,7 +25,7 @@ use Rattle.site_store.specs.Jobs.{has_device, is_of_device}
 track_device : (device x : ℕ) (i : Item) → is_of_track device x i ≡ true → is_of_device device i ≡ true
 track_device device x (Image d y recs) is = (and_parts (d == device) (y == x) is).0
 track_device device x (Delta d y kind) is = (and_parts (d == device) (y == x) is).0
-track_device device x (Pair row) is = absurd cc
+track_device device x (Pair version row) is = absurd cc
 track_device device x (Gone d) is = absurd cc
 
 -- A track with an item is one of a device with one.
@@ -72,7 +72,7 @@ drawn_item device x (Delta d y kind ∷ items) earlier is = elim (drawn_item dev
     right : (a b : Bool) → b ≡ true → (a || b) ≡ true
     right true b e = refl
     right false b e = e
-drawn_item device x (Pair row ∷ items) earlier is = drawn_item device x items (earlier_after (Pair row) earlier) is
+drawn_item device x (Pair version row ∷ items) earlier is = drawn_item device x items (earlier_after (Pair version row) earlier) is
 drawn_item device x (Gone d ∷ items) earlier is = drawn_item device x items (earlier_after (Gone d) earlier) is
 
 pub image_item : (device x : ℕ) (items : List Item) → have_image items device x ≡ true → HasItem device x items
@@ -92,7 +92,7 @@ item_room plant earlier device x (Image d y recs) keeps is =
     let same = and_parts (d == device) (y == x) is in
     (subst (λ (n : ℕ). slot_end n ≤ plant.lengths (Volume device)) (eqb-true y x same.1) (subst (λ (n : ℕ). slot_end y ≤ plant.lengths (Volume n)) (eqb-true d device same.0) within), is)
 item_room plant earlier device x (Delta d y kind) keeps is = absurd cc
-item_room plant earlier device x (Pair row) keeps is = absurd cc
+item_room plant earlier device x (Pair version row) keeps is = absurd cc
 item_room plant earlier device x (Gone d) keeps is = absurd cc
 
 rooms : (plant : PlantState) (earlier : Earlier) (device x : ℕ) (items : List Item) → are_items_after (form_of plant) earlier items ≡ true → HasItem device x items → (slot_end x ≤ plant.lengths (Volume device)) × (list_any (draws device x) items ≡ true)
@@ -125,7 +125,7 @@ draws_of plant device x items keep has = (rooms plant none_earlier device x item
 content_by_none : (device x : ℕ) (t : Option (List Rec)) (i : Item) → is_of_track device x i ≡ false → content_by device x t i ≡ t
 content_by_none device x t (Image d y recs) none = λ n. cond (none n) (Some recs) t
 content_by_none device x t (Delta d y kind) none = λ n. cond (none n) (Some (apply (unwrap_or t []) kind)) t
-content_by_none device x t (Pair row) none = refl
+content_by_none device x t (Pair version row) none = refl
 content_by_none device x t (Gone d) none = refl
 
 -- Items of other tracks leave a track.

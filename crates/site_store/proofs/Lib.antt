@@ -33,6 +33,7 @@ pub mod LogRows
 pub mod LogStage
 pub mod LogStart
 pub mod MarkFirst
+pub mod Reached
 pub mod RecordPairsFit
 pub mod HitRows
 pub mod HitStates

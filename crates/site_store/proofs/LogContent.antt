@@ -40,7 +40,7 @@ through_append d x (i ∷ xs) ys old = through_append d x xs ys (content_by d x 
 -- Pairs change no content.
 pairs_still : (d x : ℕ) (items : List Item) (old : Option (List Rec)) → list_all is_pair_item items ≡ true → content_through d x items old ≡ old
 pairs_still d x [] old are = refl
-pairs_still d x (Pair row ∷ items) old are = pairs_still d x items old are
+pairs_still d x (Pair version row ∷ items) old are = pairs_still d x items old are
 pairs_still d x (Image e y recs ∷ items) old are = absurd cc
 pairs_still d x (Delta e y kind ∷ items) old are = absurd cc
 pairs_still d x (Gone e ∷ items) old are = absurd cc
@@ -49,7 +49,7 @@ pairs_still d x (Gone e ∷ items) old are = absurd cc
 images_still : (d x : ℕ) (items : List Item) (old : Option (List Rec)) → list_all is_image items ≡ true → list_any (is_of_track d x) items ≡ false → content_through d x items old ≡ old
 images_still d x [] old are none = refl
 images_still d x (Delta e y kind ∷ items) old are none = absurd cc
-images_still d x (Pair row ∷ items) old are none = absurd cc
+images_still d x (Pair version row ∷ items) old are none = absurd cc
 images_still d x (Gone e ∷ items) old are none = absurd cc
 images_still d x (Image e y recs ∷ items) old are none =
     let parts = or_parts (e == d && y == x) (list_any (is_of_track d x) items) none in
@@ -59,7 +59,7 @@ images_still d x (Image e y recs ∷ items) old are none =
 images_draw : (d x : ℕ) (items : List Item) (old new : Option (List Rec)) → list_all is_image items ≡ true → list_any (is_of_track d x) items ≡ true → content_through d x items old ≡ content_through d x items new
 images_draw d x [] old new are some = absurd cc
 images_draw d x (Delta e y kind ∷ items) old new are some = absurd cc
-images_draw d x (Pair row ∷ items) old new are some = absurd cc
+images_draw d x (Pair version row ∷ items) old new are some = absurd cc
 images_draw d x (Gone e ∷ items) old new are some = absurd cc
 images_draw d x (Image e y recs ∷ items) old new are some = by_first (e == d && y == x) some (λ more. images_draw d x items old new are more)
   where

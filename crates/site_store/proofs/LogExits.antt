@@ -39,7 +39,7 @@ use Rattle.site_store.proofs.LogPut.{logged_site}
 use Rattle.site_store.proofs.LogReads.{with_failed}
 use Rattle.site_store.proofs.LogStage.{IsGroupReady, PutStage, put_leaves, put_logs}
 use Rattle.site_store.proofs.LogStart.{FormedBy, first_formed, first_rows, formed_short, marked_formed, marked_rows, placement_still}
-use Rattle.site_store.proofs.MarkFirst.{room_after_mark, suffice}
+use Rattle.site_store.proofs.MarkFirst.{room_after_mark}
 use Rattle.site_store.proofs.MarkRows.{hits_alone}
 use Rattle.site_store.proofs.NextMark.{after_level, makes_alone}
 use Rattle.site_store.proofs.RecordPuts.{on_ok}

@@ -68,10 +68,10 @@ module _ (tells : Type 0) (group : FormedGroup) (site : SiteState) (plant : Plan
   marked_formed hit are = formed_by (rows_after_mark site.level hit group failed site.told) (marked_rows hit are) (after_marks_tell site.level hit group failed site.told (apart_of site.told forms.rules.apart))
 
 -- The body has room for the largest record of the site's controllers.
-pub formed_short : (controls of : ℕ) (entries : List WaitingEntry) (items : List Item) → of ≤ controls → length entries ≤ WRITES_OF_RUN * of → length (body_spelling items) ≤ 56669 * length entries + 64 * 31 → length (body_spelling items) ≤ body_room controls
+pub formed_short : (controls of : ℕ) (entries : List WaitingEntry) (items : List Item) → of ≤ controls → length entries ≤ WRITES_OF_RUN * of → length (body_spelling items) ≤ 56669 * length entries + 64 * 39 → length (body_spelling items) ≤ body_room controls
 formed_short controls of entries items fit few short = omega (arith, fit, few, short)
 
-pub room_formed : (controls of room : ℕ) (entries : List WaitingEntry) → room ≡ body_room controls → of ≤ controls → length entries ≤ WRITES_OF_RUN * of → 56670 * length entries + 64 * 31 ≤ room
+pub room_formed : (controls of room : ℕ) (entries : List WaitingEntry) → room ≡ body_room controls → of ≤ controls → length entries ≤ WRITES_OF_RUN * of → 56670 * length entries + 64 * 39 ≤ room
 room_formed controls of room entries is fit few = omega (arith, is, fit, few)
 
 -- Reads leave the placement.

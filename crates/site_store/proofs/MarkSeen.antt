@@ -42,7 +42,7 @@ through_append d x (i ∷ xs) ys old = through_append d x xs ys (content_by d x 
 other_item : (d x : ℕ) (i : Item) (old : Option (List Rec)) → is_of_track d x i ≡ false → content_by d x old i ≡ old
 other_item d x (Image e y recs) old other = ap (λ (b : Bool). cond b (Some recs) old) other
 other_item d x (Delta e y kind) old other = ap (λ (b : Bool). cond b (Some (apply (unwrap_or old []) kind)) old) other
-other_item d x (Pair row) old other = refl
+other_item d x (Pair version row) old other = refl
 other_item d x (Gone e) old other = refl
 
 -- So do items of other tracks.

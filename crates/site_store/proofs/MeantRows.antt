@@ -36,19 +36,20 @@ kept_apart volumes (Some found) rows e = by_rules (are_rows volumes found) refl 
     by_rules true are e = subst (λ (l : List PairRow). none_clash l ≡ true) (same_Some found rows e) (rows_parts volumes found are).apart
     by_rules false are e = absurd cc
 
-fields_apart : (volumes : ℕ) (bytes : List ℕ) (s : Stored) → slot_fields volumes bytes ≡ Some s → none_clash s.rows ≡ true
-fields_apart volumes bytes s e =
+fields_apart : (version volumes : ℕ) (bytes : List ℕ) (s : Stored) → slot_fields version volumes bytes ≡ Some s → none_clash s.rows ≡ true
+fields_apart version volumes bytes s e =
     let count = from_be_bytes w16 (slice_range bytes 13 15) in
-    let one = bind_some (level_of_number (slice_index bytes 12)) (λ level. rows_in volumes count (drop 15 bytes) >>= (λ rows. Some (record { level = level; rows = rows }))) s e in
-    let two = bind_some (rows_in volumes count (drop 15 bytes)) (λ rows. Some (record { level = one.0; rows = rows })) s one.2 in
-    subst (λ (x : Stored). none_clash x.rows ≡ true) (same_Some (record { level = one.0; rows = two.0 }) s two.2) (kept_apart volumes (rows_at count (drop 15 bytes)) two.0 two.1)
+    let one = bind_some (level_of_number version (slice_index bytes 12)) (λ level. rows_in version volumes count (drop 15 bytes) >>= (λ rows. Some (record { level = level; rows = rows }))) s e in
+    let two = bind_some (rows_in version volumes count (drop 15 bytes)) (λ rows. Some (record { level = one.0; rows = rows })) s one.2 in
+    subst (λ (x : Stored). none_clash x.rows ≡ true) (same_Some (record { level = one.0; rows = two.0 }) s two.2) (kept_apart volumes (rows_at version count (drop 15 bytes)) two.0 two.1)
 
 held_apart : (volumes : ℕ) (session bytes : List ℕ) (s : Stored) → state_at volumes session bytes ≡ Some s → none_clash s.rows ≡ true
-held_apart volumes session bytes s e = by_title (has_title session bytes) e
+held_apart volumes session bytes s e = by_title (has_title 2 session bytes) (has_title 1 session bytes) e
   where
-    by_title : (b : Bool) → cond b (slot_fields volumes bytes) None ≡ Some s → none_clash s.rows ≡ true
-    by_title true e = fields_apart volumes bytes s e
-    by_title false e = absurd cc
+    by_title : (second first : Bool) → cond second (slot_fields 2 volumes bytes) (cond first (slot_fields 1 volumes bytes) None) ≡ Some s → none_clash s.rows ≡ true
+    by_title true first e = fields_apart 2 volumes bytes s e
+    by_title false true e = fields_apart 1 volumes bytes s e
+    by_title false false e = absurd cc
 
 stored_apart : (volumes : ℕ) (session : List ℕ) (slot : ℕ) (state : List ℕ) (s : Stored) → state_of volumes session slot state ≡ Ok s → none_clash s.rows ≡ true
 stored_apart volumes session slot state s e = by_held (state_at volumes session (drop (state_slot_place slot) state)) refl e
@@ -62,7 +63,7 @@ stored_apart volumes session slot state s e = by_held (state_at volumes session 
 by_item : (volumes : ℕ) (i : Item) (rows : List PairRow) → fits_rows volumes rows i ≡ true → none_clash rows ≡ true → none_clash (rows_by i rows) ≡ true
 by_item volumes (Image d x recs) rows fits apart = apart
 by_item volumes (Delta d x kind) rows fits apart = apart
-by_item volumes (Pair row) rows fits apart = (rows_parts volumes (with_row row rows) fits).apart
+by_item volumes (Pair version row) rows fits apart = (rows_parts volumes (with_row row rows) fits).apart
 by_item volumes (Gone d) rows fits apart = apart-filter (λ r. not (is_of d r)) rows apart
 
 by_items : (volumes place : ℕ) (items : List Item) (rows : List PairRow) → first_unfit volumes place rows items ≡ None → none_clash rows ≡ true → none_clash (rows_through items rows) ≡ true

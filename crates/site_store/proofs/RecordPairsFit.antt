@@ -68,7 +68,7 @@ abbrev pub ArePairsAmong : List PairRow → List Item → Type 0
 ArePairsAmong rows [] = Unit {0}
 ArePairsAmong rows (Image d x recs ∷ items) = ⊥
 ArePairsAmong rows (Delta d x kind ∷ items) = ⊥
-ArePairsAmong rows (Pair row ∷ items) = IsAmongBare rows row × ArePairsAmong rows items
+ArePairsAmong rows (Pair version row ∷ items) = IsAmongBare rows row × ArePairsAmong rows items
 ArePairsAmong rows (Gone d ∷ items) = ⊥
 
 pub pairs_fit : (volumes place : ℕ) (first rows : List PairRow) (items : List Item) → are_rows volumes first ≡ true → ArePairsAmong first items → bare_rows rows ≡ bare_rows first → first_unfit volumes place rows items ≡ None
@@ -76,11 +76,11 @@ pairs_fit volumes place first rows [] are among same = refl
 pairs_fit volumes place first rows (Image d x recs ∷ items) are among same = absurd among
 pairs_fit volumes place first rows (Delta d x kind ∷ items) are among same = absurd among
 pairs_fit volumes place first rows (Gone d ∷ items) are among same = absurd among
-pairs_fit volumes place first rows (Pair row ∷ items) are among same =
+pairs_fit volumes place first rows (Pair version row ∷ items) are among same =
     let still : bare_rows (with_row row rows) ≡ bare_rows first = bare_with row rows (ap (λ (l : List PairRow). row_of row.device l) same ∙ among.0) ∙ same in
     let fits : are_rows volumes (with_row row rows) ≡ true = sym (bare_are volumes (with_row row rows)) ∙ ap (λ (l : List PairRow). are_rows volumes l) still ∙ bare_are volumes first ∙ are in
-    (λ i. cond (fits i) (first_unfit volumes (place + length (item_spelling (Pair row))) (with_row row rows) items) (Some place))
-    ∙ pairs_fit volumes (place + length (item_spelling (Pair row))) first (with_row row rows) items are among.1 still
+    (λ i. cond (fits i) (first_unfit volumes (place + length (item_spelling (Pair version row))) (with_row row rows) items) (Some place))
+    ∙ pairs_fit volumes (place + length (item_spelling (Pair version row))) first (with_row row rows) items are among.1 still
 
 -- A device with a row is the device of one.
 row_then_any : (device : ℕ) (rows : List PairRow) (row : PairRow) → row_of device (bare_rows rows) ≡ Some row → list_any (is_of device) rows ≡ true
@@ -97,7 +97,7 @@ more_among r rows [] among apart = tt
 more_among r rows (Image d x recs ∷ items) among apart = among
 more_among r rows (Delta d x kind ∷ items) among apart = among
 more_among r rows (Gone d ∷ items) among apart = among
-more_among r rows (Pair row ∷ items) among apart = (one (is_of row.device r) refl, more_among r rows items among.1 apart)
+more_among r rows (Pair version row ∷ items) among apart = (one (is_of row.device r) refl, more_among r rows items among.1 apart)
   where
     one : (b : Bool) → is_of row.device r ≡ b → IsAmongBare (r ∷ rows) row
     one false differ = (λ i. cond (differ i) (Some (bare r)) (row_of row.device (bare_rows rows))) ∙ among.0
@@ -134,14 +134,14 @@ pub image_rows : (images : List Item) (items : List Item) (rows : List PairRow) 
 image_rows [] items rows are = refl
 image_rows (Image d x recs ∷ images) items rows are = image_rows images items rows are
 image_rows (Delta d x kind ∷ images) items rows are = absurd cc
-image_rows (Pair row ∷ images) items rows are = absurd cc
+image_rows (Pair version row ∷ images) items rows are = absurd cc
 image_rows (Gone d ∷ images) items rows are = absurd cc
 
 image_fit : (volumes place : ℕ) (images items : List Item) (rows : List PairRow) → list_all is_image images ≡ true → ((p : ℕ) → first_unfit volumes p rows items ≡ None) → first_unfit volumes place rows (images ++ items) ≡ None
 image_fit volumes place [] items rows are fit = fit place
 image_fit volumes place (Image d x recs ∷ images) items rows are fit = image_fit volumes (place + length (item_spelling (Image d x recs))) images items rows are fit
 image_fit volumes place (Delta d x kind ∷ images) items rows are fit = absurd cc
-image_fit volumes place (Pair row ∷ images) items rows are fit = absurd cc
+image_fit volumes place (Pair version row ∷ images) items rows are fit = absurd cc
 image_fit volumes place (Gone d ∷ images) items rows are fit = absurd cc
 
 -- After images the pairs fit still.

@@ -16,7 +16,7 @@ use Rattle.site_store.specs.Hits.{NextStates, pair_in, pairs_with_next}
 abbrev pub is_row_item : Item → Bool
 is_row_item (Image device track recs) = false
 is_row_item (Delta device track kind) = false
-is_row_item (Pair row) = true
+is_row_item (Pair version row) = true
 is_row_item (Gone device) = true
 
 abbrev pub AreRowItems : List Item → Type 0
@@ -63,7 +63,7 @@ next_rows next (r ∷ rows) = both_rows (pair_in r (next r)) (pairs_with_next ne
 still_by : (device track : ℕ) (old : Option (List Rec)) (i : Item) → is_row_item i ≡ true → content_by device track old i ≡ old
 still_by device track old (Image d x recs) is = absurd (true≢false (sym is))
 still_by device track old (Delta d x kind) is = absurd (true≢false (sym is))
-still_by device track old (Pair row) is = refl
+still_by device track old (Pair version row) is = refl
 still_by device track old (Gone d) is = refl
 
 pub content_still : (device track : ℕ) (items : List Item) (old : Option (List Rec)) → AreRowItems items → content_through device track items old ≡ old
@@ -78,7 +78,7 @@ content_before device track (i ∷ first) items old are = content_before device 
 none_by : (device track : ℕ) (i : Item) → is_row_item i ≡ true → is_of_track device track i ≡ false
 none_by device track (Image d x recs) is = absurd (true≢false (sym is))
 none_by device track (Delta d x kind) is = absurd (true≢false (sym is))
-none_by device track (Pair row) is = refl
+none_by device track (Pair version row) is = refl
 none_by device track (Gone d) is = refl
 
 -- A track with an item among both has one among the first.
@@ -95,7 +95,7 @@ item_before device track (x ∷ xs) ys are has = by_first (is_of_track device tr
 same_rule : (form : Form) (earlier : Earlier) (i : Item) → is_row_item i ≡ true → is_item form earlier i ≡ is_item anywhere earlier i
 same_rule form earlier (Image d x recs) is = absurd (true≢false (sym is))
 same_rule form earlier (Delta d x kind) is = absurd (true≢false (sym is))
-same_rule form earlier (Pair row) is = refl
+same_rule form earlier (Pair version row) is = refl
 same_rule form earlier (Gone d) is = refl
 
 rules_same : (form : Form) (earlier : Earlier) (items : List Item) → AreRowItems items → are_items_after form earlier items ≡ are_items_after anywhere earlier items

@@ -12,11 +12,11 @@ use Rattle.pair_table.specs.Rows.{is_row, is_state}
 use Rattle.pair_table.specs.Tables.{in_state, is_of, none_clash, with_state}
 use Rattle.pair_table.proofs.RowRules.{is_row_by, row_keeps, row_rules}
 use Rattle.pair_table.proofs.TableLaws.{either_false, first_apart, with_state-absent}
+use Rattle.pair_table.proofs.Versions.{text_length}
 use Rattle.xrc_journal.specs.Bodies.{BodyState, with_item}
 use Rattle.xrc_journal.specs.Items.{Item, body_spelling, item_spelling}
 use Rattle.xrc_journal.specs.Items.Item.{Pair}
 use Rattle.xrc_journal.proofs.Bodies.{body_push}
-use Rattle.xrc_journal.proofs.Fields.{spelled_length}
 use Rattle.record_rows.specs.ChangedRows.{rows_in_states}
 use Rattle.record_rows.specs.GroupRows.{row_in}
 use Rattle.site_store.proofs.Breaks.{eqb_sym_false}
@@ -26,10 +26,10 @@ use Rattle.site_store.specs.Hits.{NextStates, is_row_in, pair_in, pair_with_next
 pub changed_is_row : (state : PairState) (row : PairRow) → is_state state ≡ true → is_row row ≡ true → is_row (in_state state row) ≡ true
 changed_is_row state row ok is =
     let rules = row_rules row is in
-    is_row_by (in_state state row) rules.primary rules.secondary (row_keeps row is) rules.device_lt ok
+    is_row_by (in_state state row) rules.primary rules.secondary (row_keeps row is) rules.device_lt ok rules.group
 
-pub changed_length : (state : PairState) (row : PairRow) → is_state state ≡ true → is_row row ≡ true → length (item_spelling (Pair (in_state state row))) ≡ 31
-changed_length state row ok is = omega (arith, spelled_length (in_state state row) (changed_is_row state row ok is))
+pub changed_length : (state : PairState) (row : PairRow) → is_state state ≡ true → is_row row ≡ true → length (item_spelling (Pair 2 (in_state state row))) ≡ 39
+changed_length state row ok is = omega (arith, text_length 2 (in_state state row) (changed_is_row state row ok is))
 
 -- a row of a table
 pub row_at_is : (rows : List PairRow) (i : ℕ) (row : PairRow) → list_all is_row rows ≡ true → slice_get rows i ≡ Some row → is_row row ≡ true
@@ -43,7 +43,7 @@ row_at_is (r ∷ rows) (suc i) row all is = row_at_is rows i row (and_parts (is_
 pub record Puts (next : NextStates) (held now : BodyState) (rows : List PairRow) (i : ℕ) : Type 0 where
   pub items_are : now.items ≡ held.items ++ pairs_with_next next (take i rows)
   pub room : now.room ≡ held.room
-  pub long : length (body_spelling now.items) ≤ length (body_spelling held.items) + i * 31
+  pub long : length (body_spelling now.items) ≤ length (body_spelling held.items) + i * 39
   pub are_rows : list_all (stays_row next) (take i rows) ≡ true
 
 module _ (next : NextStates) (held now : BodyState) (rows : List PairRow) (i : ℕ) (row : PairRow) (is : slice_get rows i ≡ Some row) (puts : Puts next held now rows i) where
@@ -68,11 +68,11 @@ module _ (next : NextStates) (held now : BodyState) (rows : List PairRow) (i : �
     are_rows = rows_more (ap (is_row_in row) none);
   }
 
-  pub puts_one : (state : PairState) (after : BodyState) → next row ≡ Some state → is_row (in_state state row) ≡ true → after ≡ with_item (Pair (in_state state row)) now → Puts next held after rows (i + 1)
+  pub puts_one : (state : PairState) (after : BodyState) → next row ≡ Some state → is_row (in_state state row) ≡ true → after ≡ with_item (Pair 2 (in_state state row)) now → Puts next held after rows (i + 1)
   puts_one state after some is_one after_is = record {
     items_are = ap (λ (h : BodyState). h.items) after_is ∙ sym (more ∙ ap (λ (l : List Item). now.items ++ l) (ap (pair_in row) some));
     room = ap (λ (h : BodyState). h.room) after_is ∙ puts.room;
-    long = omega (arith, puts.long, spelled_length (in_state state row) is_one, ap (λ (h : BodyState). length (body_spelling h.items)) after_is, ap length (body_push now.items (Pair (in_state state row))), length-append (body_spelling now.items) (item_spelling (Pair (in_state state row))));
+    long = omega (arith, puts.long, text_length 2 (in_state state row) is_one, ap (λ (h : BodyState). length (body_spelling h.items)) after_is, ap length (body_push now.items (Pair 2 (in_state state row))), length-append (body_spelling now.items) (item_spelling (Pair 2 (in_state state row))));
     are_rows = rows_more (ap (is_row_in row) some ∙ is_one);
   }
 

@@ -101,13 +101,13 @@ module _ (failed : List Bool) where
   near_by : (i : Item) (ns bs : List PairRow) → AreNear failed ns bs → AreNear failed (rows_by i ns) (rows_by i bs)
   near_by (Image d x recs) ns bs near = near
   near_by (Delta d x kind) ns bs near = near
-  near_by (Pair row) ns bs near = near_with row ns bs near
+  near_by (Pair version row) ns bs near = near_with row ns bs near
   near_by (Gone d) ns bs near = near_without d ns bs near
 
   near_fits : (volumes : ℕ) (i : Item) (ns bs : List PairRow) → AreNear failed ns bs → fits_rows volumes ns i ≡ fits_rows volumes bs i
   near_fits volumes (Image d x recs) ns bs near = refl
   near_fits volumes (Delta d x kind) ns bs near = refl
-  near_fits volumes (Pair row) ns bs near = same_are volumes (with_row row ns) (with_row row bs) (near_bare (with_row row ns) (with_row row bs) (near_with row ns bs near))
+  near_fits volumes (Pair version row) ns bs near = same_are volumes (with_row row ns) (with_row row bs) (near_bare (with_row row ns) (with_row row bs) (near_with row ns bs near))
   near_fits volumes (Gone d) ns bs near = same_has d ns bs (near_bare ns bs near)
 
   -- Items leave near rows near, and fit both or neither.

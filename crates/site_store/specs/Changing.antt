@@ -36,7 +36,7 @@ use Rattle.site_store.specs.Records.{after_mark, after_record}
 
 -- the item of a row, where there is one
 abbrev pub pair_item : Option PairRow → List Item
-pair_item (Some row) = Pair row ∷ []
+pair_item (Some row) = Pair 2 row ∷ []
 pair_item None = []
 
 -- the items of the devices' rows

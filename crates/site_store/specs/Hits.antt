@@ -1,13 +1,15 @@
 -- What a record changes of rows: what the group makes of them, and after that the hits of failed volumes.
-use Rattle.std.specs.Prelude.{◌≡◌, ℕ, ◌<◌, ◌||◌, List, [], ◌∷◌, Bool, true, false, Option, Some, None, slice_index_or, if◌then◌else◌}
-use Rattle.std.specs.List.{flat_map}
+use Rattle.std.specs.Prelude.{◌≡◌, ℕ, ◌<◌, ◌&&◌, ◌||◌, not, List, [], ◌∷◌, Bool, true, false, Option, Some, None, slice_index_or, if◌then◌else◌}
+use Rattle.std.specs.List.{Contains, flat_map, list_any}
 use Rattle.xrc_edge.specs.declared.limits.TheConstants.{MOST_SITE_VOLUMES}
 use Rattle.tod_stamp.specs.declared.stamp.Stamp.{Stamp}
 use Rattle.pair_table.specs.declared.level.Level.{Level}
+use Rattle.pair_table.specs.declared.level.Level.TheVariants.{Volume as VolumeLevel, Session as SessionLevel, Group as GroupLevel}
 use Rattle.pair_table.specs.declared.row.PairRow.{PairRow}
 use Rattle.pair_table.specs.declared.row.PairState.{PairState}
 use Rattle.pair_table.specs.declared.row.PairState.TheVariants.{Suspended}
-use Rattle.pair_table.specs.declared.row.SuspendCause.TheVariants.{Device, Session}
+use Rattle.pair_table.specs.declared.row.SuspendCause.{SuspendCause}
+use Rattle.pair_table.specs.declared.row.SuspendCause.TheVariants.{Device}
 use Rattle.pair_table.specs.Devices.{is_among}
 use Rattle.pair_table.specs.Rows.{is_row, is_suspended}
 use Rattle.pair_table.specs.Tables.{in_state}
@@ -15,7 +17,7 @@ use Rattle.pending_queue.specs.Groups.{FormedGroup}
 use Rattle.record_rows.specs.ChangedRows.{later_state}
 use Rattle.record_rows.specs.GroupRows.{state_with_group}
 use Rattle.record_rows.specs.Hits.{hit_now, is_reached}
-use Rattle.row_changes.specs.Changes.{reach_of}
+use Rattle.row_changes.specs.Changes.{are_same_group, reach_of}
 use Rattle.xrc_journal.specs.Items.{Item}
 use Rattle.xrc_journal.specs.Items.Item.{Pair}
 use Rattle.site_store.specs.declared.hits.HitDevices.{HitDevices}
@@ -28,7 +30,7 @@ abbrev pub NextStates : Type 0
 NextStates = PairRow → Option PairState
 
 abbrev pub pair_in : PairRow → Option PairState → List Item
-pair_in row (Some state) = Pair (in_state state row) ∷ []
+pair_in row (Some state) = Pair 2 (in_state state row) ∷ []
 pair_in row None = []
 
 abbrev pub pair_with_next : NextStates → PairRow → List Item
@@ -48,11 +50,11 @@ pairs_with_next next rows = flat_map (pair_with_next next) rows
 
 -- ---- hits
 
--- A hit suspends a row by its device, whatever its state. A row that hits reach is suspended by the session, unless it is already.
-abbrev pub state_by_hits : (hit reached : Bool) → (time : Stamp) → PairState → Option PairState
-state_by_hits true reached time state = Some (Suspended Device time)
-state_by_hits false true time state = if is_suspended state then None else Some (Suspended Session time)
-state_by_hits false false time state = None
+-- A hit suspends a row by its device, whatever its state. A row that hits reach is suspended by this cause, unless it is already.
+abbrev pub state_by_hits : (hit reached : Bool) → SuspendCause → (time : Stamp) → PairState → Option PairState
+state_by_hits true reached cause time state = Some (Suspended Device time)
+state_by_hits false true cause time state = if is_suspended state then None else Some (Suspended cause time)
+state_by_hits false false cause time state = None
 
 abbrev pub is_hit_by : Hits → (device : ℕ) → Bool
 is_hit_by hits device = slice_index_or hits.devices device false
@@ -61,7 +63,7 @@ abbrev pub is_reached_by : Hits → (device : ℕ) → Bool
 is_reached_by hits device = slice_index_or hits.reached device false
 
 abbrev pub next_by_hits : Hits → (device : ℕ) → PairState → Option PairState
-next_by_hits hits device state = state_by_hits (is_hit_by hits device) (is_reached_by hits device) hits.time state
+next_by_hits hits device state = state_by_hits (is_hit_by hits device) (is_reached_by hits device) hits.cause hits.time state
 
 abbrev pub with_hits : Hits → NextStates
 with_hits hits row = next_by_hits hits row.device row.state
@@ -76,15 +78,26 @@ pub record AreDevices (devices : List ℕ) (hit : HitDevices) : Type 0 where
   pub flags : (d : ℕ) → d < MOST_SITE_VOLUMES → slice_index_or hit.are d false ≡ is_among d devices
   pub any_is : hit.any ≡ are_some devices
 
--- The flags say of each device whether the hits of a mark or those after it reach its row.
-abbrev pub AreReached : Level → (marked hit : List ℕ) → (flags : List Bool) → Type 0
-AreReached level marked hit flags =
-    (rows : List PairRow) (r : PairRow) → r.device < MOST_SITE_VOLUMES → slice_index_or flags r.device false ≡ (is_reached (reach_of level rows) marked r || is_reached (reach_of level rows) hit r)
+-- whether a row's device is hit, and the row has this group
+abbrev pub is_hit_in_group : HitDevices → (group : Option (List ℕ)) → PairRow → Bool
+is_hit_in_group hit group row = slice_index_or hit.are row.device false && are_same_group row.group group
+
+-- whether hits of these devices, if there are some, reach a row among rows
+abbrev pub reaches_at : Level → List PairRow → HitDevices → PairRow → Bool
+reaches_at VolumeLevel rows hit row = false
+reaches_at SessionLevel rows hit row = not (slice_index_or hit.are row.device false)
+reaches_at GroupLevel rows hit row = not (slice_index_or hit.are row.device false) && list_any (is_hit_in_group hit row.group) rows
+
+-- The flags say of the device of each of these rows whether the hits of a mark or those after it reach the row.
+abbrev pub AreReached : Level → (marked hit : List ℕ) → List PairRow → (flags : List Bool) → Type 0
+AreReached level marked hit rows flags =
+    (r : PairRow) → Contains rows r → slice_index_or flags r.device false ≡ (is_reached (reach_of level rows) marked r || is_reached (reach_of level rows) hit r)
 
 -- The hits of these rows once these jobs have failed, at a time, after a mark in which these devices were hit.
 pub record AreHits (level : Level) (time : Stamp) (failed : List Bool) (marked : List ℕ) (rows : List PairRow) (hits : Hits) : Type 0 where
   pub devices : (d : ℕ) → d < MOST_SITE_VOLUMES → is_hit_by hits d ≡ is_among d (hit_now failed rows)
-  pub reached : AreReached level marked (hit_now failed rows) hits.reached
+  pub reached : AreReached level marked (hit_now failed rows) rows hits.reached
+  pub cause_is : hits.cause ≡ (reach_of level rows).cause
   pub time_is : hits.time ≡ time
 
 -- ---- the record of a group

@@ -22,7 +22,7 @@ body_room controls = 8146 + controls * OF_CONTROL
 abbrev pub is_of_device : (device : ℕ) → Item → Bool
 is_of_device device (Image d x recs) = d == device
 is_of_device device (Delta d x kind) = d == device
-is_of_device device (Pair row) = false
+is_of_device device (Pair version row) = false
 is_of_device device (Gone d) = false
 
 abbrev pub has_device : (device : ℕ) → List Item → Bool

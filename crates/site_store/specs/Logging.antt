@@ -87,7 +87,7 @@ pub record MayForm {V : Type 0} (of : List WaitingEntry) (rows : List PairRow) (
 -- ---- the items
 
 abbrev pub is_pair_item : Item → Bool
-is_pair_item (Pair row) = true
+is_pair_item (Pair version row) = true
 is_pair_item (Image d x recs) = false
 is_pair_item (Delta d x kind) = false
 is_pair_item (Gone d) = false

@@ -51,10 +51,10 @@ pub(crate) fn names_rows(table: &PairTable, change: &Change) -> bool
 
 /// Puts the rows of devices as they stand in the table.
 fn put_rows(body: &mut Body, table: &PairTable, devices: &[u16])
-    requires room { length (body_spelling body.old.items) + length devices.now * 31 ≤ body.old.room }
+    requires room { length (body_spelling body.old.items) + length devices.now * ROW_ITEM ≤ body.old.room }
     requires rules { AreRowsSound table.now.rows }
     ensures put { body.new ≡ record { items = body.old.items ++ pairs_of devices.now table.now.rows; room = body.old.room } }
-    ensures short { length (body_spelling body.new.items) ≤ length (body_spelling body.old.items) + length devices.now * 31 }
+    ensures short { length (body_spelling body.new.items) ≤ length (body_spelling body.old.items) + length devices.now * ROW_ITEM }
 {
     for device in devices {
         if let Some(row) = table.row_of(*device) {
@@ -65,9 +65,9 @@ fn put_rows(body: &mut Body, table: &PairTable, devices: &[u16])
 
 /// Puts that the rows of devices go.
 fn put_gone(body: &mut Body, devices: &[u16])
-    requires { length (body_spelling body.old.items) + length devices.now * 31 ≤ body.old.room }
+    requires { length (body_spelling body.old.items) + length devices.now * ROW_ITEM ≤ body.old.room }
     ensures put { body.new ≡ record { items = body.old.items ++ gone_of devices.now; room = body.old.room } }
-    ensures short { length (body_spelling body.new.items) ≤ length (body_spelling body.old.items) + length devices.now * 31 }
+    ensures short { length (body_spelling body.new.items) ≤ length (body_spelling body.old.items) + length devices.now * ROW_ITEM }
 {
     for device in devices {
         body.put_gone(*device);
@@ -76,10 +76,10 @@ fn put_gone(body: &mut Body, devices: &[u16])
 
 /// Takes the items of a change in place of those that were there.
 fn take_change(body: &mut Body, table: &PairTable, change: &Change)
-    requires room { named_devices change.now * 31 ≤ body.old.room }
+    requires room { named_devices change.now * ROW_ITEM ≤ body.old.room }
     requires rules { AreRowsSound table.now.rows }
     ensures put { body.new ≡ record { items = changed_items change.now table.now.rows; room = body.old.room } }
-    ensures short { length (body_spelling body.new.items) ≤ named_devices change.now * 31 }
+    ensures short { length (body_spelling body.new.items) ≤ named_devices change.now * ROW_ITEM }
 {
     body.clear();
     match change {
@@ -115,8 +115,8 @@ pub(crate) fn form_change<V>(
 
 impl<V> Site<V> {
     /// Logs a command's change by one record of the rows that it names, as they stand in the table, and of the devices whose rows
-    /// go. The rows of volumes that have failed and aren't told yet are suspended after them, since the cut, and under level
-    /// SESSION every other row that isn't suspended. For a change that alters no row nothing is called.
+    /// go. The rows of volumes that have failed and aren't told yet are suspended after them, since the cut, with the rows that
+    /// these failures reach under the session's level. For a change that alters no row nothing is called.
     ///
     /// Where the record doesn't fit the rest of the data set, a switch comes first. Where the next data set holds the spot of the
     /// mark that counts, a mark comes before the switch: it syncs the volumes that were written one after another, and its rows are

@@ -1,21 +1,23 @@
 //! The rows of volumes whose jobs have failed, and the rows that their failures reach.
 
-ghost use Rattle.std.specs.Prelude.{◌≡◌, ◌≤◌, ◌<◌, ◌+◌, ◌*◌, ◌++◌, ◌&&◌, ◌||◌, not, ℕ, List, [], false, length, map, slice_index_or, IfSome, IsTrue};
+ghost use Rattle.std.specs.Prelude.{◌≡◌, ◌≤◌, ◌<◌, ◌+◌, ◌*◌, ◌++◌, ◌&&◌, ◌||◌, ℕ, List, [], false, length, map, slice_index_or, IfSome, IsTrue};
+ghost use Rattle.std.specs.List.{list_any};
 ghost use Rattle.xrc_journal.specs.declared.layout.TheConstants.{ROW_ITEM};
 ghost use Rattle.pair_table.specs.declared.limits.TheConstants.{MOST_ROWS};
 ghost use Rattle.xrc_edge.specs.declared.limits.TheConstants.{MOST_SITE_VOLUMES};
+ghost use Rattle.pair_table.specs.declared.row.PairRow.{PairRow as Row};
 ghost use Rattle.pair_table.specs.Devices.{is_among};
 ghost use Rattle.pair_table.specs.Rows.{is_state};
 ghost use Rattle.pair_table.specs.Tables.{AreRowsSound, are_below, with_rows};
 ghost use Rattle.record_rows.specs.ChangedRows.{rows_in_states};
 ghost use Rattle.record_rows.specs.Hits.{hit_now, is_hit_now};
-ghost use Rattle.row_changes.specs.Changes.{reaches_others};
+ghost use Rattle.row_changes.specs.Changes.{are_same_group, reach_of};
 ghost use Rattle.xrc_journal.specs.Items.{body_spelling};
-ghost use Rattle.site_store.specs.Hits.{AreDevices, AreHits, AreReached, are_some, next_by_hits, pairs_with_next, with_hits};
+ghost use Rattle.site_store.specs.Hits.{AreDevices, AreHits, AreReached, are_some, is_hit_in_group, next_by_hits, pairs_with_next, reaches_at, with_hits};
 ghost use Rattle.site_store.specs.Jobs.{has_job_failed};
 
 use pair_table::{Level, PairRow, PairState, PairTable, SuspendCause};
-use tod_stamp::Stamp;
+use tod_stamp::{Serial, Stamp};
 use xrc_edge::MOST_SITE_VOLUMES;
 use xrc_journal::{Body, VolumeJob};
 
@@ -35,6 +37,8 @@ pub(crate) struct Hits {
     devices: [bool; MOST_SITE_VOLUMES],
     /// Of each device, whether hits reach its row.
     reached: [bool; MOST_SITE_VOLUMES],
+    /// The cause by which they suspend the rows that they reach.
+    cause: SuspendCause,
     time: Stamp,
 }
 
@@ -110,32 +114,87 @@ pub(crate) fn no_devices() -> HitDevices
     }
 }
 
-/// Whether hits reach other rows.
-fn reaches_others(level: Level) -> bool
-    ensures { result ≡ reaches_others level }
+/// Whether both have a group, and one and the same.
+fn are_same_group(one: Option<Serial>, other: Option<Serial>) -> bool
+    ensures { result ≡ are_same_group one other }
 {
-    match level {
-        Level::Session => true,
-        Level::Volume => false,
+    match one {
+        Some(one) => match other {
+            Some(other) => one == other,
+            None => false,
+        },
+        None => false,
     }
 }
 
-/// Whether hits of these devices reach the row of a device.
-fn reaches(level: Level, hit: &HitDevices, device: usize) -> bool
-    requires { device < MOST_SITE_VOLUMES }
-    ensures { result ≡ ((reaches_others level && hit.now.any) && not (slice_index_or hit.now.are device false)) }
+/// Whether a row's device is hit, and the row has the group of another row.
+fn is_hit_in_group(hit: &HitDevices, like: &PairRow, row: &PairRow) -> bool
+    requires { row.now.device < MOST_SITE_VOLUMES }
+    ensures { result ≡ is_hit_in_group hit.now like.now.group row.now }
 {
-    reaches_others(level) && hit.any && !hit.are[device]
+    hit.are[usize::from(row.device)] && are_same_group(row.group, like.group)
 }
 
-/// Of each device, whether the hits of a mark or those after it reach its row.
-fn reached_devices(level: Level, marked: &HitDevices, hit: &HitDevices) -> [bool; MOST_SITE_VOLUMES]
-    ensures { (was now : List ℕ) → AreDevices was marked.now → AreDevices now hit.now → AreReached level was now result }
+/// Whether a row of one of the devices that are hit has the group of a row.
+fn is_group_hit(table: &PairTable, hit: &HitDevices, like: &PairRow) -> bool
+    requires { IsTrue (are_below MOST_SITE_VOLUMES table.now.rows) }
+    ensures { result ≡ list_any (is_hit_in_group hit.now like.now.group) table.now.rows }
+{
+    for row in table.rows() {
+        if is_hit_in_group(hit, like, row) {
+            return true;
+        }
+    }
+    false
+}
+
+/// The cause by which hits suspend the rows that they reach.
+fn reach_cause(level: Level) -> SuspendCause
+    ensures { (rows : List Row) → result ≡ (reach_of level rows).cause }
+{
+    match level {
+        Level::Volume | Level::Session => SuspendCause::Session,
+        Level::Group => SuspendCause::Group,
+    }
+}
+
+/// Whether hits of these devices, if there are some, reach a row of the table at a level.
+fn reaches_at(level: Level, table: &PairTable, hit: &HitDevices, row: &PairRow) -> bool
+    requires below { IsTrue (are_below MOST_SITE_VOLUMES table.now.rows) }
+    requires row { row.now.device < MOST_SITE_VOLUMES }
+    ensures { result ≡ reaches_at level table.now.rows hit.now row.now }
+{
+    match level {
+        Level::Volume => false,
+        Level::Session => !hit.are[usize::from(row.device)],
+        Level::Group => !hit.are[usize::from(row.device)] && is_group_hit(table, hit, row),
+    }
+}
+
+/// Whether hits of these devices reach a row of the table.
+fn reaches(level: Level, table: &PairTable, hit: &HitDevices, row: &PairRow) -> bool
+    requires below { IsTrue (are_below MOST_SITE_VOLUMES table.now.rows) }
+    requires row { row.now.device < MOST_SITE_VOLUMES }
+    ensures { result ≡ (hit.now.any && reaches_at level table.now.rows hit.now row.now) }
+{
+    hit.any && reaches_at(level, table, hit, row)
+}
+
+/// Of the device of each row, whether the hits of a mark or those after it reach the row.
+fn reached_devices(
+    level: Level,
+    table: &PairTable,
+    marked: &HitDevices,
+    hit: &HitDevices,
+) -> [bool; MOST_SITE_VOLUMES]
+    requires { IsTrue (are_below MOST_SITE_VOLUMES table.now.rows) }
+    ensures { (was now : List ℕ) → AreDevices was marked.now → AreDevices now hit.now → AreReached level was now table.now.rows result }
 {
     let mut reached = [false; MOST_SITE_VOLUMES];
-    for device in 0..MOST_SITE_VOLUMES {
-        let by_mark = reaches(level, marked, device);
-        let by_hit = reaches(level, hit, device);
+    for row in table.rows() {
+        let by_mark = reaches(level, table, marked, row);
+        let by_hit = reaches(level, table, hit, row);
+        let device = usize::from(row.device);
         reached[device] = either(by_mark, by_hit);
     }
     reached
@@ -155,10 +214,12 @@ pub(crate) fn hits_after_mark<V>(
     ensures rules { AreRowsSound table.now.rows }
 {
     let hit = hit_devices(jobs, table);
-    let reached = reached_devices(level, marked, &hit);
+    let reached = reached_devices(level, table, marked, &hit);
+    let cause = reach_cause(level);
     Hits {
         devices: hit.are,
         reached,
+        cause,
         time,
     }
 }
@@ -189,7 +250,7 @@ impl Hits {
         let cause = if self.devices[usize::from(device)] {
             SuspendCause::Device
         } else if self.reached[usize::from(device)] && !state.is_suspended() {
-            SuspendCause::Session
+            self.cause
         } else {
             return None;
         };

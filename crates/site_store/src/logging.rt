@@ -56,7 +56,7 @@ impl<V> Site<V> {
     /// Logs a formed group by one record: an image of each track that has an entry, as the entries leave it, and the rows that
     /// change with the group. A row whose controller breaks is suspended since the break's time; else one whose plan is done becomes
     /// duplex, and one that waited is copied. Volumes that have failed by then have no image, and their rows are suspended since
-    /// the cut; under level SESSION every other row that isn't suspended is suspended with them.
+    /// the cut, with the rows that their failures reach under the session's level.
     ///
     /// Where the record doesn't fit the rest of the data set, a switch comes first. Where the next data set holds the spot of the
     /// mark that counts, a mark comes before the switch: it syncs the volumes that were written one after another, its rows tell

@@ -171,8 +171,8 @@ impl<V> Site<V> {
 
     /// Makes a mark at the spot of the next record. First the volumes that were written since the last mark and haven't failed are
     /// synced, side by side unless syncs are quick; then the other slot of the state is written, and then the mark. Its rows are those
-    /// of the table, in which each volume that has failed by then has its row suspended since the site's time, and under level SESSION
-    /// every other row with it.
+    /// of the table, in which each volume that has failed by then has its row suspended since the site's time, with the rows
+    /// that its failure reaches under the session's level.
     ///
     /// `Spent` comes exactly where the mark's number would be 2^64 - 1; nothing is called then. A `Fault` names the state or the
     /// control. After an error the site may not be used again.

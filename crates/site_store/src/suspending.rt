@@ -30,7 +30,7 @@ impl<V> Site<V> {
     }
 
     /// Logs the suspensions that failed jobs call for, by one record at a cut: the row of each volume that has failed and isn't told
-    /// yet, and under level SESSION every other row that isn't suspended. Where no job failed anew, nothing is called.
+    /// yet, and the other rows that these failures reach under the session's level. Where no job failed anew, nothing is called.
     ///
     /// Where the record doesn't fit the rest of the data set, a switch comes first. Where the next data set holds the spot of the
     /// mark that counts, a mark is made in place of the record: it tells the suspensions, since the site's time, those of its own

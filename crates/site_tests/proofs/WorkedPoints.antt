@@ -1,6 +1,6 @@
 -- The worked points come one from another.
 use Rattle.std.proofs.Common.{ℕ, ◌≤◌, Bool, true, false, true≢false, cond, List, [], ◌∷◌, refl, sym, ap, arith}
-use Rattle.std.specs.Prelude.{◌==◌, codes}
+use Rattle.std.specs.Prelude.{◌==◌, None, codes}
 use Rattle.std.specs.List.{list_any}
 use Rattle.std.proofs.lemmas.List.Sums.{sum_by-cons}
 use Rattle.pair_table.specs.declared.command.Choice.TheVariants.{One}
@@ -30,7 +30,7 @@ resumed_row = record {
           refl,
           refl,
           record {
-            line = line_asking 0x60 (AddPair (codes "PRIM01") (codes "SEC001"));
+            line = line_asking 0x60 (AddPair (codes "PRIM01") (codes "SEC001") None);
             heard = refl;
             stand = refl;
             recorded = λ on same. refl;

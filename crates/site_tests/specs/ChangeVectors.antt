@@ -7,7 +7,7 @@ use Rattle.row_changes.specs.Changes.{RowChange, Timed}
 
 -- two pairs of two controllers, and a change at a time
 abbrev pub second_row : PairState → PairRow
-second_row state = record { primary = codes "PRIM02"; secondary = codes "SEC002"; control = 1; volume = 0; device = 1; cylinders = 1; state = state }
+second_row state = record { primary = codes "PRIM02"; secondary = codes "SEC002"; control = 1; volume = 0; device = 1; cylinders = 1; state = state; group = None }
 
 abbrev pub two_rows : PairState → PairState → List PairRow
 two_rows one two = first_row one ∷ second_row two ∷ []

@@ -5,6 +5,7 @@ use Rattle.ckd_track.specs.declared.write.Kind.TheVariants.{Update}
 use Rattle.crash_plant.specs.declared.spot.Spot.{Spot}
 use Rattle.xrc_journal.specs.Items.{Item, Form, is_within}
 use Rattle.xrc_journal.specs.Items.Item.{Image, Delta}
+use Rattle.site_tests.specs.PairVectors.{first_bytes, narrow_bytes}
 
 abbrev pub spot : (set place number : ℕ) → Spot
 spot set place number = record { set = set; place = place; number = number }
@@ -28,6 +29,10 @@ image_item = Image 0 3 (record { number = 1; key = []; content = 90 ∷ 0 ∷ []
 -- Record 1, a group at 80 with that image, and the closed gate after it.
 abbrev pub group_bytes : List ℕ
 group_bytes = hex (codes "01 01 0000000000000001 0000000000000080 0000000F") ++ hex (codes "01 0000 00000003 0001010000025A00 00")
+
+-- Record 1, a group at 80 with the worked row in version 1 and in version 2, and the closed gate after it.
+abbrev pub rows_bytes : List ℕ
+rows_bytes = hex (codes "01 01 0000000000000001 0000000000000080 00000046") ++ 3 ∷ narrow_bytes ++ 5 ∷ first_bytes ++ 0 ∷ []
 
 -- Record 2, a switch at 80 to the data set 1.
 abbrev pub switch_bytes : List ℕ

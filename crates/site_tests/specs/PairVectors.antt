@@ -1,5 +1,5 @@
 -- A worked row and its bytes, and the names and tables of worked commands.
-use Rattle.std.specs.Prelude.{ℕ, List, [], ◌∷◌, true, false, codes}
+use Rattle.std.specs.Prelude.{ℕ, List, [], ◌∷◌, true, false, Some, None, codes}
 use Rattle.test_fixtures.specs.Hex.{hex}
 use Rattle.pair_table.specs.declared.names.NamedDevice.{NamedDevice}
 use Rattle.pair_table.specs.declared.names.NamedVolume.{NamedVolume}
@@ -10,11 +10,19 @@ use Rattle.pair_table.specs.Tables.{Table, new_table}
 
 -- PRIM01 and SEC001, the first volume of the first controller and the first device, of one cylinder
 abbrev pub first_row : PairState → PairRow
-first_row state = record { primary = codes "PRIM01"; secondary = codes "SEC001"; control = 0; volume = 0; device = 0; cylinders = 1; state = state }
+first_row state = record { primary = codes "PRIM01"; secondary = codes "SEC001"; control = 0; volume = 0; device = 0; cylinders = 1; state = state; group = None }
 
--- the row's 30 bytes, where it is duplex
+-- the row's 38 bytes, where it is duplex
 abbrev pub first_bytes : List ℕ
-first_bytes = hex (codes "5052494D3031 534543303031 0000 0000 0000 0001 02 00 0000000000000000")
+first_bytes = hex (codes "5052494D3031 534543303031 0000 0000 0000 00000001 02 00 0000000000000000 202020202020")
+
+-- its 30 bytes in version 1
+abbrev pub narrow_bytes : List ℕ
+narrow_bytes = hex (codes "5052494D3031 534543303031 0000 0000 0000 0001 02 00 0000000000000000")
+
+-- the same row in a group
+abbrev pub grouped_row : PairState → (group : List ℕ) → PairRow
+grouped_row state group = record (first_row state) { group = Some group }
 
 -- ---- names and tables of commands
 

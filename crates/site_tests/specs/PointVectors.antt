@@ -30,10 +30,10 @@ use Rattle.consistency.specs.Ways.Way.{Commanded, Ending, MarkedFor, OnTheWay}
 -- ---- two controllers, each with one volume of one cylinder, and two devices
 
 abbrev pub worked_row : PairState → PairRow
-worked_row state = record { primary = codes "PRIM01"; secondary = codes "SEC001"; control = 0; volume = 0; device = 0; cylinders = 1; state = state }
+worked_row state = record { primary = codes "PRIM01"; secondary = codes "SEC001"; control = 0; volume = 0; device = 0; cylinders = 1; state = state; group = None }
 
 abbrev pub other_worked_row : PairState → PairRow
-other_worked_row state = record { primary = codes "PRIM02"; secondary = codes "SEC002"; control = 1; volume = 0; device = 1; cylinders = 1; state = state }
+other_worked_row state = record { primary = codes "PRIM02"; secondary = codes "SEC002"; control = 1; volume = 0; device = 1; cylinders = 1; state = state; group = None }
 
 abbrev pub one_volume_trace : (serial : List ℕ) → List Entry → TraceEnd → Trace
 one_volume_trace serial entries end = record { header = record { version = 1; volumes = record { serial = serial; cylinders = 1 } ∷ []; base = [] }; entries = entries; end = end }
@@ -73,7 +73,7 @@ resumed_run = worked_session VolumeLevel (one_volume_trace (codes "PRIM01")
 
 abbrev pub resumed_asked : (line : ℕ) → Option Line
 resumed_asked line =
-    if line == 1 then Some (line_asking 0x60 (AddPair (codes "PRIM01") (codes "SEC001")))
+    if line == 1 then Some (line_asking 0x60 (AddPair (codes "PRIM01") (codes "SEC001") None))
     else if line == 2 then Some (line_asking 0x100 (Suspend (One (codes "PRIM01") (codes "SEC001"))))
     else None
 

@@ -1,5 +1,5 @@
 -- What worked records and marks name: two pairs of one controller, and groups.
-use Rattle.std.specs.Prelude.{ℕ, List, [], ◌∷◌, true, false, Bool, codes}
+use Rattle.std.specs.Prelude.{ℕ, List, [], ◌∷◌, true, false, Bool, Option, Some, None, codes}
 use Rattle.tod_stamp.specs.declared.stamp.Stamp.{Stamp}
 use Rattle.ckd_track.specs.declared.write.Cause.TheVariants.{ReadFault}
 use Rattle.pair_table.specs.declared.row.PairRow.{PairRow}
@@ -12,13 +12,41 @@ use Rattle.site_tests.specs.PairVectors.{first_row}
 
 -- the second volume of the first controller, with the second device
 abbrev pub beside_row : PairState → PairRow
-beside_row state = record { primary = codes "PRIM02"; secondary = codes "SEC002"; control = 0; volume = 1; device = 1; cylinders = 1; state = state }
+beside_row state = record { primary = codes "PRIM02"; secondary = codes "SEC002"; control = 0; volume = 1; device = 1; cylinders = 1; state = state; group = None }
 
 abbrev pub rows_beside : PairState → PairState → List PairRow
 rows_beside one two = first_row one ∷ beside_row two ∷ []
 
 abbrev pub duplex_rows : List PairRow
 duplex_rows = rows_beside Duplex Duplex
+
+-- three pairs, of which the first two are of one group
+abbrev pub in_group : Option (List ℕ) → PairRow → PairRow
+in_group group r = record r { group = group }
+
+abbrev pub third_row : PairState → PairRow
+third_row state = record { primary = codes "PRIM03"; secondary = codes "SEC003"; control = 0; volume = 2; device = 2; cylinders = 1; state = state; group = None }
+
+abbrev pub grouped_rows : PairState → PairState → PairState → List PairRow
+grouped_rows one two three = in_group (Some (codes "DB1")) (first_row one) ∷ in_group (Some (codes "DB1")) (beside_row two) ∷ third_row three ∷ []
+
+abbrev pub first_failed : List Bool
+first_failed = true ∷ []
+
+abbrev pub third_failed : List Bool
+third_failed = false ∷ false ∷ true ∷ []
+
+-- two groups of two pairs each
+abbrev pub fourth_row : PairState → PairRow
+fourth_row state = record { primary = codes "PRIM04"; secondary = codes "SEC004"; control = 0; volume = 3; device = 3; cylinders = 1; state = state; group = None }
+
+abbrev pub two_groups : PairState → PairState → PairState → PairState → List PairRow
+two_groups one two three four =
+    in_group (Some (codes "DB1")) (first_row one) ∷ in_group (Some (codes "DB1")) (beside_row two)
+    ∷ in_group (Some (codes "DB2")) (third_row three) ∷ in_group (Some (codes "DB2")) (fourth_row four) ∷ []
+
+abbrev pub first_and_third_failed : List Bool
+first_and_third_failed = true ∷ false ∷ true ∷ []
 
 -- the second pair suspended by its device
 abbrev pub second_out : (time : ℕ) → List PairRow

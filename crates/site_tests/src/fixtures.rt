@@ -42,6 +42,7 @@ pub(crate) fn first_row(rt: &impl Abort, volume: u16) -> PairRow
         device: 0,
         cylinders: 1,
         state: PairState::Duplex,
+        group: None,
     }
 }
 
@@ -64,6 +65,7 @@ pub(crate) fn second_row(
         device,
         cylinders,
         state,
+        group: None,
     }
 }
 

@@ -1,14 +1,17 @@
 //! Worked records: what the definitions give for them.
 
 ghost use Rattle.std.specs.Prelude.{◌≡◌, ◌∷◌, ◌++◌, [], slice_set};
-ghost use Rattle.xrc_journal.specs.Items.Item.{Gone};
+ghost use Rattle.pair_table.specs.declared.row.PairState.TheVariants.{Duplex};
+ghost use Rattle.xrc_journal.specs.Items.Item.{Gone, Pair};
 ghost use Rattle.xrc_journal.specs.Records.{group_spelling, switch_spelling, walk_one};
 ghost use Rattle.xrc_journal.specs.Records.Found.{End, Group, Switch, Damaged};
-ghost use Rattle.site_tests.specs.JournalVectors.{and_deltas, and_zeros, delta_item, group_bytes, image_item, one_volume, spot, switch_bytes};
+ghost use Rattle.site_tests.specs.JournalVectors.{and_deltas, and_zeros, delta_item, group_bytes, image_item, one_volume, rows_bytes, spot, switch_bytes};
+ghost use Rattle.site_tests.specs.PairVectors.{first_row};
 
 /// Their spellings.
 pub fn spelled_records()
     ensures group { group_bytes ≡ 1 ∷ group_spelling 1 0x80 (image_item ∷ []) ++ 0 ∷ [] }
+    ensures rows { rows_bytes ≡ 1 ∷ group_spelling 1 0x80 (Pair 1 (first_row Duplex) ∷ Pair 2 (first_row Duplex) ∷ []) ++ 0 ∷ [] }
     ensures switch { switch_bytes ≡ 1 ∷ switch_spelling 2 0x80 1 }
 {}
 
@@ -29,6 +32,9 @@ pub fn walked_groups()
     ensures no_slot { walk_one (one_volume 229887) 2 (and_zeros group_bytes) (spot 0 0 1) 0x50 ≡ Damaged 22 [] }
     ensures twice { walk_one (one_volume 229888) 2 (and_zeros (1 ∷ group_spelling 1 0x80 (image_item ∷ image_item ∷ []) ++ 0 ∷ [])) (spot 0 0 1) 0x50 ≡ Damaged 37 (image_item ∷ []) }
     ensures late { walk_one (one_volume 229888) 2 (and_zeros (1 ∷ group_spelling 1 0x80 (Gone 5 ∷ image_item ∷ []) ++ 0 ∷ [])) (spot 0 0 1) 0x50 ≡ Damaged 25 (Gone 5 ∷ []) }
+    ensures rows { walk_one (one_volume 229888) 2 (and_zeros rows_bytes) (spot 0 0 1) 0x50 ≡ Group 0x80 (Pair 1 (first_row Duplex) ∷ Pair 2 (first_row Duplex) ∷ []) (spot 0 92 2) }
+    ensures bad_row { walk_one (one_volume 229888) 2 (and_zeros (slice_set rows_bytes 43 4)) (spot 0 0 1) 0x50 ≡ Damaged 22 [] }
+    ensures bad_wide_row { walk_one (one_volume 229888) 2 (and_zeros (slice_set rows_bytes 76 4)) (spot 0 0 1) 0x50 ≡ Damaged 53 (Pair 1 (first_row Duplex) ∷ []) }
     ensures no_deltas { walk_one (one_volume 229888) 2 (and_zeros (1 ∷ group_spelling 1 0x80 (image_item ∷ delta_item ∷ []) ++ 0 ∷ [])) (spot 0 0 1) 0x50 ≡ Damaged 37 (image_item ∷ []) }
     ensures deltas { walk_one (and_deltas (one_volume 229888)) 2 (and_zeros (1 ∷ group_spelling 1 0x80 (image_item ∷ delta_item ∷ []) ++ 0 ∷ [])) (spot 0 0 1) 0x50 ≡ Group 0x80 (image_item ∷ delta_item ∷ []) (spot 0 49 2) }
 {}

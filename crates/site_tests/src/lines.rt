@@ -38,12 +38,28 @@ fn start(level: Level) -> Command {
 fn add_pair(rt: &impl Abort) -> Command {
     let primary = serial(rt, b"PRIM01");
     let secondary = serial(rt, b"@#$9");
-    Command::AddPair { primary, secondary }
+    Command::AddPair {
+        primary,
+        secondary,
+        group: None,
+    }
+}
+
+/// The same in the group DB1.
+fn add_grouped(rt: &impl Abort) -> Command {
+    let primary = serial(rt, b"PRIM01");
+    let secondary = serial(rt, b"@#$9");
+    let group = Some(serial(rt, b"DB1"));
+    Command::AddPair {
+        primary,
+        secondary,
+        group,
+    }
 }
 
 #[test]
 fn every_form_is_read(rt: HostRuntime) {
-    let rows: [(&[u8], Command); 11] = [
+    let rows: [(&[u8], Command); 13] = [
         (b"00000000000000aB XSTART ABC", start(Level::Volume)),
         (
             b"00000000000000AB XSTART ABC ERRORLEVEL(VOLUME)",
@@ -54,8 +70,16 @@ fn every_form_is_read(rt: HostRuntime) {
             start(Level::Session),
         ),
         (
+            b"00000000000000ab XSTART ABC ERRORLEVEL(GROUP)",
+            start(Level::Group),
+        ),
+        (
             b"00000000000000Ab XADDPAIR ABC VOLUME(PRIM01,@#$9)",
             add_pair(&rt),
+        ),
+        (
+            b"00000000000000Ab XADDPAIR ABC VOLUME(PRIM01,@#$9) GROUP(DB1)",
+            add_grouped(&rt),
         ),
         (
             b"00000000000000aB XDELPAIR ABC VOLUME(PRIM01,SEC001)",
@@ -86,18 +110,23 @@ fn every_form_is_read(rt: HostRuntime) {
 }
 
 #[test]
-fn the_longest_line_has_56_bytes(rt: HostRuntime) {
-    let bytes = b"FFFFFFFFFFFFFFFF XSUSPEND SESSION1 VOLUME(PRIM01,SEC001)".as_slice();
+fn the_longest_line_has_70_bytes(rt: HostRuntime) {
+    let bytes =
+        b"FFFFFFFFFFFFFFFF XADDPAIR SESSION1 VOLUME(PRIM01,SEC001) GROUP(GROUP1)".as_slice();
     let line = Line {
         time: Stamp(u64::MAX),
         session: Session::read(b"SESSION1").expect(&rt, "a name"),
-        command: Command::Suspend(one(&rt, b"PRIM01", b"SEC001")),
+        command: Command::AddPair {
+            primary: serial(&rt, b"PRIM01"),
+            secondary: serial(&rt, b"SEC001"),
+            group: Some(serial(&rt, b"GROUP1")),
+        },
     };
     let found = (bytes.len(), read_line(bytes));
-    assert_same(&rt, &found, &(56, Some(line)), &"the longest");
+    assert_same(&rt, &found, &(70, Some(line)), &"the longest");
 }
 
-const OTHERS: [&[u8]; 8] = [
+const OTHERS: [&[u8]; 14] = [
     &[b'0'; 257],
     b"0000000000000050 XEND ABC\n",
     b"0000000000000050 XSTOP ABC",
@@ -106,6 +135,12 @@ const OTHERS: [&[u8]; 8] = [
     b"0000000000000050 XSTART ABC ERRORLEVEL(SESSION",
     b"0000000000000050 XDELPAIR ABC VOLUME(ALL",
     b"0000000000000050 XSUSPEND ABC VOLUME(PRIM01,)",
+    b"0000000000000050 XSUSPEND ABC VOLUME(PRIM01,SEC001) GROUP(DB1)",
+    b"0000000000000050 XADDPAIR ABC VOLUME(PRIM01,SEC001) GROUP()",
+    b"0000000000000050 XADDPAIR ABC VOLUME(PRIM01,SEC001) GROUP(TOOLONG)",
+    b"0000000000000050 XADDPAIR ABC VOLUME(PRIM01,SEC001)  GROUP(DB1)",
+    b"0000000000000050 XADDPAIR ABC VOLUME(PRIM01,SEC001) GROUP(DB1",
+    b"0000000000000050 XADDPAIR ABC VOLUME(PRIM01,SEC001) GROUP(DB1) ",
 ];
 
 #[test]

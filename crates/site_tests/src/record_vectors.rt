@@ -1,9 +1,9 @@
 //! Worked rows after records and marks: what the definitions give for them.
 
 ghost use Rattle.std.specs.Prelude.{◌≡◌, ◌∷◌, [], true, false, Some};
-ghost use Rattle.pair_table.specs.declared.level.Level.TheVariants.{Session, Volume};
+ghost use Rattle.pair_table.specs.declared.level.Level.TheVariants.{Group, Session, Volume};
 ghost use Rattle.pair_table.specs.declared.row.PairState.TheVariants.{Copy, Duplex, Pending};
-ghost use Rattle.pair_table.specs.declared.row.SuspendCause.TheVariants.{Command as ByCommand, Control as ByControl, Device as ByDevice, Session as BySession};
+ghost use Rattle.pair_table.specs.declared.row.SuspendCause.TheVariants.{Command as ByCommand, Control as ByControl, Device as ByDevice, Group as ByGroup, Session as BySession};
 ghost use Rattle.row_changes.specs.Changes.RowChange.{Break, Hit, Mature, Reached};
 ghost use Rattle.row_changes.specs.Changes.Due.{NoneDue};
 ghost use Rattle.row_changes.specs.Changes.{may_all_come, reach_of, since};
@@ -12,7 +12,7 @@ ghost use Rattle.record_rows.specs.GroupRows.{rows_with_group};
 ghost use Rattle.record_rows.specs.Hits.{hit_now, rows_marked};
 ghost use Rattle.record_rows.specs.Records.{changes_after_mark, record_changes, rows_after_mark, rows_with_hits, rows_with_record};
 ghost use Rattle.site_tests.specs.ChangeVectors.{at_time, no_breaks};
-ghost use Rattle.site_tests.specs.RecordVectors.{beside_row, both_failed, broken_group, done_group, duplex_rows, group_cut_at, rows_beside, second_failed, second_out};
+ghost use Rattle.site_tests.specs.RecordVectors.{beside_row, both_failed, broken_group, done_group, duplex_rows, first_and_third_failed, first_failed, group_cut_at, grouped_rows, rows_beside, second_failed, second_out, third_failed, two_groups};
 
 /// The second volume fails while the group of [80] is formed. Its pair is suspended since that cut, and under level SESSION the
 /// other one too.
@@ -50,4 +50,16 @@ pub fn failing_with_group()
     ensures done_at_once { rows_with_group done_group (rows_beside Duplex Pending) ≡ duplex_rows }
     ensures matured_and_hit { rows_with_record Volume done_group second_failed (rows_beside Pending Copy) ≡ rows_beside Copy (since ByDevice 0x6D) }
     ensures mature_first { record_changes done_group [] (rows_beside Pending Copy) ≡ at_time 0x6D (Mature 0 Copy) ∷ at_time 0x6D (Mature 1 Duplex) ∷ [] }
+{}
+
+/// Under level GROUP a failing volume suspends the pairs of its group, and one without a group is suspended alone.
+pub fn failing_in_group()
+    ensures reached { rows_with_record Group (group_cut_at 0x80) first_failed (grouped_rows Duplex Duplex Duplex) ≡ grouped_rows (since ByDevice 0x80) (since ByGroup 0x80) Duplex }
+    ensures alone { rows_with_record Group (group_cut_at 0x80) third_failed (grouped_rows Duplex Duplex Duplex) ≡ grouped_rows Duplex Duplex (since ByDevice 0x80) }
+    ensures suspended_stays { rows_with_record Group (group_cut_at 0x80) first_failed (grouped_rows Duplex (since ByCommand 0x60) Duplex) ≡ grouped_rows (since ByDevice 0x80) (since ByCommand 0x60) Duplex }
+    ensures no_effect { rows_with_record Volume (group_cut_at 0x80) first_failed (grouped_rows Duplex Duplex Duplex) ≡ grouped_rows (since ByDevice 0x80) Duplex Duplex }
+    ensures all { rows_with_record Session (group_cut_at 0x80) first_failed (grouped_rows Duplex Duplex Duplex) ≡ grouped_rows (since ByDevice 0x80) (since BySession 0x80) (since BySession 0x80) }
+    ensures two { rows_with_record Group (group_cut_at 0x80) first_and_third_failed (two_groups Duplex Duplex Duplex Duplex) ≡ two_groups (since ByDevice 0x80) (since ByGroup 0x80) (since ByDevice 0x80) (since ByGroup 0x80) }
+    ensures due_and_hit { rows_after_mark Group (0 ∷ []) (group_cut_at 0x80) first_and_third_failed (two_groups (since ByDevice 0x70) Duplex Duplex Duplex) ≡ two_groups (since ByDevice 0x70) (since ByGroup 0x80) (since ByDevice 0x80) (since ByGroup 0x80) }
+    ensures due_changes { changes_after_mark Group (0 ∷ []) (group_cut_at 0x80) first_and_third_failed (two_groups (since ByDevice 0x70) Duplex Duplex Duplex) ≡ at_time 0x80 (Reached (0 ∷ [])) ∷ at_time 0x80 (Hit (2 ∷ [])) ∷ [] }
 {}

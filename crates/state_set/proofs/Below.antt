@@ -19,22 +19,29 @@ kept_rows volumes (Some found) rows e = by_rule (are_rows volumes found) refl e
     by_rule false is e = absurd cc
 
 -- the rows of a slot keep the rules over several rows and over the plant
-pub state_rows : (volumes : ℕ) (session bytes : List ℕ) (s : Stored) → state_at volumes session bytes ≡ Some s → are_rows volumes s.rows ≡ true
-state_rows volumes session bytes s e = by_title (has_title session bytes) e
+slot_rows : (version volumes : ℕ) (bytes : List ℕ) (s : Stored) → slot_fields version volumes bytes ≡ Some s → are_rows volumes s.rows ≡ true
+slot_rows version volumes bytes s e = by_level (level_of_number version (slice_index bytes 12)) e
   where
-    by_rows : (level : Level) (o : Option (List PairRow)) → rows_in volumes (from_be_bytes w16 (slice_range bytes 13 15)) (drop 15 bytes) ≡ o → (o >>= (λ rows. Some (record { level = level; rows = rows }))) ≡ Some s → are_rows volumes s.rows ≡ true
+    count : ℕ
+    count = from_be_bytes w16 (slice_range bytes 13 15)
+
+    by_rows : (level : Level) (o : Option (List PairRow)) → rows_in version volumes count (drop 15 bytes) ≡ o → (o >>= (λ rows. Some (record { level = level; rows = rows }))) ≡ Some s → are_rows volumes s.rows ≡ true
     by_rows level None is e = absurd cc
     by_rows level (Some rows) is e =
         let same = same_Some (record { level = level; rows = rows }) s e in
-        ap (λ (k : Stored). are_rows volumes k.rows) (sym same) ∙ kept_rows volumes (rows_at (from_be_bytes w16 (slice_range bytes 13 15)) (drop 15 bytes)) rows is
+        ap (λ (k : Stored). are_rows volumes k.rows) (sym same) ∙ kept_rows volumes (rows_at version count (drop 15 bytes)) rows is
 
-    by_level : (o : Option Level) → (o >>= (λ level. rows_in volumes (from_be_bytes w16 (slice_range bytes 13 15)) (drop 15 bytes) >>= (λ rows. Some (record { level = level; rows = rows })))) ≡ Some s → are_rows volumes s.rows ≡ true
+    by_level : (o : Option Level) → (o >>= (λ level. rows_in version volumes count (drop 15 bytes) >>= (λ rows. Some (record { level = level; rows = rows })))) ≡ Some s → are_rows volumes s.rows ≡ true
     by_level None e = absurd cc
-    by_level (Some level) e = by_rows level (rows_in volumes (from_be_bytes w16 (slice_range bytes 13 15)) (drop 15 bytes)) refl e
+    by_level (Some level) e = by_rows level (rows_in version volumes count (drop 15 bytes)) refl e
 
-    by_title : (titled : Bool) → cond titled (slot_fields volumes bytes) None ≡ Some s → are_rows volumes s.rows ≡ true
-    by_title true e = by_level (level_of_number (slice_index bytes 12)) e
-    by_title false e = absurd cc
+pub state_rows : (volumes : ℕ) (session bytes : List ℕ) (s : Stored) → state_at volumes session bytes ≡ Some s → are_rows volumes s.rows ≡ true
+state_rows volumes session bytes s e = by_titles (has_title 2 session bytes) (has_title 1 session bytes) e
+  where
+    by_titles : (second first : Bool) → cond second (slot_fields 2 volumes bytes) (cond first (slot_fields 1 volumes bytes) None) ≡ Some s → are_rows volumes s.rows ≡ true
+    by_titles true first e = slot_rows 2 volumes bytes s e
+    by_titles false true e = slot_rows 1 volumes bytes s e
+    by_titles false false e = absurd cc
 
 -- those of a table that was read are below
 pub found_below : (volumes : ℕ) (session bytes : List ℕ) (found : Level × Table) → Some found ≡ option_map (with_table session) (state_at volumes session bytes) → are_below volumes found.1.rows ≡ true

@@ -1,5 +1,5 @@
 -- What a slot's bytes hold, from their fields.
-use Rattle.std.proofs.Common.{◌≡◌, ℕ, ◌≤◌, ◌<◌, true, false, ◌&&◌, List, length, take, drop, slice_index, option_map, Option, Some, None, refl, ap, ◌∙◌, arith}
+use Rattle.std.proofs.Common.{◌≡◌, ℕ, ◌≤◌, ◌<◌, true, false, List, length, take, drop, slice_index, option_map, Option, Some, None, refl, ap, arith}
 use Rattle.std.specs.Prelude.{slice_range, bytes_eq}
 use Rattle.std.specs.Int.{w16, from_be_bytes}
 use Rattle.std.proofs.lemmas.Bool.{le-leb}
@@ -18,29 +18,37 @@ with_level level None = None
 with_level level (Some rows) = Some (record { level = level; rows = rows })
 
 -- more than 64 rows are none
-pub too_many : (volumes count : ℕ) (bytes : List ℕ) → 64 < count → rows_in volumes count bytes ≡ None
-too_many volumes count bytes many = by_rows (rows_at count bytes) refl
+pub too_many : (version volumes count : ℕ) (bytes : List ℕ) → 64 < count → rows_in version volumes count bytes ≡ None
+too_many version volumes count bytes many = by_rows (rows_at version count bytes) refl
   where
-    by_rows : (o : Option (List PairRow)) → rows_at count bytes ≡ o → kept volumes o ≡ None
+    by_rows : (o : Option (List PairRow)) → rows_at version count bytes ≡ o → kept volumes o ≡ None
     by_rows None e = refl
     by_rows (Some rows) e =
-        let long = rows_count count bytes rows e in
+        let long = rows_count version count bytes rows e in
         rw (not_then (are_rows volumes rows) false (λ are. absurd (omega (arith, (rows_parts volumes rows are).few, long, many))) refl) refl
 
-module _ (volumes : ℕ) (session bytes : List ℕ) where
-  module _ (long : 15 ≤ length bytes) (titled : bytes_eq (title session) (take 12 bytes) ≡ true) where
-    pub is_fields : state_at volumes session bytes ≡ slot_fields volumes bytes
-    is_fields = rw (le-leb 15 (length bytes) long, titled) refl
+module _ (version volumes : ℕ) (bytes : List ℕ) where
+  pub no_level : level_of_number version (slice_index bytes 12) ≡ None → slot_fields version volumes bytes ≡ None
+  no_level e = rw e refl
 
-    pub no_level : level_of_number (slice_index bytes 12) ≡ None → state_at volumes session bytes ≡ None
-    no_level e = is_fields ∙ rw e refl
+  pub of_level : (level : Level) → level_of_number version (slice_index bytes 12) ≡ Some level → slot_fields version volumes bytes ≡ with_level level (rows_in version volumes (from_be_bytes w16 (slice_range bytes 13 15)) (drop 15 bytes))
+  of_level level e = rw e (by_rows (rows_in version volumes (from_be_bytes w16 (slice_range bytes 13 15)) (drop 15 bytes)))
+    where
+      by_rows : (o : Option (List PairRow)) → (o >>= (λ rows. Some (record { level = level; rows = rows }))) ≡ with_level level o
+      by_rows None = refl
+      by_rows (Some rows) = refl
 
-    pub of_level : (level : Level) → level_of_number (slice_index bytes 12) ≡ Some level → state_at volumes session bytes ≡ with_level level (rows_in volumes (from_be_bytes w16 (slice_range bytes 13 15)) (drop 15 bytes))
-    of_level level e = is_fields ∙ rw e (by_rows (rows_in volumes (from_be_bytes w16 (slice_range bytes 13 15)) (drop 15 bytes)))
-      where
-        by_rows : (o : Option (List PairRow)) → (o >>= (λ rows. Some (record { level = level; rows = rows }))) ≡ with_level level o
-        by_rows None = refl
-        by_rows (Some rows) = refl
+-- ---- the versions
+
+module _ (volumes : ℕ) (session bytes : List ℕ) (long : 15 ≤ length bytes) where
+  pub is_second : bytes_eq (title 2 session) (take 12 bytes) ≡ true → state_at volumes session bytes ≡ slot_fields 2 volumes bytes
+  is_second two = rw (le-leb 15 (length bytes) long, two) refl
+
+  pub is_first : bytes_eq (title 2 session) (take 12 bytes) ≡ false → bytes_eq (title 1 session) (take 12 bytes) ≡ true → state_at volumes session bytes ≡ slot_fields 1 volumes bytes
+  is_first two one = rw (le-leb 15 (length bytes) long, two, one) refl
+
+  pub is_none : bytes_eq (title 2 session) (take 12 bytes) ≡ false → bytes_eq (title 1 session) (take 12 bytes) ≡ false → state_at volumes session bytes ≡ None
+  is_none two one = rw (le-leb 15 (length bytes) long, two, one) refl
 
 -- ---- tables
 

@@ -7,9 +7,9 @@ use Rattle.std.specs.Int.{w16, to_be_bytes, from_be_bytes}
 use Rattle.tod_stamp.specs.Names.{session_field}
 use Rattle.crash_plant.specs.Bytes.{Torn}
 use Rattle.pair_table.specs.declared.level.Level.{Level}
-use Rattle.pair_table.specs.declared.level.Level.TheVariants.{Volume, Session}
+use Rattle.pair_table.specs.declared.level.Level.TheVariants.{Volume, Session, Group}
 use Rattle.pair_table.specs.declared.row.PairRow.{PairRow}
-use Rattle.pair_table.specs.Rows.{row_spelling, row_at}
+use Rattle.pair_table.specs.Rows.{row_by, row_length, row_text}
 use Rattle.pair_table.specs.Tables.{Table, are_below, most_rows, none_clash}
 use Rattle.tod_stamp.specs.Options.{◌>>=◌}
 
@@ -22,29 +22,38 @@ pub record Stored : Type 0 where
 abbrev pub state_slot_place : (slot : ℕ) → ℕ
 state_slot_place slot = SLOT * slot
 
--- ---- the spelling
+-- ---- the spelling in a version
 
--- the first 12 bytes
-abbrev pub title : (session : List ℕ) → List ℕ
-title session = codes "XST1" ++ session_field session
+-- the first 12 bytes, `XST1` or `XST2` and the session
+abbrev pub title : (version : ℕ) → (session : List ℕ) → List ℕ
+title version session = codes "XST" ++ (48 + version) ∷ session_field session
 
 abbrev pub level_number : Level → ℕ
 level_number Volume = 0
 level_number Session = 1
+level_number Group = 2
 
 -- the bytes before the rows
-abbrev pub head_spelling : (session : List ℕ) → Level → (count : ℕ) → List ℕ
-head_spelling session level count = title session ++ level_number level ∷ to_be_bytes w16 count
+abbrev pub head_spelling : (version : ℕ) → (session : List ℕ) → Level → (count : ℕ) → List ℕ
+head_spelling version session level count = title version session ++ level_number level ∷ to_be_bytes w16 count
 
 -- the rows
-abbrev pub rows_spelling : List PairRow → List ℕ
-rows_spelling rows = flat_map row_spelling rows
+abbrev pub rows_spelling : (version : ℕ) → List PairRow → List ℕ
+rows_spelling version rows = flat_map (row_text version) rows
 
 -- the bytes that a slot begins with
-abbrev pub slot_spelling : (session : List ℕ) → Level → List PairRow → List ℕ
-slot_spelling session level rows = head_spelling session level (length rows) ++ rows_spelling rows
+abbrev pub slot_text : (version : ℕ) → (session : List ℕ) → Level → List PairRow → List ℕ
+slot_text version session level rows = head_spelling version session level (length rows) ++ rows_spelling version rows
 
 -- how many they are
+abbrev pub slot_length : (version : ℕ) → List PairRow → ℕ
+slot_length version rows = HEAD + row_length version * length rows
+
+-- ---- what is written, in version 2
+
+abbrev pub slot_spelling : (session : List ℕ) → Level → List PairRow → List ℕ
+slot_spelling session level rows = slot_text 2 session level rows
+
 abbrev pub state_length : List PairRow → ℕ
 state_length rows = HEAD + ROW_LENGTH * length rows
 
@@ -56,15 +65,21 @@ are_rows volumes rows = nat_le (length rows) most_rows && none_clash rows && are
 
 -- ---- reading it
 
-abbrev pub level_of_number : (number : ℕ) → Option Level
-level_of_number n = if n == 0 then Some Volume else if n == 1 then Some Session else None
+-- Version 1 has no groups.
+abbrev pub is_level : (version : ℕ) → Level → Bool
+is_level version Volume = true
+is_level version Session = true
+is_level version Group = version == 2
+
+abbrev pub level_of_number : (version number : ℕ) → Option Level
+level_of_number version n = if n == 0 then Some Volume else if n == 1 then Some Session else if n == 2 && version == 2 then Some Group else None
 
 -- so many rows, each by itself
-abbrev pub rows_at : (count : ℕ) → List ℕ → Option (List PairRow)
-rows_at zero bytes = Some []
-rows_at (suc count) bytes = do
-  first ← row_at (take ROW_LENGTH bytes)
-  others ← rows_at count (drop ROW_LENGTH bytes)
+abbrev pub rows_at : (version count : ℕ) → List ℕ → Option (List PairRow)
+rows_at version zero bytes = Some []
+rows_at version (suc count) bytes = do
+  first ← row_by version (take (row_length version) bytes)
+  others ← rows_at version count (drop (row_length version) bytes)
   Some (first ∷ others)
 
 -- the rows, where together they keep the rules
@@ -72,23 +87,26 @@ abbrev pub kept : (volumes : ℕ) → Option (List PairRow) → Option (List Pai
 kept volumes None = None
 kept volumes (Some rows) = if are_rows volumes rows then Some rows else None
 
-abbrev pub rows_in : (volumes count : ℕ) → List ℕ → Option (List PairRow)
-rows_in volumes count bytes = kept volumes (rows_at count bytes)
+abbrev pub rows_in : (version volumes count : ℕ) → List ℕ → Option (List PairRow)
+rows_in version volumes count bytes = kept volumes (rows_at version count bytes)
 
--- whether the bytes reach to the rows, and begin as those of this session
-abbrev pub has_title : (session : List ℕ) → List ℕ → Bool
-has_title session bytes = nat_le HEAD (length bytes) && bytes_eq (title session) (take 12 bytes)
+-- whether the bytes reach to the rows, and begin as those of this version and this session
+abbrev pub has_title : (version : ℕ) → (session : List ℕ) → List ℕ → Bool
+has_title version session bytes = nat_le HEAD (length bytes) && bytes_eq (title version session) (take 12 bytes)
 
 -- the level and the rows of these bytes, of which those before the rows are there
-abbrev pub slot_fields : (volumes : ℕ) → List ℕ → Option Stored
-slot_fields volumes bytes = do
-  level ← level_of_number (slice_index bytes 12)
-  rows ← rows_in volumes (from_be_bytes w16 (slice_range bytes 13 HEAD)) (drop HEAD bytes)
+abbrev pub slot_fields : (version volumes : ℕ) → List ℕ → Option Stored
+slot_fields version volumes bytes = do
+  level ← level_of_number version (slice_index bytes 12)
+  rows ← rows_in version volumes (from_be_bytes w16 (slice_range bytes 13 HEAD)) (drop HEAD bytes)
   Some (record { level = level; rows = rows })
 
--- What the bytes hold of this session, if they begin with it. The volumes are those of the plant.
+-- What the bytes hold of this session, if they begin with it in either version. The volumes are those of the plant.
 abbrev pub state_at : (volumes : ℕ) → (session : List ℕ) → List ℕ → Option Stored
-state_at volumes session bytes = if has_title session bytes then slot_fields volumes bytes else None
+state_at volumes session bytes =
+    if has_title 2 session bytes then slot_fields 2 volumes bytes
+    else if has_title 1 session bytes then slot_fields 1 volumes bytes
+    else None
 
 -- What a slot of these bytes of the device holds of this session. A slot that breaks a rule is damaged at its first byte.
 abbrev pub state_of : (volumes : ℕ) → (session : List ℕ) → (slot : ℕ) → (state : List ℕ) → Result Stored ℕ

@@ -1,6 +1,7 @@
-//! The bytes of a state.
+//! The bytes of a state. It is written in version 2.
 
 ghost use Rattle.std.specs.Prelude.{◌≡◌, ◌≤◌, ◌<◌, ◌+◌, ◌*◌, length, take, drop, IsTrue};
+ghost use Rattle.tod_stamp.specs.Fields.{is_version};
 ghost use Rattle.tod_stamp.specs.Names.{is_session};
 ghost use Rattle.pair_table.specs.Tables.{AreRowsSound};
 ghost use Rattle.state_set.specs.Slots.{title, level_number, head_spelling, rows_spelling, slot_spelling, state_length};
@@ -10,14 +11,15 @@ use byteorder::{BigEndian, ByteOrder};
 use pair_table::{Level, PairTable, ROW_LENGTH, encode_row};
 use tod_stamp::Session;
 
-/// What the bytes of a session begin with.
-pub(crate) fn title(session: Session) -> [u8; 12]
-    ensures title { result ≡ title session }
+/// What the bytes of a session begin with in a version.
+pub(crate) fn title(version: u8, session: Session) -> [u8; 12]
+    requires { IsTrue (is_version version) }
+    ensures title { result ≡ title version session }
     ensures valid { IsTrue (is_session session) }
 {
-    let mut bytes = [0; 12];
+    let mut bytes = *b"XST0\0\0\0\0\0\0\0\0";
+    bytes[3] += version;
     bytes[4..].copy_from_slice(&session.field());
-    bytes[..4].copy_from_slice(b"XST1");
     bytes
 }
 
@@ -27,24 +29,25 @@ fn level_number(level: Level) -> u8
     match level {
         Level::Volume => 0,
         Level::Session => 1,
+        Level::Group => 2,
     }
 }
 
 fn head(session: Session, level: Level, count: u16) -> [u8; HEAD]
-    ensures head { result ≡ head_spelling session level count }
+    ensures head { result ≡ head_spelling 2 session level count }
     ensures valid { IsTrue (is_session session) }
 {
     let mut bytes = [0; HEAD];
     BigEndian::write_u16(&mut bytes[13..], count);
     bytes[12] = level_number(level);
-    bytes[..12].copy_from_slice(&title(session));
+    bytes[..12].copy_from_slice(&title(2, session));
     bytes
 }
 
 /// Writes all rows.
 fn put_rows(table: &PairTable, out: &mut [u8])
     requires { length out.old ≡ ROW_LENGTH * length table.now.rows }
-    ensures { out.new ≡ rows_spelling table.now.rows }
+    ensures { out.new ≡ rows_spelling 2 table.now.rows }
 {
     for (place, row) in table.rows().iter().enumerate() {
         let from = ROW_LENGTH * place;

@@ -72,10 +72,12 @@ fn add_one<P: Plant>(rt: &impl Abort, alloc: Global, plant: &mut P)
         device: 1,
         cylinders: 1,
         state: PairState::Pending,
+        group: None,
     };
     let command = Command::AddPair {
         primary: row.primary,
         secondary: row.secondary,
+        group: None,
     };
     let answer = site.command(alloc, &names, session(rt), &command, Stamp(0x60));
     assert!(rt; matches!(answer, Ok(Change::Added(1))));

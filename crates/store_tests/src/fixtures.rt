@@ -59,6 +59,7 @@ pub(crate) fn row(rt: &impl Abort, device: u16, cylinders: u32, state: PairState
         device,
         cylinders,
         state,
+        group: None,
     }
 }
 

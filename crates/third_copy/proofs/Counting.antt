@@ -166,6 +166,27 @@ module _ (tells : Type 0) (old two three new : PlantState) (means : Means) (shif
   not_copied : ((k : ℕ) × (slice_get jobs k ≡ Some (job_of means shift r)) × (is_among d failed ≡ false) → ⊥) → is_among d copied ≡ false
   not_copied none = elim (cases_Bool (is_among d copied)) [ inl is ↦ absurd (none (copied_job is)) | inr is ↦ is ]
 
+  own_free : (k : ℕ) (j : CopyJob) → slice_get jobs k ≡ Some j → ¬ HasRow j.target rows
+  own_free k j at has =
+      let own = are.each k j at in
+      own.target.free (subst (λ (v : ℕ). HasRow v rows) (ap (λ (q : CopyJob). q.target) own.is) has)
+
+  -- Where no job is its own, its volume isn't called after the redo.
+  source_unused : ((k : ℕ) (j : CopyJob) → slice_get jobs k ≡ Some j → j.source ≢ d) → new.faults (Volume d) ≡ three.faults (Volume d)
+  source_unused no_job = ends.spared (Volume d) (λ k j at. (λ e. no_job k j at (sym (number e)), λ e. own_free k j at (subst (λ (v : ℕ). HasRow v rows) (number e) has_row)))
+
+  -- If its volume failed in the redo, its count is higher than at the start.
+  pub source_rose : is_among d failed ≡ true → Rose (old.faults (Volume d)) (new.faults (Volume d))
+  source_rose bad = subst (λ (n : ℕ). Rose (old.faults (Volume d)) n) (sym still) (source_redone.rose bad)
+    where
+      still : new.faults (Volume d) ≡ three.faults (Volume d)
+      still = elim (are.has r pair) [
+        | inl job ↦
+            let counted = subst (λ (f : Bool). FailsByEither (not f && not (is_among d copied)) d t three.faults new.faults) bad (ends.counted job.0 (job_of means shift r) job.1) in
+            (counted.same refl).0
+        | inr none ↦ source_unused none.1
+      ]
+
   -- It has a job.
   with_job : (k : ℕ) → slice_get jobs k ≡ Some (job_of means shift r) → two.faults (Volume t) ≡ old.faults (Volume t) → FailsByEither (not (is_among d copied)) d t old.faults new.faults
   with_job k at same = elim (cases_Bool (is_among d failed)) [
@@ -192,7 +213,7 @@ module _ (tells : Type 0) (old two three new : PlantState) (means : Means) (shif
   without_job : Rose (old.faults (Volume t)) (two.faults (Volume t)) → ((k : ℕ) (j : CopyJob) → slice_get jobs k ≡ Some j → j.source ≢ d) → FailsByEither (not (is_among d copied)) d t old.faults new.faults
   without_job rose no_job =
       let none = not_copied (λ job. no_job job.0 (job_of means shift r) job.1 refl) in
-      let source_still : new.faults (Volume d) ≡ three.faults (Volume d) = ends.spared (Volume d) (λ k j at. (λ e. no_job k j at (sym (number e)), λ e. own_free k j at (subst (λ (v : ℕ). HasRow v rows) (number e) has_row))) in
+      let source_still = source_unused no_job in
       let target_still : new.faults (Volume t) ≡ three.faults (Volume t) = ends.spared (Volume t) (λ k j at. (λ e. free (subst (λ (v : ℕ). HasRow v rows) (sym (number e)) (source_row k j at)), λ e. no_job k j at (ap (λ (q : CopyJob). q.source) (job_is tells old two three means shift jobs failed sound are k j at r pair (sym (number e)))))) in
       subst (λ (f : Bool). FailsByEither (not f) d t old.faults new.faults) (sym none) (record {
         source_later = omega (arith, source_redone.later, source_still);
@@ -203,11 +224,6 @@ module _ (tells : Type 0) (old two three new : PlantState) (means : Means) (shif
         rose = λ yes. inr (subst (λ (n : ℕ). Rose (old.faults (Volume t)) n) (sym (target_still ∙ target_redone)) rose);
       })
     where
-      own_free : (k : ℕ) (j : CopyJob) → slice_get jobs k ≡ Some j → ¬ HasRow j.target rows
-      own_free k j at has =
-          let own = are.each k j at in
-          own.target.free (subst (λ (v : ℕ). HasRow v rows) (ap (λ (q : CopyJob). q.target) own.is) has)
-
       source_row : (k : ℕ) (j : CopyJob) → slice_get jobs k ≡ Some j → HasRow j.source rows
       source_row k j at =
           let own = are.each k j at in

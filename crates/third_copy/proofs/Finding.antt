@@ -19,11 +19,11 @@ use Rattle.xrc_edge.specs.Causes.{Rose}
 use Rattle.xrc_journal.specs.Jobs.{FailsByCount}
 use Rattle.xrecover.specs.Works.{Nothing, Works}
 use Rattle.xrecover.proofs.Works.{works_trans}
-use Rattle.third_copy.specs.declared.targets.Target.TheVariants.{Missing}
-use Rattle.third_copy.specs.Targets.{HasTarget, by_label, target_in, target_of}
-use Rattle.third_copy.specs.Pairs.{AreJobs, CountsTargets, HasCountRisen, IsFirstWithout, IsPair, NeedsNone, NoneIsWithout, job_of}
+use Rattle.third_copy.specs.declared.targets.Target.TheVariants.{Found, Missing}
+use Rattle.third_copy.specs.Targets.{HasTarget, IsTargetFound, by_label, target_in, target_of}
+use Rattle.third_copy.specs.Pairs.{AreFound, AreJobs, CountsTargets, HasCountRisen, IsFirstWithout, IsPair, IsTargetUnread, NeedsNone, NoneIsWithout, job_of}
 use Rattle.third_copy.proofs.JobsDone.{works_here}
-use Rattle.third_copy.proofs.Rows.{contained, place_of_row, rows_differ}
+use Rattle.third_copy.proofs.Rows.{contained, place_of_row, rows_differ, same_row}
 
 -- ---- lists
 
@@ -64,7 +64,11 @@ rose_risen before now (inr most) = inr (omega (arith, most))
 pub needs_later : (shift : ℕ) (rows : List PairRow) (r : PairRow) (a b c d : PlantState) → SameSite a b → b.bytes (Volume (target_of shift r)) ≡ a.bytes (Volume (target_of shift r)) → b.faults (Volume (target_of shift r)) ≡ a.faults (Volume (target_of shift r))
     → c.faults (Volume (target_of shift r)) ≤ d.faults (Volume (target_of shift r)) → NeedsNone b c rows shift r → NeedsNone a d rows shift r
 needs_later shift rows r a b c d site bytes counts later (inl some) = inl (λ e. some (same_target shift rows r a b site bytes ∙ e))
-needs_later shift rows r a b c d site bytes counts later (inr risen) = inr (risen_later (a.faults (Volume (target_of shift r))) (c.faults (Volume (target_of shift r))) (d.faults (Volume (target_of shift r))) later (subst (λ (n : ℕ). HasCountRisen n (c.faults (Volume (target_of shift r)))) counts risen))
+needs_later shift rows r a b c d site bytes counts later (inr unread) = inr (record {
+  there = omega (arith, unread.there, site.volumes);
+  free = unread.free;
+  risen = risen_later (a.faults (Volume (target_of shift r))) (c.faults (Volume (target_of shift r))) (d.faults (Volume (target_of shift r))) later (subst (λ (n : ℕ). HasCountRisen n (c.faults (Volume (target_of shift r)))) counts unread.risen);
+})
 
 module _ (tells : Type 0) (means : Means) (shift : ℕ) where
   abbrev rows : List PairRow
@@ -94,6 +98,7 @@ module _ (tells : Type 0) (means : Means) (shift : ℕ) where
     pub apart : (m k : ℕ) (p j : CopyJob) → m < k → slice_get jobs m ≡ Some p → slice_get jobs k ≡ Some j → p.source ≢ j.source
     pub has : (n : ℕ) (r : PairRow) → n < i → slice_get rows n ≡ Some r → is_duplex r.state ≡ true → ((k : ℕ) × (slice_get jobs k ≡ Some (job_of means shift r)) × (count_of b r ≡ count_of a r)) ⊎ (Rose (count_of a r) (count_of b r) × NoJob jobs r × (¬ HasRow (target_of shift r) rows))
     pub told : tells → (n : ℕ) (r : PairRow) → n < i → slice_get rows n ≡ Some r → is_duplex r.state ≡ true → NeedsNone a b rows shift r
+    pub found : tells → AreFound means shift a jobs
     pub counts : CountsTargets rows shift a.faults b.faults
     pub later : (n : ℕ) (r : PairRow) → i ≤ n → slice_get rows n ≡ Some r → is_duplex r.state ≡ true → count_of b r ≡ count_of a r
 
@@ -104,6 +109,7 @@ module _ (tells : Type 0) (means : Means) (shift : ℕ) where
     apart = λ m k p j before at_m at_k. absurd (nothing k j (subst (λ (l : List CopyJob). slice_get l k ≡ Some j) empty at_k));
     has = λ n r below. absurd (omega (arith, below));
     told = λ told n r below. absurd (omega (arith, below));
+    found = λ told k j at. absurd (nothing k j (subst (λ (l : List CopyJob). slice_get l k ≡ Some j) empty at));
     counts = record { later = λ d. omega arith; once = λ d. omega arith; others = λ d none. refl };
     later = λ n r from at duplex. refl;
   }
@@ -129,6 +135,7 @@ module _ (tells : Type 0) (means : Means) (shift : ℕ) where
         | inl before ↦ so_far.told told n p before at_n duplex
         | inr from ↦ absurd (no p duplex (same_place n p at_n (omega (arith, below, from))))
       ];
+      found = so_far.found;
       counts = so_far.counts;
       later = λ n p from at_n duplex. so_far.later n p (omega (arith, from)) at_n duplex;
     }
@@ -159,7 +166,7 @@ module _ (tells : Type 0) (means : Means) (shift : ℕ) where
       told_before : tells → (n : ℕ) (p : PairRow) → n < i → slice_get rows n ≡ Some p → is_duplex p.state ≡ true → NeedsNone a c rows shift p
       told_before told n p before at_n is = elim (so_far.told told n p before at_n is) [
         | inl some ↦ inl some
-        | inr risen ↦ inr (risen_later (count_of a p) (count_of b p) (count_of c p) (works.faults (Volume (target_of shift p))) risen)
+        | inr unread ↦ inr (record { there = unread.there; free = unread.free; risen = risen_later (count_of a p) (count_of b p) (count_of c p) (works.faults (Volume (target_of shift p))) unread.risen })
       ]
 
       later_then : (n : ℕ) (p : PairRow) → i + 1 ≤ n → slice_get rows n ≡ Some p → is_duplex p.state ≡ true → count_of c p ≡ count_of a p
@@ -188,8 +195,8 @@ module _ (tells : Type 0) (means : Means) (shift : ℕ) where
       each_before k j at_k = let e = so_far.each k j at_k in record { place = e.place; before = omega (arith, e.before); row = e.row; at = e.at; duplex = e.duplex; is = e.is; target = e.target }
 
       -- Its target's label couldn't be read.
-      pub finding_unread : FailsByCount true (count_of b r) (count_of c r) → ¬ HasRow (target_of shift r) rows → Finding (i + 1) jobs a c
-      finding_unread count free = record {
+      pub finding_unread : FailsByCount true (count_of b r) (count_of c r) → target_of shift r < b.volumes → ¬ HasRow (target_of shift r) rows → Finding (i + 1) jobs a c
+      finding_unread count there free = record {
         works = works_then;
         each = each_before;
         apart = so_far.apart;
@@ -198,9 +205,10 @@ module _ (tells : Type 0) (means : Means) (shift : ℕ) where
           | inr differs ↦ has_before n p (omega (arith, below, differs)) at_n is
         ];
         told = λ told n p below at_n is. elim (cases_eq n i) [
-          | inl same ↦ inr (subst (λ (q : PairRow). HasCountRisen (count_of a q) (count_of c q)) (sym (same_place n p at_n same)) (rose_risen (count_of a r) (count_of c r) rose))
+          | inl same ↦ inr (subst (λ (q : PairRow). IsTargetUnread a c rows shift q) (sym (same_place n p at_n same)) (record { there = omega (arith, there, so_far.works.site.volumes); free = free; risen = rose_risen (count_of a r) (count_of c r) rose }))
           | inr differs ↦ told_before told n p (omega (arith, below, differs)) at_n is
         ];
+        found = so_far.found;
         counts = counts_then count.later count.by_one;
         later = later_then;
       }
@@ -223,8 +231,8 @@ module _ (tells : Type 0) (means : Means) (shift : ℕ) where
               ]
 
       -- It has a target.
-      pub finding_found : FailsByCount false (count_of b r) (count_of c r) → HasTarget b rows shift r → (tells → target_in b rows shift r ≢ Missing) → Finding (i + 1) (jobs ++ job_of means shift r ∷ []) a c
-      finding_found count target some = record {
+      pub finding_found : FailsByCount false (count_of b r) (count_of c r) → HasTarget b rows shift r → (tells → IsTargetFound b rows shift r) → Finding (i + 1) (jobs ++ job_of means shift r ∷ []) a c
+      finding_found count target is_found = record {
         works = works_then;
         each = λ k j at_k. elim (snoc_cases jobs (job_of means shift r) j k at_k) [
           | inl before ↦ each_before k j before
@@ -249,13 +257,22 @@ module _ (tells : Type 0) (means : Means) (shift : ℕ) where
           | inr differs ↦ has_before n p (omega (arith, below, differs)) at_n is
         ];
         told = λ told n p below at_n is. elim (cases_eq n i) [
-          | inl same ↦ inl (subst (λ (q : PairRow). target_in a rows shift q ≢ Missing) (sym (same_place n p at_n same)) (λ e. some told (target_same told ∙ e)))
+          | inl same ↦ inl (subst (λ (q : PairRow). target_in a rows shift q ≢ Missing) (sym (same_place n p at_n same)) (λ e. no (sym (is_found told) ∙ target_same told ∙ e)))
           | inr differs ↦ told_before told n p (omega (arith, below, differs)) at_n is
+        ];
+        found = λ told k j at_k q pair is. elim (snoc_cases jobs (job_of means shift r) j k at_k) [
+          | inl before ↦ so_far.found told k j before q pair is
+          | inr last ↦
+              let same : r ≡ q = same_row rows r q sound own_pair.among pair.among (ap (λ (o : CopyJob). o.source) (sym last.1 ∙ is)) in
+              subst (λ (p : PairRow). IsTargetFound a rows shift p) same (sym (target_same told) ∙ is_found told)
         ];
         counts = counts_then count.later count.by_one;
         later = later_then;
       }
         where
+          no : (Found ≡ Missing) → ⊥
+          no e = cc
+
           own : count_of c r ≡ count_of a r
           own = count.same refl ∙ so_far.later i r (omega arith) at duplex
 
@@ -305,6 +322,9 @@ module _ (tells : Type 0) (means : Means) (shift : ℕ) where
     apart = f.apart;
     has = λ r pair. let p = place_of_row rows r pair.among in f.has p.0 r (omega (arith, slice_get_within rows p.0 r p.1, all)) p.1 pair.duplex;
   }
+
+  pub finding_all_found : (i : ℕ) (jobs : List CopyJob) (a b : PlantState) → Finding i jobs a b → tells → AreFound means shift a jobs
+  finding_all_found i jobs a b f told = f.found told
 
   pub finding_none_without : (i : ℕ) (jobs : List CopyJob) (a b : PlantState) → length rows ≤ i → Finding i jobs a b → tells → NoneIsWithout a b rows shift
   finding_none_without i jobs a b all f told n r at duplex = f.told told n r (omega (arith, slice_get_within rows n r at, all)) at duplex

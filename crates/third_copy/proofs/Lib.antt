@@ -7,3 +7,4 @@ pub mod Counting
 pub mod Redone
 pub mod SeenRows
 pub mod Phases
+pub mod KeptLabels

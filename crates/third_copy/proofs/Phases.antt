@@ -34,7 +34,7 @@ use Rattle.third_copy.specs.declared.copy_error.CopyError.{CopyError}
 use Rattle.third_copy.specs.declared.copy_error.CopyError.TheVariants.{Recover}
 use Rattle.third_copy.specs.Answers.{CopiesSite, CountsPairs, SeesSameRows}
 use Rattle.third_copy.specs.Jobs.{AreJobsReady}
-use Rattle.third_copy.specs.Pairs.{AreJobs, CountsTargets, IsFirstWithout, IsPair, NoneIsWithout, claim_of}
+use Rattle.third_copy.specs.Pairs.{AreFound, AreJobs, CountsTargets, IsFirstWithout, IsPair, NoneIsWithout, claim_of}
 use Rattle.third_copy.specs.Targets.{target_of}
 use Rattle.third_copy.proofs.Finding.{needs_later, same_target}
 use Rattle.third_copy.proofs.Rows.{place_of_row}
@@ -159,6 +159,10 @@ are_since old one two means shift jobs site same are = record {
     | inr none ↦ inr (subst (λ (n : ℕ). Rose n (two.faults (Volume (target_of shift r)))) (same (Volume (target_of shift r))) none.0, none.1, none.2)
   ];
 }
+
+-- Targets that are found after calls that write nothing were found before.
+pub found_since : (old one : PlantState) (means : Means) (shift : ℕ) (jobs : List CopyJob) → SameSite old one → ((d : Device) → one.bytes d ≡ old.bytes d) → AreFound means shift one jobs → AreFound means shift old jobs
+found_since old one means shift jobs site same found k j at r pair is = sym (same_target shift means.table.rows r old one site (same (Volume (target_of shift r)))) ∙ found k j at r pair is
 
 -- ---- a journal that failed
 

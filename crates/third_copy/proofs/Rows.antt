@@ -61,7 +61,7 @@ module _ (f : ℕ → Bool) (rows : List PairRow) (i : ℕ) (r : PairRow) (at : 
 
 -- ---- the cylinders of a row
 
-pub few_cylinders : (r : PairRow) → keeps_row_rules r ≡ true → r.cylinders ≤ 65520
+pub few_cylinders : (r : PairRow) → keeps_row_rules r ≡ true → r.cylinders ≤ 1000000
 few_cylinders r rules =
-    let parts = and_parts (nat_le r.control 15 && nat_le r.volume 31) (within 1 65520 r.cylinders) rules in
-    leb-true r.cylinders 65520 (and_parts (nat_le 1 r.cylinders) (nat_le r.cylinders 65520) parts.1).1
+    let parts = and_parts (nat_le r.control 15 && nat_le r.volume 31) (within 1 1000000 r.cylinders) rules in
+    leb-true r.cylinders 1000000 (and_parts (nat_le 1 r.cylinders) (nat_le r.cylinders 1000000) parts.1).1

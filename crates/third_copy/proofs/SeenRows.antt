@@ -77,7 +77,7 @@ module _ (tells : Type 0) (told : tells) (shift : ℕ) (old one new : PlantState
         | inr out ↦ bytes_same d x ((step (Volume d)).1 out)
         | inl part ↦ elim (duplex_cases (meant_rows old old.bytes) d) [
           | inl duplex ↦ redone_same d x (((step (Volume d)).0 part).0 duplex)
-          | inr none ↦ bytes_same d x (((step (Volume d)).0 part).2 none (λ r. apart d r row))
+          | inr none ↦ bytes_same d x (((step (Volume d)).0 part).2 none (λ r is. apart d r row is.0))
         ]
       ]
 

@@ -1,10 +1,10 @@
 -- The phases of a third copy: what was read, what was redone, and what was copied then.
-use Rattle.std.proofs.Common.{◌≡◌, inl, inr, ◌<◌, ◌*◌, ◌&&◌, ◌||◌, [], ◌∷◌, ℕ, List, Bool, true, false, Option, Some, refl, sym, ◌∙◌, ap, subst, arith}
-use Rattle.std.specs.Prelude.{slice_get}
+use Rattle.std.proofs.Common.{◌≡◌, inl, inr, ◌<◌, ◌+◌, ◌*◌, ◌&&◌, ◌||◌, [], ◌∷◌, ℕ, List, Bool, true, false, Option, Some, refl, sym, ◌∙◌, ap, subst, arith}
+use Rattle.std.specs.Prelude.{slice_get, slice_range}
 use Rattle.std.specs.List.{list_any}
-use Rattle.std.proofs.lemmas.Bool.{cases_Bool}
+use Rattle.std.proofs.lemmas.Bool.{cases_Bool, cases_lt}
 use Rattle.ckd_track.specs.declared.rec.Rec.{Rec}
-use Rattle.ckd_track.specs.SlotPlaces.{slot_track}
+use Rattle.ckd_track.specs.SlotPlaces.{slot_end, slot_place, slot_track}
 use Rattle.copy_progress.specs.declared.claim.Claim.{Claim}
 use Rattle.crash_plant.specs.declared.device.Device.{Device}
 use Rattle.crash_plant.specs.declared.device.Device.TheVariants.{Control, State, Journal, Volume}
@@ -19,8 +19,9 @@ use Rattle.site_means.specs.Sight.{content_of, means_of, meant_by, walked, walke
 use Rattle.site_means.proofs.Goes.{shape_same}
 use Rattle.site_means.proofs.Meanings.{SameSeen, seen_meaning}
 use Rattle.volume_copy.specs.declared.copy_job.CopyJob.{CopyJob}
-use Rattle.volume_copy.specs.Targets.{AreCopied, CopiesTo, IsCopyOf}
+use Rattle.volume_copy.specs.Targets.{AreCopied, CopiesTo, IsCopyOf, written_length}
 use Rattle.volume_copy.proofs.Progress.{done_within}
+use Rattle.volume_copy.proofs.Ranges.{range_rest}
 use Rattle.volume_copy.proofs.Targets.{copies_here}
 use Rattle.xrc_journal.specs.Items.{Item}
 use Rattle.xrecover.specs.Answers.{IsRecoverable}
@@ -31,7 +32,7 @@ use Rattle.xrecover.proofs.Relations.{recovers_same}
 use Rattle.xrecover.proofs.Rows.{duplex_at}
 use Rattle.third_copy.specs.Answers.{CopiesSite, KeepsCopied}
 use Rattle.third_copy.specs.Jobs.{CopiesJobs}
-use Rattle.third_copy.specs.Pairs.{AreJobs, IsPair, IsTargetOf, claim_of, job_of}
+use Rattle.third_copy.specs.Pairs.{AreFound, AreJobs, IsFoundOf, IsPair, IsTargetOf, claim_of, job_of}
 use Rattle.third_copy.specs.Targets.{target_of}
 use Rattle.xrecover.proofs.Works.{works_more}
 use Rattle.third_copy.proofs.JobsDone.{works_told}
@@ -54,6 +55,10 @@ copies_by claim content other b c same s = record {
   before = s.before;
   later = s.later;
   behind = s.behind;
+  rests = λ x. elim (cases_lt x claim.tracks) [
+    | inl below ↦ subst (λ (t : Option (List Rec)). slice_range c (slot_place x + written_length t) (slot_end x) ≡ slice_range b (slot_place x + written_length t) (slot_end x)) (same x below) (s.rests x)
+    | inr past ↦ range_rest (slot_place claim.tracks) (slot_place x + written_length (other x)) (slot_end x) b c s.behind (omega (arith, past))
+  ];
 }
 
 -- ---- what was read
@@ -139,8 +144,8 @@ module _ (tells : Type 0) (old two three : PlantState) (means : Means) (shift : 
     ]
 
     -- Other devices stay.
-    pub other_step : (v : ℕ) (b c : List ℕ) → CopiesJobs failed jobs first (Volume v) b c → ((r : PairRow) → ¬ IsTargetOf rows shift r v) → c ≡ b
-    other_step v b c p none = p.1 (λ k j at target. let own = are.each k j at in absurd (none own.row (own.pair, sym (ap (λ (q : CopyJob). q.target) own.is) ∙ target)))
+    pub other_step : (v : ℕ) (b c : List ℕ) → CopiesJobs failed jobs first (Volume v) b c → AreFound means shift old jobs → ((r : PairRow) → ¬ IsFoundOf old rows shift r v) → c ≡ b
+    other_step v b c p found none = p.1 (λ k j at target. let own = are.each k j at in absurd (none own.row ((own.pair, sym (ap (λ (q : CopyJob). q.target) own.is) ∙ target), found k j at own.row own.pair own.is)))
 
     -- So does a device that has a row.
     pub row_step : (v : ℕ) (b c : List ℕ) → CopiesJobs failed jobs first (Volume v) b c → HasRow v rows → c ≡ b
@@ -174,7 +179,7 @@ module _ (tells : Type 0) (old two three : PlantState) (means : Means) (shift : 
     λ none no_target. p.1 none,
   )
 
-  module _ (same : tells → (r : PairRow) → IsPair means.table.rows r → is_among r.device failed ≡ false → (x : ℕ) → x < 15 * r.cylinders → slot_track (three.bytes (Volume r.device)) x ≡ content_of old old.bytes r.device x) where
+  module _ (same : tells → (r : PairRow) → IsPair means.table.rows r → is_among r.device failed ≡ false → (x : ℕ) → x < 15 * r.cylinders → slot_track (three.bytes (Volume r.device)) x ≡ content_of old old.bytes r.device x) (found : tells → AreFound means shift old jobs) where
     copy_site : (told : tells) (d : Device) (x y z : List ℕ) → Recovers (meant_rows old old.bytes) (walked old old.bytes) d x y → CopiesJobs failed jobs (λ e. slot_track (three.bytes (Volume e))) d y z → CopiesSite old shift d x z
     copy_site told Control x y z p q = q ∙ p
     copy_site told State x y z p q = q ∙ p
@@ -188,7 +193,7 @@ module _ (tells : Type 0) (old two three : PlantState) (means : Means) (shift : 
           let step = target_step tells old two three means shift jobs failed sound are (λ d. content_of old old.bytes d) (same told) v y z q r here in
           let by_means = subst (λ (o : Means). CopiesTo (claim_of o r) (content_of old old.bytes r.device) y z) (sym (only told m is)) step in
           subst (λ (l : List ℕ). CopiesTo (claim_of m r) (content_of old old.bytes r.device) l z) (p.1 (not_duplex told r v here)) by_means,
-      λ none no_target. other_step tells old two three means shift jobs failed sound are (λ d. content_of old old.bytes d) (same told) v y z q (λ r is. no_target r (subst (λ (l : List PairRow). IsTargetOf l shift r v) (sym (meant told)) is)) ∙ p.1 none,
+      λ none no_target. other_step tells old two three means shift jobs failed sound are (λ d. content_of old old.bytes d) (same told) v y z q (found told) (λ r is. no_target r (subst (λ (l : List PairRow). IsFoundOf old l shift r v) (sym (meant told)) is)) ∙ p.1 none,
     )
 
     pub site_works : (start new : PlantState) → Works tells (Recovers (meant_rows old old.bytes) (walked old old.bytes)) start three → Works tells (CopiesJobs failed jobs (λ e. slot_track (three.bytes (Volume e)))) three new → Works tells (CopiesSite old shift) start new

@@ -7,6 +7,7 @@ use Rattle.crash_plant.specs.Moments.{PlantState}
 use Rattle.pair_table.specs.declared.row.PairRow.{PairRow}
 use Rattle.pair_table.specs.Devices.{is_among}
 use Rattle.pair_table.specs.Tables.{HasRow}
+use Rattle.xrc_edge.specs.Causes.{Rose}
 use Rattle.site_means.specs.declared.means.Means.{Means}
 use Rattle.site_means.specs.Sight.{content_of, means_of, walked}
 use Rattle.volume_copy.specs.Targets.{AreCopied, CopiesTo}
@@ -20,7 +21,7 @@ use Rattle.third_copy.specs.declared.copy_error.CopyError.{CopyError}
 use Rattle.third_copy.specs.declared.copy_error.CopyError.TheVariants.{NoTarget, Recover}
 use Rattle.third_copy.specs.declared.outcome.CopyOutcome.{CopyOutcome}
 use Rattle.third_copy.specs.Jobs.{FailsByEither}
-use Rattle.third_copy.specs.Pairs.{IsCopied, IsFirstWithout, IsPair, IsTargetOf, NoneIsWithout, claim_of}
+use Rattle.third_copy.specs.Pairs.{IsCopied, IsFirstWithout, IsFoundOf, IsPair, IsTargetOf, NoneIsWithout, claim_of}
 use Rattle.third_copy.specs.Targets.{target_of}
 
 -- ---- answers
@@ -51,18 +52,23 @@ pub record CountsPairs (rows : List PairRow) (shift : ℕ) (old new : Device →
   pub once : (v : ℕ) → new (Volume v) ≤ old (Volume v) + 1
   pub spared : (v : ℕ) → ((r : PairRow) → IsPair rows r → (v ≢ r.device) × (v ≢ target_of shift r)) → new (Volume v) ≡ old (Volume v)
 
--- Each pair that is told as done is copied, and its volume is redone.
-abbrev pub ArePairsCopied : (shift : ℕ) → (old new : PlantState) → CopyOutcome → Type 0
-ArePairsCopied shift old new o = (r : PairRow) → IsPair o.means.table.rows r → is_among r.device o.done ≡ true → IsCopied o.means shift new r × IsRedone AsItIs r (walked old old.bytes) old new
+-- A pair's volume is redone, or its own count rose. What its target did makes no difference.
+abbrev pub IsRedoneOrFailed : (old new : PlantState) → PairRow → Type 0
+IsRedoneOrFailed old new r = IsRedone AsItIs r (walked old old.bytes) old new ⊎ Rose (old.faults (Volume r.device)) (new.faults (Volume r.device))
+
+-- Each pair that is told as done is copied, and its volume is redone. Of each other pair the volume is redone, too, or it failed.
+pub record ArePairsCopied (shift : ℕ) (old new : PlantState) (o : CopyOutcome) : Type 0 where
+  pub copied : (r : PairRow) → IsPair o.means.table.rows r → is_among r.device o.done ≡ true → IsCopied o.means shift new r × IsRedone AsItIs r (walked old old.bytes) old new
+  pub redone : (r : PairRow) → IsPair o.means.table.rows r → IsRedoneOrFailed old new r
 
 -- ---- what it leaves
 
 -- On a pair's volume only a label, and slots of tracks of which the walk has an item, may differ. A target comes from one image to another by the
--- content of the pair's tracks. All else stays.
+-- content of the pair's tracks, if it is found by what reads gave at first. All else stays.
 abbrev pub CopiesSite : PlantState → (shift : ℕ) → Device → List ℕ → List ℕ → Type 0
 CopiesSite plant shift (Volume v) b c = (HasDuplex (meant_rows plant plant.bytes) v → Redoes v (walked plant plant.bytes) b c)
     × ((m : Means) → means_of plant plant.bytes ≡ Some m → (r : PairRow) → IsTargetOf m.table.rows shift r v → CopiesTo (claim_of m r) (content_of plant plant.bytes r.device) b c)
-    × (¬ HasDuplex (meant_rows plant plant.bytes) v → ((r : PairRow) → ¬ IsTargetOf (meant_rows plant plant.bytes) shift r v) → c ≡ b)
+    × (¬ HasDuplex (meant_rows plant plant.bytes) v → ((r : PairRow) → ¬ IsFoundOf plant (meant_rows plant plant.bytes) shift r v) → c ≡ b)
 CopiesSite plant shift Control b c = c ≡ b
 CopiesSite plant shift State b c = c ≡ b
 CopiesSite plant shift (Journal j) b c = c ≡ b

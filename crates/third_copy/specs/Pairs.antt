@@ -1,21 +1,19 @@
 -- What is to be copied of duplex pairs, and what copies leave of the devices of a plant.
-use Rattle.std.specs.Prelude.{◌≡◌, ◌≢◌, ◌≤◌, ◌<◌, ◌⊎◌, ◌+◌, ◌-◌, ◌*◌, ◌^◌, ℕ, List, [], length, true, Contains, Option, Some, slice_get, vec_capacity}
+use Rattle.std.specs.Prelude.{◌≡◌, ◌≢◌, ◌≤◌, ◌<◌, ◌⊎◌, ◌+◌, ◌-◌, ◌*◌, ◌^◌, ℕ, List, [], length, true, Contains, Some, slice_get, vec_capacity}
 use Rattle.xrc_edge.specs.Causes.{Rose}
 use Rattle.xrc_edge.specs.declared.limits.TheConstants.{TRACKS_OF_CYLINDER}
-use Rattle.ckd_track.specs.declared.rec.Rec.{Rec}
 use Rattle.copy_progress.specs.declared.claim.Claim.{Claim}
 use Rattle.copy_progress.specs.Copies.{done}
 use Rattle.crash_plant.specs.declared.device.Device.{Device}
-use Rattle.crash_plant.specs.declared.device.Device.TheVariants.{Control, State, Journal, Volume}
+use Rattle.crash_plant.specs.declared.device.Device.TheVariants.{Volume}
 use Rattle.crash_plant.specs.Moments.{PlantState, IsDurable, on}
 use Rattle.pair_table.specs.declared.row.PairRow.{PairRow}
 use Rattle.pair_table.specs.States.{is_duplex}
 use Rattle.pair_table.specs.Tables.{HasRow}
 use Rattle.site_means.specs.declared.means.Means.{Means}
 use Rattle.volume_copy.specs.declared.copy_job.CopyJob.{CopyJob}
-use Rattle.volume_copy.specs.Targets.{CopiesTo}
 use Rattle.third_copy.specs.declared.tools.CopyTools.{CopyTools}
-use Rattle.third_copy.specs.Targets.{HasTarget, IsWithoutTarget, target_of}
+use Rattle.third_copy.specs.Targets.{HasTarget, IsTargetFound, IsWithoutTarget, target_of}
 
 -- ---- one pair
 
@@ -36,15 +34,25 @@ job_of means shift r = record { source = r.device; target = target_of shift r; c
 abbrev pub IsTargetOf : List PairRow → (shift : ℕ) → PairRow → (v : ℕ) → Type 0
 IsTargetOf rows shift r v = IsPair rows r × (target_of shift r ≡ v)
 
+-- It is, and it is found by what reads give.
+abbrev pub IsFoundOf : PlantState → List PairRow → (shift : ℕ) → PairRow → (v : ℕ) → Type 0
+IsFoundOf plant rows shift r v = IsTargetOf rows shift r v × IsTargetFound plant rows shift r
+
 -- ---- pairs without a target
 
 -- A count has risen by now, or stands at its end.
 abbrev pub HasCountRisen : (before now : ℕ) → Type 0
 HasCountRisen before now = (before < now) ⊎ (2 ^ 64 - 1 ≤ now)
 
--- A pair doesn't lack a target by what reads give, or the count of its target has risen.
+-- A pair's target is a volume that no row has, and the count of that volume has risen.
+pub record IsTargetUnread (old new : PlantState) (rows : List PairRow) (shift : ℕ) (r : PairRow) : Type 0 where
+  pub there : target_of shift r < old.volumes
+  pub free : ¬ HasRow (target_of shift r) rows
+  pub risen : HasCountRisen (old.faults (Volume (target_of shift r))) (new.faults (Volume (target_of shift r)))
+
+-- A pair doesn't lack a target by what reads give, or its target could not be read.
 abbrev pub NeedsNone : (old new : PlantState) → List PairRow → (shift : ℕ) → PairRow → Type 0
-NeedsNone old new rows shift r = (¬ IsWithoutTarget old rows shift r) ⊎ HasCountRisen (old.faults (Volume (target_of shift r))) (new.faults (Volume (target_of shift r)))
+NeedsNone old new rows shift r = (¬ IsWithoutTarget old rows shift r) ⊎ IsTargetUnread old new rows shift r
 
 -- The volume of the first duplex pair that lacks a target is this device.
 pub record IsFirstWithout (old new : PlantState) (rows : List PairRow) (shift device : ℕ) : Type 0 where
@@ -80,6 +88,10 @@ pub record AreJobs (means : Means) (shift : ℕ) (old new : PlantState) (jobs : 
   pub each : (k : ℕ) (j : CopyJob) → slice_get jobs k ≡ Some j → IsJob means shift old j
   pub apart : (i k : ℕ) (p j : CopyJob) → i < k → slice_get jobs i ≡ Some p → slice_get jobs k ≡ Some j → p.source ≢ j.source
   pub has : (r : PairRow) → IsPair means.table.rows r → ((k : ℕ) × (slice_get jobs k ≡ Some (job_of means shift r)) × (new.faults (Volume (target_of shift r)) ≡ old.faults (Volume (target_of shift r)))) ⊎ (Rose (old.faults (Volume (target_of shift r))) (new.faults (Volume (target_of shift r))) × ((k : ℕ) (j : CopyJob) → slice_get jobs k ≡ Some j → j.source ≢ r.device) × (¬ HasRow (target_of shift r) means.table.rows))
+
+-- By what reads give the target of each job's pair is found.
+abbrev pub AreFound : Means → (shift : ℕ) → PlantState → List CopyJob → Type 0
+AreFound means shift plant jobs = (k : ℕ) (j : CopyJob) → slice_get jobs k ≡ Some j → (r : PairRow) → IsPair means.table.rows r → j ≡ job_of means shift r → IsTargetFound plant means.table.rows shift r
 
 -- the lists have a place for each row
 pub record AreCopyToolsReady (rows : List PairRow) (tools : CopyTools) : Type 0 where

@@ -36,6 +36,10 @@ target_in plant rows shift r =
 abbrev pub IsWithoutTarget : PlantState → List PairRow → (shift : ℕ) → PairRow → Type 0
 IsWithoutTarget plant rows shift r = target_in plant rows shift r ≡ Missing
 
+-- A pair's target is found by what reads give.
+abbrev pub IsTargetFound : PlantState → List PairRow → (shift : ℕ) → PairRow → Type 0
+IsTargetFound plant rows shift r = target_in plant rows shift r ≡ Found
+
 abbrev pub is_unread : Target → Bool
 is_unread Unread = true
 is_unread Found = false

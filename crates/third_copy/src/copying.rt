@@ -8,6 +8,7 @@ ghost use Rattle.site_means.specs.declared.site_error.SiteError.TheVariants.{Fau
 ghost use Rattle.site_means.specs.Answers.{first_short, need};
 ghost use Rattle.xrecover.specs.declared.recover_error.RecoverError.TheVariants.{Site};
 ghost use Rattle.xrecover.specs.Answers.{TellsFaults};
+ghost use Rattle.xrecover.specs.Labels.{KeepsLabels};
 ghost use Rattle.xrecover.specs.RedoneVolumes.{meant_rows};
 ghost use Rattle.xrecover.specs.Works.{Nothing, Works};
 ghost use Rattle.third_copy.specs.declared.copy_error.CopyError.{CopyError as CopyErrorValue};
@@ -48,10 +49,12 @@ pub fn copy<R: Threads + Sync, P: Plant>(
     // Which pairs are copied, and which failed by whose counts.
     ensures failed { IfOk result (λ o. AreFaultyPairs o.means.table.rows shift (P.state plant.old).faults (P.state plant.new).faults o.done o.failed) }
     ensures counts { P.tells → CountsPairs (meant_rows (P.state plant.old) (P.state plant.old).bytes) shift (P.state plant.old).faults (P.state plant.new).faults }
-    // Each pair that is told as done has all its tracks on its target.
+    // Each pair that is told as done has all its tracks on its target. Each pair's volume is redone, but where its own count rose.
     ensures copied { P.tells → IfOk result (λ o. ArePairsCopied shift (P.state plant.old) (P.state plant.new) o) }
     // At every moment only what a redo may change of the pairs' volumes, and targets, differ.
     ensures works { Works P.tells (CopiesSite (P.state plant.old) shift) (P.state plant.old) (P.state plant.new) }
+    // At every moment each volume keeps its label.
+    ensures labels { P.tells → KeepsLabels (P.state plant.old) (P.state plant.new) }
     // At every moment all that is done on a target begins with the images of the pair's content, if it did when the copy began.
     ensures progress { P.tells → KeepsCopied shift (P.state plant.old) (P.state plant.new) }
     // At every moment a crash leaves what means the same as something that it could have left at the start.

@@ -6,7 +6,7 @@ ghost use Rattle.pair_table.specs.Rows.{keeps_row_rules};
 ghost use Rattle.pair_table.specs.Tables.{AreRowsSound};
 ghost use Rattle.xrecover.specs.Works.{Nothing, Works};
 ghost use Rattle.third_copy.specs.declared.copy_error.CopyError.TheVariants.{NoTarget};
-ghost use Rattle.third_copy.specs.Pairs.{AreJobs, CountsTargets, IsFirstWithout, NoneIsWithout, claim_of, job_of};
+ghost use Rattle.third_copy.specs.Pairs.{AreFound, AreJobs, CountsTargets, IsFirstWithout, NoneIsWithout, claim_of, job_of};
 ghost use Rattle.third_copy.specs.Targets.{target_of};
 
 use crate::CopyError;
@@ -57,6 +57,7 @@ pub(crate) fn jobs_of<P: Plant>(
     requires places { length means.now.table.rows ≤ vec_capacity jobs }
     ensures works { Works P.tells Nothing (P.state plant.old) (P.state plant.new) }
     ensures jobs { IfOk result (λ jobs. AreJobs means.now shift (P.state plant.old) (P.state plant.new) jobs.items) }
+    ensures found { P.tells → IfOk result (λ jobs. AreFound means.now shift (P.state plant.old) jobs.items) }
     ensures few { IfOk result (λ jobs. length jobs.items ≤ length means.now.table.rows) }
     ensures sound { AreRowsSound means.now.table.rows }
     ensures missing { IfErr result (λ e. (d : ℕ) × (e ≡ NoTarget d) × (P.tells → IsFirstWithout (P.state plant.old) (P.state plant.new) means.now.table.rows shift d)) }

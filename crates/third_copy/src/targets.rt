@@ -62,6 +62,7 @@ pub(crate) fn find_target<P: Plant>(
     ensures works { Works P.tells Nothing (P.state plant.old) (P.state plant.new) }
     ensures found { result ≡ FoundTarget → HasTarget (P.state plant.old) table.now.rows shift row.now }
     ensures small { result ≡ FoundTarget → target_of shift row.now < 2 ^ 16 }
+    ensures there { result ≡ UnreadTarget → target_of shift row.now < (P.state plant.old).volumes }
     ensures free { result ≡ UnreadTarget → ¬ HasRow (target_of shift row.now) table.now.rows }
     ensures told { P.tells → result ≢ UnreadTarget → result ≡ target_in (P.state plant.old) table.now.rows shift row.now }
     ensures count { FailsByCount (is_unread result) ((P.state plant.old).faults (Volume (target_of shift row.now))) ((P.state plant.new).faults (Volume (target_of shift row.now))) }

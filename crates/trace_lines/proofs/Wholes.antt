@@ -16,7 +16,6 @@ use Rattle.write_trace.specs.WholeTraces.{whole_trace, entries_from, bad_start, 
 use Rattle.write_trace.specs.UnreadBytes.{seen}
 use Rattle.write_trace.specs.Answers.{ReaderState}
 use Rattle.write_trace.specs.Rests.{rest_of, IsRestOfAll, ReadsRest}
-use Rattle.write_trace.proofs.HeaderRanges.{header_rules}
 use Rattle.trace_lines.specs.Refusals.{HasTraceEnd, IsCause, unread_of}
 
 -- the trace by what was read as its header
@@ -24,7 +23,7 @@ abbrev trace_by : List ℕ → Result (Header × Left) Bad → Result Trace Head
 trace_by bytes (Ok h) = Ok (after_header false bytes h.0 (entries_from (length h.1.bytes) h.0.version h.0.volumes 0 h.1))
 trace_by bytes (Err bad) = Err (bad_start false bytes bad)
 
-by_header : (bytes : List ℕ) → trace_of 1 false bytes ≡ trace_by bytes (header_at 1 (whole_trace bytes))
+by_header : (bytes : List ℕ) → trace_of false bytes ≡ trace_by bytes (header_at (whole_trace bytes))
 unfolding trace_of
 by_header bytes = refl
 
@@ -51,11 +50,11 @@ whole_ends bytes now h r entries end header rest =
     let left = seen r.left.place ahead.0 in
     let read = rest_of r ahead.0 in
     let found = entries_from (length left.bytes) h.version h.volumes 0 left in
-    let ends : end_by bytes 1 r.last r.volumes left ≡ end = ap (λ (es : List Entry). end_of false bytes 1 r.volumes (last_entry_stamp r.last es) read.1) is.good ∙ is.ends bytes (sym ahead.3) in
-    let same : end_by bytes h.version 0 h.volumes left ≡ end_by bytes 1 r.last r.volumes left =
-    ap (λ (n : ℕ). end_by bytes n 0 h.volumes left) (header_rules h header.kept).version
-    ∙ ap (λ (n : ℕ). end_by bytes 1 n h.volumes left) (sym header.last)
-    ∙ ap (λ (vs : List VolumeHead). end_by bytes 1 r.last vs left) (sym header.volumes) in
+    let ends : end_by bytes r.version r.last r.volumes left ≡ end = ap (λ (es : List Entry). end_of false bytes r.version r.volumes (last_entry_stamp r.last es) read.1) is.good ∙ is.ends bytes (sym ahead.3) in
+    let same : end_by bytes h.version 0 h.volumes left ≡ end_by bytes r.version r.last r.volumes left =
+    ap (λ (n : ℕ). end_by bytes n 0 h.volumes left) (sym header.version)
+    ∙ ap (λ (n : ℕ). end_by bytes r.version n h.volumes left) (sym header.last)
+    ∙ ap (λ (vs : List VolumeHead). end_by bytes r.version r.last vs left) (sym header.volumes) in
     (after_header false bytes h found, by_header bytes ∙ ap (trace_by bytes) ahead.2, same ∙ ends)
 
 pub whole_trace_ends : (bytes : List ℕ) (given now after : Option (List ℕ)) (faults risen : ℕ) (h : Header) (r : ReaderState) (entries : List Entry) (end : TraceEnd) → given ≡ Some bytes → end ≡ Ended → ReadsHeader given now h r → ReadsRest now after faults risen r entries end → HasTraceEnd bytes Ended

@@ -14,7 +14,7 @@ use Rattle.ckd_track.specs.Tracks.{is_track}
 use Rattle.write_trace.specs.declared.entry.Entry.TheVariants.{Written, Idle}
 use Rattle.hex.specs.Hex.{decode_of}
 use Rattle.trace_lines.specs.declared.line.Line.{Line}
-use Rattle.trace_lines.specs.declared.line.Line.TheVariants.{Nothing, Volume, Base, Told}
+use Rattle.trace_lines.specs.declared.line.Line.TheVariants.{Nothing, Version, Volume, Base, Told}
 use Rattle.trace_lines.specs.Pieces.{first_piece, after_piece, pieces_of}
 
 -- ---- words
@@ -117,10 +117,15 @@ kind_in word text =
 
 -- ---- lines
 
+unfoldable pub version_in : List ℕ → Option Line
+version_in text = do
+  version ← number_of 255 text
+  Some (Version version)
+
 unfoldable pub volume_in : List ℕ → Option Line
 volume_in text = do
   serial ← serial_in (first_word text)
-  cylinders ← number_of 65535 (after_word text)
+  cylinders ← number_of 4294967295 (after_word text)
   Some (Volume (record { serial = serial; cylinders = cylinders }))
 
 unfoldable pub base_line_in : List ℕ → Option Line
@@ -146,7 +151,8 @@ write_in word text = do
 
 unfoldable pub line_of_words : (word text : List ℕ) → Option Line
 line_of_words word text =
-    if bytes_eq word (codes "volume") then volume_in text
+    if bytes_eq word (codes "version") then version_in text
+    else if bytes_eq word (codes "volume") then volume_in text
     else if bytes_eq word (codes "base") then base_line_in text
     else if bytes_eq word (codes "idle") then idle_in text
     else write_in word text

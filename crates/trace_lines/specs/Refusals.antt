@@ -11,12 +11,12 @@ use Rattle.trace_lines.specs.declared.refusal.Unread.TheVariants as unread
 
 -- The bytes are a trace with that end.
 abbrev pub HasTraceEnd : (bytes : List ℕ) → TraceEnd → Type 0
-HasTraceEnd bytes end = (trace : Trace) × (trace_of 1 false bytes ≡ Ok trace) × (trace.end ≡ end)
+HasTraceEnd bytes end = (trace : Trace) × (trace_of false bytes ≡ Ok trace) × (trace.end ≡ end)
 
 -- What is so where bytes are refused: the first bad field of a header or the first bad entry stands at that place. Want of memory alone is free.
 abbrev pub IsCause : (bytes : List ℕ) → Unread → Type 0
 IsCause bytes unread.NoMemory = Unit {0}
-IsCause bytes (unread.BadHeader place) = trace_of 1 false bytes ≡ Err (headers.BadHeader place)
+IsCause bytes (unread.BadHeader place) = trace_of false bytes ≡ Err (headers.BadHeader place)
 IsCause bytes (unread.BadTrace place) = HasTraceEnd bytes (BadTrace place)
 IsCause bytes unread.OtherLines = HasTraceEnd bytes Ended
 

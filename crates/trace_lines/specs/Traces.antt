@@ -1,17 +1,18 @@
 -- What the lines of a text say together: the trace that they spell, or the first line that is refused and why.
-use Rattle.std.specs.Prelude.{◌≡◌, ℕ, ◌+◌, ◌==◌, ◌&&◌, List, [], ◌∷◌, ◌++◌, length, Bool, Option, Some, None, Result, Ok, Err, if◌then◌else◌}
+use Rattle.std.specs.Prelude.{◌≡◌, ℕ, ◌+◌, ◌==◌, ◌&&◌, List, [], ◌∷◌, ◌++◌, length, Bool, Option, Some, None, Result, Ok, Err, not, if◌then◌else◌}
+use Rattle.tod_stamp.specs.Fields.{is_version}
 use Rattle.ckd_track.specs.Effects.{keeps_rules}
 use Rattle.write_trace.specs.declared.header.Header.{Header}
 use Rattle.write_trace.specs.declared.header.VolumeHead.{VolumeHead}
 use Rattle.write_trace.specs.declared.entry.Entry.{Entry}
 use Rattle.write_trace.specs.declared.entry.Entry.TheVariants.{Written, Idle}
-use Rattle.write_trace.specs.Headers.{header_spelling, is_header_of, is_track_of}
+use Rattle.write_trace.specs.Headers.{header_spelling, is_header, is_track_of}
 use Rattle.write_trace.specs.Entries.{entry_spelling, is_stamp_from, stamp_of}
 use Rattle.trace_lines.specs.declared.draft.Draft.{Draft}
 use Rattle.trace_lines.specs.declared.draft.Untaken.{Untaken}
 use Rattle.trace_lines.specs.declared.draft.Untaken.TheVariants as untaken
 use Rattle.trace_lines.specs.declared.line.Line.{Line}
-use Rattle.trace_lines.specs.declared.line.Line.TheVariants.{Nothing, Volume, Base, Told}
+use Rattle.trace_lines.specs.declared.line.Line.TheVariants.{Nothing, Version, Volume, Base, Told}
 use Rattle.trace_lines.specs.declared.refusal.Cause.{Cause}
 use Rattle.trace_lines.specs.declared.refusal.Cause.TheVariants.{Grammar, Order, Rule}
 use Rattle.trace_lines.specs.declared.refusal.Refusal.{Refusal}
@@ -28,6 +29,7 @@ pub record Said : Type 0 where
   pub entries : List ℕ
   pub last : ℕ
 
+-- A text that names no version says a trace of version 1.
 abbrev pub nothing_said : Said
 nothing_said = record { header = record { version = 1; volumes = []; base = [] }; entries = []; last = 0 }
 
@@ -37,7 +39,7 @@ said_by draft = record { header = draft.header; entries = draft.entries; last = 
 
 -- the header, if it keeps the rules
 unfoldable pub with_header : Header → (entries : List ℕ) → (last : ℕ) → Result Said Cause
-with_header header entries last = if is_header_of 1 header then Ok (record { header = header; entries = entries; last = last }) else Err Rule
+with_header header entries last = if is_header header then Ok (record { header = header; entries = entries; last = last }) else Err Rule
 
 -- Whether an entry may follow one of the stamp `last`. What a whole track holds is a track by its type.
 abbrev pub may_follow : List VolumeHead → (last : ℕ) → Entry → Bool
@@ -48,14 +50,20 @@ may_follow volumes last (Written w) = is_stamp_from last w.stamp.0 && is_track_o
 unfoldable pub with_entry : Entry → Said → Result Said Cause
 with_entry e said =
     if may_follow said.header.volumes said.last e
-    then Ok (record { header = said.header; entries = said.entries ++ entry_spelling 1 e; last = stamp_of e }) else Err Rule
+    then Ok (record { header = said.header; entries = said.entries ++ entry_spelling said.header.version e; last = stamp_of e }) else Err Rule
+
+abbrev pub header_of_version : (version : ℕ) → Header → Header
+header_of_version version header = record { version = version; volumes = header.volumes; base = header.base }
 
 abbrev pub header_with_volume : VolumeHead → Header → Header
 header_with_volume v header = record { version = header.version; volumes = header.volumes ++ v ∷ []; base = header.base }
 
--- Volumes come first, then base tracks, then entries.
+-- The version comes first, then volumes, then base tracks, then entries.
 unfoldable pub with_line : Line → Said → Result Said Cause
 with_line Nothing said = Ok said
+with_line (Version version) said =
+    if not (length said.header.volumes == 0) then Err Order
+    else if is_version version then Ok (record { header = header_of_version version said.header; entries = said.entries; last = said.last }) else Err Rule
 with_line (Volume v) said =
     if length said.header.base == 0 && length said.entries == 0
     then with_header (header_with_volume v said.header) said.entries said.last else Err Order

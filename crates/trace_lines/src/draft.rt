@@ -1,7 +1,7 @@
 //! A trace that lines have begun.
 
 ghost use Rattle.std.specs.Prelude.{◌≡◌, ◌<◌, length, IsTrue};
-ghost use Rattle.write_trace.specs.Headers.{is_header_of};
+ghost use Rattle.write_trace.specs.Headers.{is_header};
 
 use crate::refusal::Cause;
 use write_trace::Header;
@@ -31,5 +31,5 @@ pub struct Draft {
     pub(crate) header: Header,
     pub(crate) entries: Bytes,
     pub(crate) last: u64,
-    ghost ruled: { 0 < length header.volumes → IsTrue (is_header_of 1 header) },
+    ghost ruled: { 0 < length header.volumes → IsTrue (is_header header) },
 }

@@ -1,7 +1,7 @@
 //! Lines taken into a draft, one after the other.
 
 ghost use Rattle.std.specs.Prelude.{◌≡◌, ◌<◌, ◌++◌, length, IfOk, IsTrue};
-ghost use Rattle.write_trace.specs.Headers.{cylinders_of, header_spelling, is_header_of, is_track_of};
+ghost use Rattle.write_trace.specs.Headers.{cylinders_of, header_spelling, is_header, is_track_of};
 ghost use Rattle.write_trace.specs.Entries.{entry_spelling, is_stamp_from, stamp_of};
 ghost use Rattle.trace_lines.specs.declared.line.Line.TheVariants as lines;
 ghost use Rattle.trace_lines.specs.Traces.{IsDraft, said_by, nothing_said, may_follow as follows, with_entry, with_header, with_line, with_text};
@@ -53,7 +53,7 @@ fn may_follow(volumes: &[VolumeHead], last: u64, entry: &Entry) -> bool
 }
 
 /// Puts the spelling of an entry after others, and gives its stamp.
-#[tactic(auto, using(crate::proofs::Entries::idle_is_stamped, crate::proofs::Entries::write_is_stamped, crate::proofs::Entries::write_is_near, crate::proofs::Entries::write_keeps_rules))]
+#[tactic(auto, using(crate::proofs::Entries::idle_is_stamped, crate::proofs::Entries::write_is_stamped, crate::proofs::Entries::version_is_known, crate::proofs::Entries::write_is_near, crate::proofs::Entries::write_keeps_rules))]
 fn spell(
     alloc: Global,
     header: &Header,
@@ -61,9 +61,9 @@ fn spell(
     out: &mut Bytes,
     entry: &Entry,
 ) -> Result<u64, NoMemory>
-    requires header { IsTrue (is_header_of 1 header.now) }
+    requires header { IsTrue (is_header header.now) }
     requires follows { IsTrue (follows header.now.volumes last entry.now) }
-    ensures { IfOk result (λ stamp. (stamp ≡ stamp_of entry.now) × (out.new ≡ out.old ++ entry_spelling 1 entry.now)) }
+    ensures { IfOk result (λ stamp. (stamp ≡ stamp_of entry.now) × (out.new ≡ out.old ++ entry_spelling header.now.version entry.now)) }
 {
     match entry {
         Entry::Idle(stamp) => {
@@ -71,7 +71,7 @@ fn spell(
             Ok(stamp.0)
         }
         Entry::Written(write) => {
-            TraceWriter::write(alloc, out, write)?;
+            TraceWriter::write(alloc, out, header.version, write)?;
             Ok(write.stamp.0)
         }
     }
@@ -129,6 +129,29 @@ impl Draft {
     }
 
     #[tactic(auto, unfolding(crate::specs::Traces::with_line))]
+    fn with_version(self, version: u8) -> Result<Draft, Untaken>
+        ensures { IsDraft result (with_line (lines.Version version) (said_by self)) }
+    {
+        if self.header.volumes.len() > 0 {
+            return Err(Untaken::Refused(Cause::Order));
+        }
+        if !(1..=2).contains(&version) {
+            return Err(Untaken::Refused(Cause::Rule));
+        }
+        let Draft {
+            mut header,
+            entries,
+            last,
+        } = self;
+        header.version = version;
+        Ok(Draft {
+            header,
+            entries,
+            last,
+        })
+    }
+
+    #[tactic(auto, unfolding(crate::specs::Traces::with_line))]
     fn with_volume(self, alloc: Global, head: VolumeHead) -> Result<Draft, Untaken>
         ensures { IsDraft result (with_line (lines.Volume head) (said_by self)) }
     {
@@ -166,6 +189,7 @@ impl Draft {
     {
         match line {
             Line::Nothing => Ok(self),
+            Line::Version(version) => self.with_version(version),
             Line::Volume(head) => self.with_volume(alloc, head),
             Line::Base(volume, track, content) => self.with_base(alloc, (volume, track, content)),
             Line::Told(entry) => {

@@ -8,6 +8,8 @@ use write_trace::{Entry, VolumeHead};
 pub enum Line {
     /// Nothing: it is empty, or a remark.
     Nothing,
+    /// The version of the trace.
+    Version(u8),
     /// The next volume of the header.
     Volume(VolumeHead),
     /// The next base track of the header: its volume, its number there, and what it holds.

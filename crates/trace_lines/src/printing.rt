@@ -6,7 +6,7 @@ ghost use Rattle.trace_lines.specs.Refusals.{HasTraceEnd, IsCause};
 ghost use Rattle.trace_lines.specs.Traces.{trace_in};
 
 use crate::refusal::{Unread, Unwritten};
-use crate::spelling::{put_base, put_idle, put_volume, put_write};
+use crate::spelling::{put_base, put_idle, put_version, put_volume, put_write};
 use crate::writing::trace_of_text;
 use std::alloc::Global;
 use write_trace::{Entry, EntryList, Header, TraceEnd, read_entries, start};
@@ -16,6 +16,7 @@ use xrc_edge::{Bytes, MemorySource, NoMemory};
 const PULLED: u32 = 65_536;
 
 fn put_header(alloc: Global, out: &mut Bytes, header: &Header) -> Result<(), NoMemory> {
+    put_version(alloc, out, header.version)?;
     for volume in header.volumes.as_slice() {
         put_volume(alloc, out, volume)?;
     }

@@ -1,7 +1,7 @@
 //! Reading a line.
 
 ghost use Rattle.std.specs.Prelude.{◌≡◌, IfOk};
-ghost use Rattle.trace_lines.specs.Lines.{record_in as record_found, records_in as records_found, track_of_words as track_found, kind_in as kind_found, update_in as update_found, format_in as format_found, whole_in as whole_found, volume_in as volume_found, base_line_in as base_found, idle_in as idle_found, write_in as write_found, line_of_words, line_in as line_found, is_remark};
+ghost use Rattle.trace_lines.specs.Lines.{record_in as record_found, records_in as records_found, track_of_words as track_found, kind_in as kind_found, update_in as update_found, format_in as format_found, whole_in as whole_found, volume_in as volume_found, base_line_in as base_found, idle_in as idle_found, write_in as write_found, version_in as version_found, line_of_words, line_in as line_found, is_remark};
 
 use crate::line::Line;
 use crate::pieces::split_first;
@@ -127,13 +127,21 @@ fn kind_in(alloc: Global, word: &[u8], text: &[u8]) -> Result<Option<Kind>, NoMe
     }
 }
 
+#[tactic(auto, unfolding(crate::specs::Lines::version_in))]
+fn version_in(text: &[u8]) -> Option<Line>
+    ensures { result ≡ version_found text.now }
+{
+    let version = number_in(255, text)?;
+    Some(Line::Version(version as u8))
+}
+
 #[tactic(auto, unfolding(crate::specs::Lines::volume_in))]
 fn volume_in(text: &[u8]) -> Option<Line>
     ensures { result ≡ volume_found text.now }
 {
     let (serial, cylinders) = split_first(b' ', text);
     let serial = serial_in(serial)?;
-    let cylinders = number_in(u32::from(u16::MAX), cylinders)?;
+    let cylinders = number_in(u32::MAX, cylinders)?;
     Some(Line::Volume(VolumeHead { serial, cylinders }))
 }
 
@@ -194,7 +202,9 @@ fn write_in(alloc: Global, word: &[u8], text: &[u8]) -> Result<Option<Line>, NoM
 fn line_of_words(alloc: Global, word: &[u8], text: &[u8]) -> Result<Option<Line>, NoMemory>
     ensures { IfOk result (λ line. line ≡ line_of_words word.now text.now) }
 {
-    if word == b"volume".as_slice() {
+    if word == b"version".as_slice() {
+        Ok(version_in(text))
+    } else if word == b"volume".as_slice() {
         Ok(volume_in(text))
     } else if word == b"base".as_slice() {
         base_in(alloc, text)

@@ -11,7 +11,7 @@ use xrc_edge::NoMemory;
 pub enum Cause {
     /// It is outside the grammar.
     Grammar,
-    /// It comes too late, as a volume behind an entry, or too early, as an entry or the end before a volume.
+    /// It comes too late, as a version behind a volume, or too early, as an entry or the end before a volume.
     Order,
     /// What it says breaks a rule of traces, after the lines before it.
     Rule,
@@ -86,7 +86,7 @@ impl fmt::Display for Refusal {
             Cause::Grammar => write!(f, "line {line} is outside the grammar: mend it"),
             Cause::Order => write!(
                 f,
-                "line {line} is not in order: volumes come first, then base tracks, then entries"
+                "line {line} is not in order: a version comes first, then volumes, then base tracks, then entries"
             ),
             Cause::Rule => write!(
                 f,

@@ -53,6 +53,12 @@ fn put_records(alloc: Global, out: &mut Bytes, recs: &[Rec]) -> Result<(), NoMem
     put(alloc, out, b"\n")
 }
 
+pub(crate) fn put_version(alloc: Global, out: &mut Bytes, version: u8) -> Result<(), NoMemory> {
+    put(alloc, out, b"version")?;
+    put_number(alloc, out, u64::from(version))?;
+    put(alloc, out, b"\n")
+}
+
 pub(crate) fn put_volume(
     alloc: Global,
     out: &mut Bytes,

@@ -42,7 +42,7 @@ second_entry = on_three 0x6E (Update 1 (codes "Z"))
 
 -- what these bytes are, from a source that didn't fail
 abbrev pub read_one : List ℕ → Result Trace HeaderError
-read_one given = trace_of 1 false given
+read_one given = trace_of false given
 
 -- the header of one volume, these entries and this end
 abbrev pub one_with : List Entry → TraceEnd → Result Trace HeaderError

@@ -3,7 +3,9 @@
 ghost use Rattle.std.specs.Prelude.{◌≡◌, []};
 
 use crate::fixtures::serial;
-use pair_table::{PairRow, PairState, PairTable, SuspendCause, decode_row, encode_row};
+use pair_table::{
+    PairRow, PairState, PairTable, SuspendCause, decode_row, decode_row1, encode_row,
+};
 use std::alloc::Global;
 use std::process::Abort;
 use tod_stamp::{Session, Stamp};
@@ -27,6 +29,7 @@ fn row_on(rt: &impl Abort, device: u16) -> PairRow {
         device,
         cylinders: 1,
         state: PairState::Pending,
+        group: None,
     }
 }
 
@@ -47,13 +50,16 @@ fn are_devices(rt: &impl Abort, table: &PairTable, devices: &[u16]) {
 }
 
 /// Spells a row that an empty table takes, and reads it again.
-fn is_spelled(rt: &impl Abort, alloc: Global, row: PairRow, bytes: &[u8; 30]) {
+fn is_spelled(rt: &impl Abort, alloc: Global, row: PairRow, bytes: &[u8; 38]) {
     assert!(rt; table(rt, alloc).may_put(&row));
     assert_eq!(rt; (encode_row(&row), decode_row(bytes)), (*bytes, Some(row)));
 }
 
 /// PRIM01 and SEC001, controller 0, volume 0, device 0, one cylinder, duplex.
-const FIRST_BYTES: [u8; 30] = *b"PRIM01SEC001\0\0\0\0\0\0\0\x01\x02\0\0\0\0\0\0\0\0\0";
+const FIRST_BYTES: [u8; 38] = *b"PRIM01SEC001\0\0\0\0\0\0\0\0\0\x01\x02\0\0\0\0\0\0\0\0\0      ";
+
+/// The same in version 1.
+const NARROW_BYTES: [u8; 30] = *b"PRIM01SEC001\0\0\0\0\0\0\0\x01\x02\0\0\0\0\0\0\0\0\0";
 
 fn first_row(rt: &impl Abort) -> PairRow {
     PairRow {
@@ -74,8 +80,9 @@ fn each_part_of_a_row_has_its_bytes(rt: HostRuntime) {
         (15, 31, (0, 31, 0, 1)),
         (16, 1, (0, 0, 256, 1)),
         (17, 255, (0, 0, 255, 1)),
-        (18, 255, (0, 0, 0, 65_281)),
-        (19, 255, (0, 0, 0, 255)),
+        (19, 15, (0, 0, 0, 983_041)),
+        (20, 255, (0, 0, 0, 65_281)),
+        (21, 255, (0, 0, 0, 255)),
     ];
     for (place, byte, numbers) in cases {
         let (mut row, mut bytes) = (first_row(&rt), FIRST_BYTES);
@@ -95,17 +102,47 @@ fn a_row_may_stand_at_the_end_of_each_range(rt: HostRuntime) {
         control: 15,
         volume: 31,
         device: 65_535,
+        cylinders: 1_000_000,
+        state: PairState::Suspended {
+            cause: SuspendCause::Group,
+            since: Stamp(u64::MAX),
+        },
+        group: Some(serial(&rt, b"Z")),
+    };
+    let mut bytes = [0xFF; 38];
+    bytes[..24].copy_from_slice(b"A     9@#$ZX\0\x0F\0\x1F\xFF\xFF\0\x0F\x42\x40\x03\x05");
+    bytes[32..].copy_from_slice(b"Z     ");
+    is_spelled(&rt, rt.alloc(), row, &bytes);
+    bytes[21] = 0x41;
+    assert_eq!(rt; decode_row(&bytes), None);
+    bytes[21] = 0x40;
+    bytes[32] = b' ';
+    bytes[33] = b'Z';
+    assert_eq!(rt; decode_row(&bytes), None);
+}
+
+#[test]
+fn rows_of_version_1_are_read(rt: HostRuntime) {
+    assert_eq!(rt; decode_row1(&NARROW_BYTES), Some(first_row(&rt)));
+    let mut bytes = NARROW_BYTES;
+    bytes[18..22].copy_from_slice(b"\xFF\xF0\x03\x04");
+    let row = PairRow {
         cylinders: 65_520,
         state: PairState::Suspended {
             cause: SuspendCause::Control,
-            since: Stamp(u64::MAX),
+            since: Stamp(0),
         },
+        ..first_row(&rt)
     };
-    let mut bytes = [0xFF; 30];
-    bytes[..22].copy_from_slice(b"A     9@#$ZX\0\x0F\0\x1F\xFF\xFF\xFF\xF0\x03\x04");
-    is_spelled(&rt, rt.alloc(), row, &bytes);
-    bytes[19] = 0xF1;
-    assert_eq!(rt; decode_row(&bytes), None);
+    assert_eq!(rt; decode_row1(&bytes), Some(row));
+    // 65,521 cylinders, and the cause of a group.
+    for (place, byte) in [(19, 0xF1), (21, 5)] {
+        let mut bytes = bytes;
+        if let Some(changed) = bytes.get_mut(place) {
+            *changed = byte;
+        }
+        assert_eq!(rt; decode_row1(&bytes), None);
+    }
 }
 
 #[test]

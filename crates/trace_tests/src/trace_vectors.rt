@@ -1,7 +1,7 @@
 //! Worked traces: what the definitions give for them.
 #![tactic(auto, unfolding(write_trace::specs::WholeTraces::trace_of, write_trace::specs::WholeTraces::entries_from, write_trace::specs::Headers::header_at, write_trace::specs::Headers::version_at, write_trace::specs::Headers::volumes_at, write_trace::specs::Headers::volume_at, write_trace::specs::Headers::bases_at, write_trace::specs::Headers::base_at, write_trace::specs::Headers::place_at, write_trace::specs::Entries::entry_at, write_trace::specs::Entries::write_at, write_trace::specs::Entries::kind_at, ckd_track::specs::Fields::update_at, write_trace::specs::Entries::format_at, write_trace::specs::Entries::whole_at, tod_stamp::specs::Fields::bytes_at, tod_stamp::specs::Fields::number_at, ckd_track::specs::Images::image_at, ckd_track::specs::Images::records_at, ckd_track::specs::Images::record_at, ckd_track::specs::Images::record_after_head))]
 
-ghost use Rattle.std.specs.Prelude.{◌≡◌, ◌++◌, ◌∷◌, [], true, false, Ok, Err, codes, length, take, slice_set};
+ghost use Rattle.std.specs.Prelude.{◌≡◌, ◌+◌, ◌++◌, ◌∷◌, [], true, false, Ok, Err, codes, length, take, slice_set};
 ghost use Rattle.std.specs.List.{flat_map};
 ghost use Rattle.test_fixtures.specs.Hex.{hex};
 ghost use Rattle.ckd_track.specs.declared.write.Kind.TheVariants.{Format};
@@ -23,7 +23,7 @@ pub fn spelled_trace()
 /// The whole trace, its first bytes, and bytes of it that are other ones.
 pub fn read_traces()
     ensures whole { read_one one_trace ≡ one_with (first_entry ∷ second_entry ∷ []) Ended }
-    ensures other_mark { read_one (hex (codes "58545232 0001")) ≡ Err (BadHeader 0) }
+    ensures other_mark { read_one (hex (codes "58545233 0001")) ≡ Err (BadHeader 0) }
     ensures no_volumes { read_one (hex (codes "58545231 0000")) ≡ Err (BadHeader 4) }
     ensures first_12 { read_one (take 12 one_trace) ≡ Err (BadHeader 12) }
     ensures first_18 { read_one (take 18 one_trace) ≡ one_with [] Ended }
@@ -31,10 +31,10 @@ pub fn read_traces()
     ensures first_59 { read_one (take 59 one_trace) ≡ one_with (first_entry ∷ []) (BadTrace 41) }
     ensures other_tag { read_one (slice_set one_trace 41 7) ≡ one_with (first_entry ∷ []) (BadTrace 41) }
     ensures stamp_falls { read_one (slice_set one_trace 49 0x63) ≡ one_with (first_entry ∷ []) (BadTrace 41) }
-    ensures cut_in_fault { trace_of 1 true (take 59 one_trace) ≡ one_with (first_entry ∷ []) ReadFault }
-    ensures bad_in_fault { trace_of 1 true (slice_set one_trace 41 7) ≡ one_with (first_entry ∷ []) (BadTrace 41) }
-    ensures fault_in_header { trace_of 1 true (take 12 one_trace) ≡ Err HeaderFault }
-    ensures fault_after { trace_of 1 true one_trace ≡ one_with (first_entry ∷ second_entry ∷ []) ReadFault }
+    ensures cut_in_fault { trace_of true (take 59 one_trace) ≡ one_with (first_entry ∷ []) ReadFault }
+    ensures bad_in_fault { trace_of true (slice_set one_trace 41 7) ≡ one_with (first_entry ∷ []) (BadTrace 41) }
+    ensures fault_in_header { trace_of true (take 12 one_trace) ≡ Err HeaderFault }
+    ensures fault_after { trace_of true one_trace ≡ one_with (first_entry ∷ second_entry ∷ []) ReadFault }
 {}
 
 /// A header that is cut: the place is that of the field that is cut.
@@ -62,7 +62,7 @@ pub fn base_tracks()
     ensures cylinder { read_one (two_bases (hex (codes "0000 0002 0004 0000"))) ≡ Err (BadHeader 28) }
     ensures volume { read_one (two_bases (hex (codes "0001 0000 0004 0000"))) ≡ Err (BadHeader 26) }
     ensures image { read_one (two_bases (hex (codes "0000 0000 0004 0001 00 00 0000"))) ≡ Err (BadHeader 32) }
-    ensures cut_image { trace_of 1 true (two_bases (hex (codes "0000 0000 0004 0001 01"))) ≡ Err HeaderFault }
+    ensures cut_image { trace_of true (two_bases (hex (codes "0000 0000 0004 0001 01"))) ≡ Err HeaderFault }
     ensures many { read_one (hex (codes "58545231 0001 5052494D3031 0001 00000010")) ≡ Err (BadHeader 14) }
 {}
 
@@ -79,7 +79,10 @@ pub fn formats()
 pub fn large_volumes()
     ensures header { header_spelling large_header ≡ hex (codes "58545232 0001 5052494D3031 00011170 00000000") }
     ensures entry { entry_spelling 2 last_track ≡ hex (codes "04 0000000000000064 0000 0001116F 000E 0001010000024142") }
-    ensures read { trace_of 2 false (header_spelling large_header ++ entry_spelling 2 last_track) ≡ Ok (record { header = large_header; entries = last_track ∷ []; end = Ended }) }
-    ensures too_many { trace_of 2 false (hex (codes "58545232 0001 5052494D3031 000F4241 00000000")) ≡ Err (BadHeader 12) }
-    ensures third { trace_of 2 false (hex (codes "58545233")) ≡ Err (BadHeader 0) }
+    ensures read { trace_of false (header_spelling large_header ++ entry_spelling 2 last_track) ≡ Ok (record { header = large_header; entries = last_track ∷ []; end = Ended }) }
+    ensures too_many { trace_of false (hex (codes "58545232 0001 5052494D3031 000F4241 00000000")) ≡ Err (BadHeader 12) }
+    ensures too_many_narrow { trace_of false (hex (codes "58545231 0001 5052494D3031 FFF1 00000000")) ≡ Err (BadHeader 12) }
+    ensures cut { trace_of false (take 15 (header_spelling large_header)) ≡ Err (BadHeader 12) }
+    ensures equal { trace_of false (hex (codes "58545232 0002 5052494D3031 00000001 5052494D3031 00000001 00000000")) ≡ Err (BadHeader 16) }
+    ensures longer { length (entry_spelling 2 last_track) ≡ length (entry_spelling 1 first_entry) + 2 }
 {}

@@ -6,10 +6,17 @@ use std::alloc::Global;
 use std::process::Abort;
 use write_trace::{BaseList, Header, Next, TraceEnd, VolumeHead, VolumeList, read_entries, start};
 
-/// Volumes of one and of 65,520 cylinders with these serials, and an empty base track.
-fn header(rt: &impl Abort, alloc: Global, serials: [&[u8]; 2], place: (u16, u32)) -> Header {
+/// A header of a version, of volumes of one and of that many cylinders with these serials, and an empty base track.
+fn header(
+    rt: &impl Abort,
+    alloc: Global,
+    version: u8,
+    serials: [&[u8]; 2],
+    most: u32,
+    place: (u16, u32),
+) -> Header {
     let mut volumes = VolumeList::make(alloc);
-    for (name, cylinders) in serials.into_iter().zip([1, 65_520]) {
+    for (name, cylinders) in serials.into_iter().zip([1, most]) {
         let serial = serial(rt, name);
         let head = VolumeHead { serial, cylinders };
         volumes.push(alloc, head).expect(rt, "memory");
@@ -19,7 +26,7 @@ fn header(rt: &impl Abort, alloc: Global, serials: [&[u8]; 2], place: (u16, u32)
     base.push(alloc, (volume, track, Track::make(alloc)))
         .expect(rt, "memory");
     Header {
-        version: 1,
+        version,
         volumes,
         base,
     }
@@ -30,17 +37,22 @@ fn headers_keep_the_rules_or_not(rt: HostRuntime) {
     let alloc = rt.alloc();
     let (two, same) = ([b"PRIM01".as_slice(), b"PRIM02"], [b"PRIM01".as_slice(); 2]);
     let cases = [
-        (two, (1, 982_799), true),
-        (two, (0, 14), true),
-        (two, (0, 15), false),
-        (two, (2, 0), false),
-        (same, (0, 0), false),
+        (1, two, 65_520, (1, 982_799), true),
+        (1, two, 65_521, (0, 0), false),
+        (1, two, 65_520, (0, 14), true),
+        (1, two, 65_520, (0, 15), false),
+        (1, two, 65_520, (2, 0), false),
+        (1, same, 65_520, (0, 0), false),
+        (2, two, 65_521, (1, 982_814), true),
+        (2, two, 1_000_000, (1, 14_999_999), true),
+        (2, two, 1_000_000, (1, 15_000_000), false),
+        (2, two, 1_000_001, (0, 0), false),
+        (0, two, 1, (0, 0), false),
+        (3, two, 1, (0, 0), false),
     ];
-    for (serials, place, keeps) in cases {
-        let mut header = header(&rt, alloc, serials, place);
-        assert!(rt; header.keeps_rules() == keeps, "{place:?}");
-        header.version = 2;
-        assert!(rt; !header.keeps_rules());
+    for (version, serials, most, place, keeps) in cases {
+        let header = header(&rt, alloc, version, serials, most, place);
+        assert!(rt; header.keeps_rules() == keeps, "{version} {place:?}");
     }
 }
 

@@ -7,12 +7,17 @@ use write_trace::{Entry, Header, TraceEnd, TraceWriter, read_entries, start};
 use xrc_edge::Bytes;
 
 /// Puts an entry that keeps the rules after a trace.
-fn put(rt: &impl Abort, alloc: Global, out: &mut Bytes, entry: &Entry) {
+fn put(rt: &impl Abort, alloc: Global, out: &mut Bytes, version: u8, entry: &Entry) {
     let put = match entry {
         Entry::Written(write) => {
             assert!(rt; write.kind.keeps_rules());
-            assert!(rt; write.stamp.0 >= 1 && write.track < 982_800);
-            TraceWriter::write(alloc, out, write)
+            assert!(rt; write.stamp.0 >= 1 && write.track < 15_000_000);
+            if version == 1 {
+                assert!(rt; write.track < 982_800);
+                TraceWriter::write(alloc, out, 1, write)
+            } else {
+                TraceWriter::write(alloc, out, 2, write)
+            }
         }
         Entry::Idle(stamp) => {
             assert!(rt; stamp.0 >= 1);
@@ -28,7 +33,7 @@ fn written(rt: &impl Abort, alloc: Global, header: &Header, entries: &[Entry]) -
     let mut out = Bytes::make(alloc);
     TraceWriter::header(alloc, &mut out, header).expect(rt, "memory");
     for entry in entries {
-        put(rt, alloc, &mut out, entry);
+        put(rt, alloc, &mut out, header.version, entry);
     }
     out
 }
@@ -49,12 +54,17 @@ fn reads_back(rt: &impl Abort, alloc: Global, bytes: &[u8], most: u32, count: us
 const TWO_BASES: [u8; 74] =
     *b"XTR1\0\x02A     \0\x01B     \0\x01\0\0\0\x02\0\0\0\0\0\x05\0\0\0\x01\0\0\0\0\0\0\x01\0\0\0\0\0\0\0\x09\x03\0\0\0\0\0\0\0\x09\0\0\0\0\0\x03\x01\x01\x02\0\0\x02CD";
 
+/// Version 2: a volume of 70,000 cylinders with its track 1,049,999 empty; that track whole, an update of it, and an idle entry.
+const LARGE: [u8; 86] =
+    *b"XTR2\0\x01PRIM01\0\x01\x11\x70\0\0\0\x01\0\0\0\x01\x11\x6F\0\x0E\0\0\x04\0\0\0\0\0\0\0\x64\0\0\0\x01\x11\x6F\0\x0E\0\x01\x01\0\0\x02AB\x02\0\0\0\0\0\0\0\x65\0\0\0\x01\x11\x6F\0\x0E\x01\0\x02CD\x01\0\0\0\0\0\0\0\x66";
+
 #[test]
 fn traces_are_read_and_written_again(rt: HostRuntime) {
     let alloc = rt.alloc();
     for most in [1, 7, 64, 65_536] {
         reads_back(&rt, alloc, &TRACE, most, 2);
         reads_back(&rt, alloc, &TWO_BASES, most, 2);
+        reads_back(&rt, alloc, &LARGE, most, 3);
     }
 }
 

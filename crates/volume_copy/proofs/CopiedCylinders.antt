@@ -4,14 +4,13 @@ use Rattle.ckd_track.specs.declared.rec.Rec.{Rec}
 use Rattle.ckd_track.specs.SlotPlaces.{slot_place, slot_track}
 use Rattle.crash_plant.specs.declared.device.Device.{Device}
 use Rattle.crash_plant.specs.declared.device.Device.TheVariants.{Volume}
-use Rattle.crash_plant.specs.Bytes.{Torn}
 use Rattle.crash_plant.specs.Moments.{PlantState, on, Follows, IsDurable, Same}
 use Rattle.crash_plant.specs.Calls.{WorksOn}
 use Rattle.copy_progress.specs.Copies.{done}
 use Rattle.copy_progress.specs.Slots.{Clears, NotesNext}
 use Rattle.volume_copy.specs.declared.copy_job.CopyJob.{CopyJob}
 use Rattle.volume_copy.specs.Copying.{WorksOnCopy}
-use Rattle.volume_copy.specs.Targets.{CopiesTo, IsCopyOf, HasCylindersDone, progress_after}
+use Rattle.volume_copy.specs.Targets.{CopiesTo, IsCopyOf, HasCylindersDone, WritesTargetSlots, progress_after}
 use Rattle.volume_copy.proofs.Copying.{copy_here, copy_trans, copy_wider, on_target, read_step, then_target}
 use Rattle.volume_copy.proofs.Progress.{next_counts}
 use Rattle.volume_copy.proofs.Targets.{copies_cleared, copies_here, copies_noted, copies_then, copies_torn}
@@ -46,11 +45,11 @@ module _ (tells : Type 0) (job : CopyJob) (apart : job.source ≢ job.target) wh
     at : (told : tells) (x : List ℕ) → a.images a.clock t x → done job.claim x ≡ 15 * k
     at told x here = ap (done job.claim) (durable told x here) ∙ (stands told).done_is
 
-    module _ (tracks : WorksOnCopy tells job.source job.target (Torn (slot_place (15 * k)) 860160) a b) where
+    module _ (tracks : WorksOnCopy tells job.source job.target (WritesTargetSlots (slot_track (a.bytes (Volume job.source))) (slot_place (15 * k)) 860160) a b) where
       pub cylinder_tracks : WorksOnCopy tells job.source job.target (StepOf job a) a b
-      cylinder_tracks = copy_wider tells job.source job.target apart (Torn (slot_place (15 * k)) 860160) (StepOf job a) a b
-          (λ told x y here torn. copies_torn (slot_track (a.bytes (Volume job.source))) job.claim k within x y (at told x here) torn)
-          (λ told torn. copies_torn (slot_track (a.bytes (Volume job.source))) job.claim k within (a.bytes t) (b.bytes t) (stands told).done_is torn) tracks
+      cylinder_tracks = copy_wider tells job.source job.target apart (WritesTargetSlots (slot_track (a.bytes (Volume job.source))) (slot_place (15 * k)) 860160) (StepOf job a) a b
+          (λ told x y here w. copies_torn (slot_track (a.bytes (Volume job.source))) job.claim k within x y (at told x here) w.torn w.rests)
+          (λ told w. copies_torn (slot_track (a.bytes (Volume job.source))) job.claim k within (a.bytes t) (b.bytes t) (stands told).done_is w.torn w.rests) tracks
 
       -- Then that is noted.
       module _ (c : PlantState) (all : tells → (x : ℕ) → 15 * k ≤ x → x < 15 * (k + 1) → IsCopyOf (slot_track (a.bytes (Volume job.source)) x) (b.bytes t) x) (image : tells → c.images c.clock t (c.bytes t))
@@ -58,15 +57,18 @@ module _ (tells : Type 0) (job : CopyJob) (apart : job.source ≢ job.target) wh
         abbrev content : ℕ → Option (List Rec)
         content = slot_track (a.bytes (Volume job.source))
 
-        noted : (told : tells) (x y z : List ℕ) → x ≡ a.bytes t → Torn (slot_place (15 * k)) 860160 x y → NotesNext (progress_after job.claim k) (b.bytes t) y z → StepOf job a x z
-        noted told x y z is torn notes = subst (λ (l : List ℕ). StepOf job a l z) (sym is)
-            (copies_noted content job.claim k within (progress_after job.claim k) (next_counts job.claim k) refl (a.bytes t) (b.bytes t) (stands told).done_is (tracks.target_bytes told) (all told) y z
-            (copies_torn content job.claim k within (a.bytes t) y (stands told).done_is (subst (λ (l : List ℕ). Torn (slot_place (15 * k)) 860160 l y) is torn)) notes)
+        noted : (told : tells) (x y z : List ℕ) → x ≡ a.bytes t → WritesTargetSlots content (slot_place (15 * k)) 860160 x y → NotesNext (progress_after job.claim k) (b.bytes t) y z → StepOf job a x z
+        noted told x y z is writes notes =
+            let first = subst (λ (l : List ℕ). WritesTargetSlots content (slot_place (15 * k)) 860160 l y) is writes in
+            let all_written = tracks.target_bytes told in
+            subst (λ (l : List ℕ). StepOf job a l z) (sym is)
+            (copies_noted content job.claim k within (progress_after job.claim k) (next_counts job.claim k) refl (a.bytes t) (b.bytes t) (stands told).done_is all_written.torn all_written.rests (all told) y z
+            (copies_torn content job.claim k within (a.bytes t) y (stands told).done_is first.torn first.rests) notes)
 
         pub cylinder_noted : WorksOnCopy tells job.source job.target (StepOf job a) a c
-        cylinder_noted = then_target tells job.source job.target apart (Torn (slot_place (15 * k)) 860160) (NotesNext (progress_after job.claim k) (b.bytes t)) (StepOf job a) a b c durable image
-            (λ told x y here torn. copies_torn content job.claim k within x y (at told x here) torn)
-            (λ told x y z here torn notes. noted told x y z (durable told x here) torn notes)
+        cylinder_noted = then_target tells job.source job.target apart (WritesTargetSlots content (slot_place (15 * k)) 860160) (NotesNext (progress_after job.claim k) (b.bytes t)) (StepOf job a) a b c durable image
+            (λ told x y here w. copies_torn content job.claim k within x y (at told x here) w.torn w.rests)
+            (λ told x y z here w notes. noted told x y z (durable told x here) w notes)
             tracks only moments
 
   -- ---- the beginning

@@ -37,6 +37,12 @@ range_inner p q from to b c same low up high = part c ∙ ap (λ (l : List ℕ).
         ∙ sym (take-take (to - from) (q - from) (drop (from - p) (drop p l)) (omega (arith, high)))
         ∙ ap (λ (m : List ℕ). take (to - from) m) (sym (drop-take (from - p) (q - from) (drop p l)) ∙ ap (λ (k : ℕ). drop (from - p) (take k (drop p l))) room)
 
+-- no range
+pub range_none : (from to : ℕ) (b c : List ℕ) → to ≤ from → slice_range c from to ≡ slice_range b from to
+range_none from to b c le =
+    let none : to - from ≡ 0 = omega (arith, le) in
+    ap (λ (k : ℕ). take k (drop from c)) none ∙ sym (ap (λ (k : ℕ). take k (drop from b)) none)
+
 -- what stands beside a torn range
 pub torn_beside : (p n from to : ℕ) (b c : List ℕ) → Torn p n b c → from ≤ to → (to ≤ p) ⊎ (p + n ≤ from) → slice_range c from to ≡ slice_range b from to
 torn_beside p n from to b c torn up (inl before) = range_front p from to b c torn.before up before

@@ -1,12 +1,13 @@
 -- How a target comes from one image to another while a volume is copied to it.
 use Rattle.std.proofs.Common.{◌≡◌, ◌⊎◌, inl, inr, ◌≤◌, ◌<◌, ◌+◌, ◌-◌, ◌*◌, ◌++◌, ℕ, Bool, true, false, cond, List, length, take, drop, Option, Some, None, refl, sym, ◌∙◌, ap, subst, arith}
 use Rattle.std.specs.Prelude.{slice_range}
-use Rattle.std.proofs.lemmas.Bool.{cases_lt}
+use Rattle.std.proofs.lemmas.Bool.{cases_eq, cases_lt}
 use Rattle.std.proofs.lemmas.List.{take-take, take_at}
 use Rattle.ckd_track.specs.declared.rec.Rec.{Rec}
 use Rattle.ckd_track.specs.Images.{image}
 use Rattle.ckd_track.specs.SlotPlaces.{slot_end, slot_place}
 use Rattle.crash_plant.specs.Bytes.{patched, Torn}
+use Rattle.crash_plant.proofs.BehindGates.{torn_again}
 use Rattle.crash_plant.proofs.Patches.{torn_more, torn_twice}
 use Rattle.copy_progress.specs.declared.claim.Claim.{Claim}
 use Rattle.copy_progress.specs.declared.progress.Progress.{Progress}
@@ -14,8 +15,8 @@ use Rattle.copy_progress.specs.Copies.{counts_for, done, done_by}
 use Rattle.copy_progress.specs.Laws.{IsToldBehindFront, IsOfFront}
 use Rattle.copy_progress.specs.Slots.{Clears, NotesNext, OldOrNext, free_progress_place, is_second_slot_free, leading_progress, progress_place}
 use Rattle.copy_progress.proofs.Telling.{clearing, front_chosen, later_keep, next_tells, writes_keep}
-use Rattle.volume_copy.specs.Targets.{AreCopied, CopiesTo, IsCopyOf, SameFront}
-use Rattle.volume_copy.proofs.Ranges.{front_less, range_front, range_inner, range_rest, rest_less, torn_beside, written_after}
+use Rattle.volume_copy.specs.Targets.{AreCopied, CopiesTo, IsCopyOf, KeepsRests, SameFront, WritesTargetSlots, written_length}
+use Rattle.volume_copy.proofs.Ranges.{front_less, range_front, range_inner, range_none, range_rest, rest_less, torn_beside, written_after}
 
 -- ---- a track's copy
 
@@ -52,6 +53,41 @@ torn_next first count x a b c at one two =
 pub torn_same : (p n : ℕ) (b c : List ℕ) → c ≡ b → Torn p n b c
 torn_same p n b c is = record { before = ap (λ (l : List ℕ). take p l) is; after = ap (λ (l : List ℕ). drop (p + n) l) is; size = ap length is }
 
+-- the same range, told by other numbers
+pub torn_at : (p q n m : ℕ) (b c : List ℕ) → p ≡ q → n ≡ m → Torn p n b c → Torn q m b c
+torn_at p q n m b c at size torn = subst (λ (k : ℕ). Torn k m b c) at (subst (λ (k : ℕ). Torn p k b c) size torn)
+
+-- ---- what is written of slots
+
+module _ (content : ℕ → Option (List Rec)) where
+  pub writes_same : (p n : ℕ) (b c : List ℕ) → c ≡ b → WritesTargetSlots content p n b c
+  writes_same p n b c is = record { torn = torn_same p n b c is; rests = λ x. ap (λ (l : List ℕ). slice_range l (slot_place x + written_length (content x)) (slot_end x)) is }
+
+  pub writes_again : (p n : ℕ) (a b c : List ℕ) → WritesTargetSlots content p n a b → WritesTargetSlots content p n b c → WritesTargetSlots content p n a c
+  writes_again p n a b c x y = record { torn = torn_again p n a b c x.torn y.torn; rests = λ k. y.rests k ∙ x.rests k }
+
+  -- A write of the content's image leaves the rest of its slot, and the other slots.
+  pub writes_slot : (x : ℕ) (recs : List Rec) (b c : List ℕ) → content x ≡ Some recs → length (image recs) ≤ 57344 → Torn (slot_place x) (length (image recs)) b c → WritesTargetSlots content (slot_place x) 57344 b c
+  writes_slot x recs b c held short torn = record { torn = torn_slot (slot_place x) (slot_place x) (length (image recs)) b c refl short torn; rests = rest }
+    where
+      before : (y from : ℕ) → y < x → slice_range c from (slot_end y) ≡ slice_range b from (slot_end y)
+      before y from early = elim (cases_lt (slot_end y) from) [
+        | inl past ↦ range_none from (slot_end y) b c (omega (arith, past))
+        | inr up ↦ range_front (slot_place x) from (slot_end y) b c torn.before up (omega (arith, early))
+      ]
+
+      place : (y : ℕ) → x ≤ y → slot_place x + length (image recs) ≤ slot_place y + written_length (content y)
+      place y from = elim (cases_eq x y) [
+        | inl is ↦ let size : written_length (content y) ≡ length (image recs) = ap written_length (ap content (sym is) ∙ held) in omega (arith, is, size)
+        | inr differs ↦ omega (arith, from, differs, short)
+      ]
+
+      rest : KeepsRests content b c
+      rest y = elim (cases_lt y x) [
+        | inl early ↦ before y (slot_place y + written_length (content y)) early
+        | inr from ↦ range_rest (slot_place x + length (image recs)) (slot_place y + written_length (content y)) (slot_end y) b c torn.after (place y from)
+      ]
+
 -- A slot beside those that are written stays a copy.
 pub copy_beside : (t : Option (List Rec)) (x first count : ℕ) (b c : List ℕ) → Torn (slot_place first) (count * 57344) b c → (x < first) ⊎ (first + count ≤ x) → IsCopyOf t b x → IsCopyOf t c x
 copy_beside t x first count b c torn (inl before) copied = copy_same t x b c (torn_beside (slot_place first) (count * 57344) (slot_place x) (slot_end x) b c torn (omega arith) (inl (omega (arith, before)))) copied
@@ -79,6 +115,7 @@ module _ (content : ℕ → Option (List Rec)) where
       before = ap (λ (l : List ℕ). slice_range l 512 (slot_place (done claim b))) is;
       later = ap (λ (l : List ℕ). drop (slot_place (done claim c + 15)) l) is;
       behind = ap (λ (l : List ℕ). drop (slot_place claim.tracks) l) is;
+      rests = λ x. ap (λ (l : List ℕ). slice_range l (slot_place x + written_length (content x)) (slot_end x)) is;
     }
 
     pub copies_then : (a b c : List ℕ) → CopiesTo claim content a b → CopiesTo claim content b c → CopiesTo claim content a c
@@ -93,6 +130,7 @@ module _ (content : ℕ → Option (List Rec)) where
           before = range_inner 512 (slot_place (done claim b)) 512 (slot_place (done claim a)) b c y.before (omega arith) (omega arith) (omega (arith, up)) ∙ x.before;
           later = y.later ∙ rest_less (slot_place (done claim b + 15)) (slot_place (done claim c + 15)) a b (omega (arith, more)) x.later;
           behind = y.behind ∙ x.behind;
+          rests = λ n. y.rests n ∙ x.rests n;
         }
 
     -- the front is the same up to a place from the first slot on
@@ -119,8 +157,8 @@ module _ (content : ℕ → Option (List Rec)) where
       pub still_copied : AreCopied claim content b → AreCopied claim content c
       still_copied so = (writes_keep IsCopied claim b c (later_keep IsCopied slot_place (done claim b) b c of_front (omega arith) before_same) so).1
 
-      pub copies_torn : CopiesTo claim content b c
-      copies_torn = record {
+      pub copies_torn : KeepsRests content b c → CopiesTo claim content b c
+      copies_torn rests = record {
         size = torn.size;
         front = front_same b c front_is;
         more = omega (arith, done_still);
@@ -128,6 +166,7 @@ module _ (content : ℕ → Option (List Rec)) where
         before = range_front (slot_place (done claim b)) 512 (slot_place (done claim b)) b c before_same (omega arith) (omega arith);
         later = rest_less (slot_place (15 * k + 15)) (slot_place (done claim c + 15)) b c (omega (arith, done_still, at)) next_same;
         behind = rest_less (slot_place (15 * k + 15)) (slot_place claim.tracks) b c (omega (arith, within)) next_same;
+        rests = rests;
       }
 
     -- One slot of the progress may differ.
@@ -140,7 +179,7 @@ module _ (content : ℕ → Option (List Rec)) where
     slot_behind false b c torn = rest_less 59 512 b c (omega arith) torn.after
 
     -- The next progress is put once the cylinder's tracks are copied.
-    module _ (k : ℕ) (within : 15 * (k + 1) ≤ claim.tracks) (value : Progress) (is_counted : counts_for claim value ≡ true) (next_is : value.next ≡ 15 * (k + 1)) (b now : List ℕ) (at : done claim b ≡ 15 * k) (torn : Torn (slot_place (15 * k)) 860160 b now)
+    module _ (k : ℕ) (within : 15 * (k + 1) ≤ claim.tracks) (value : Progress) (is_counted : counts_for claim value ≡ true) (next_is : value.next ≡ 15 * (k + 1)) (b now : List ℕ) (at : done claim b ≡ 15 * k) (torn : Torn (slot_place (15 * k)) 860160 b now) (rests : KeepsRests content b now)
         (all : (x : ℕ) → 15 * k ≤ x → x < 15 * (k + 1) → IsCopyOf (content x) now x) where
       abbrev second : Bool
       second = is_second_slot_free (leading_progress (drop 16 now)) (leading_progress (drop 80 now))
@@ -169,7 +208,7 @@ module _ (content : ℕ → Option (List Rec)) where
 
         pub copies_put : CopiesTo claim content b c
         copies_put =
-            let first = copies_torn k within b now at torn in
+            let first = copies_torn k within b now at torn rests in
             let front = slot_front second now c step.elsewhere in
             let up : 15 * k ≤ done claim c = elim done_cases [ inl same ↦ omega (arith, same, still, at) | inr new ↦ omega (arith, new, next_is) ] in
             record {
@@ -180,6 +219,7 @@ module _ (content : ℕ → Option (List Rec)) where
               before = range_rest 512 512 (slot_place (done claim b)) now c behind_same (omega arith) ∙ first.before;
               later = rest_less 512 (slot_place (done claim c + 15)) now c (omega arith) behind_same ∙ rest_less (slot_place (done claim now + 15)) (slot_place (done claim c + 15)) b now (omega (arith, up, still, at)) first.later;
               behind = rest_less 512 (slot_place claim.tracks) now c (omega arith) behind_same ∙ first.behind;
+              rests = λ x. range_rest 512 (slot_place x + written_length (content x)) (slot_end x) now c behind_same (omega arith) ∙ first.rests x;
             }
 
       pub copies_noted : (mid c : List ℕ) → CopiesTo claim content b mid → NotesNext value now mid c → CopiesTo claim content b c
@@ -201,4 +241,5 @@ module _ (content : ℕ → Option (List Rec)) where
           before = range_rest 512 512 (slot_place (done claim b)) b c rest (omega arith);
           later = rest_less 512 (slot_place (done claim c + 15)) b c (omega arith) rest;
           behind = rest_less 512 (slot_place claim.tracks) b c (omega arith) rest;
+          rests = λ x. range_rest 512 (slot_place x + written_length (content x)) (slot_end x) b c rest (omega arith);
         }

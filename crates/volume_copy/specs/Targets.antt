@@ -5,6 +5,7 @@ use Rattle.ckd_track.specs.declared.layout.TheConstants.{FIRST_SLOT}
 use Rattle.ckd_track.specs.declared.rec.Rec.{Rec}
 use Rattle.ckd_track.specs.Images.{image}
 use Rattle.ckd_track.specs.SlotPlaces.{slot_end, slot_place}
+use Rattle.crash_plant.specs.Bytes.{Torn}
 use Rattle.copy_progress.specs.declared.claim.Claim.{Claim}
 use Rattle.copy_progress.specs.declared.progress.Progress.{Progress}
 use Rattle.copy_progress.specs.Copies.{IsCopiedSoFar, done}
@@ -24,6 +25,20 @@ IsCopyOf None target x = Unit {0}
 abbrev pub AreCopied : Claim → (content : ℕ → Option (List Rec)) → (target : List ℕ) → Type 0
 AreCopied claim content target = IsCopiedSoFar (λ t x. IsCopyOf (content x) t x) claim target
 
+-- how many bytes of a target's slot are written where the source's slot holds this
+abbrev pub written_length : Option (List Rec) → ℕ
+written_length None = 0
+written_length (Some recs) = length (image recs)
+
+-- Behind the image of its content each slot stays. A slot whose content is no track stays whole.
+abbrev pub KeepsRests : (content : ℕ → Option (List Rec)) → (b c : List ℕ) → Type 0
+KeepsRests content b c = (x : ℕ) → slice_range c (slot_place x + written_length (content x)) (slot_end x) ≡ slice_range b (slot_place x + written_length (content x)) (slot_end x)
+
+-- Only bytes of a range differ, and of each slot only those of the image of its content.
+pub record WritesTargetSlots (content : ℕ → Option (List Rec)) (place n : ℕ) (b c : List ℕ) : Type 0 where
+  pub torn : Torn place n b c
+  pub rests : KeepsRests content b c
+
 -- the bytes of a progress, with its gate
 abbrev pub progress_length : ℕ
 progress_length = 43
@@ -35,7 +50,7 @@ pub record SameFront (b c : List ℕ) : Type 0 where
   pub behind : slice_range c (progress_place true + progress_length) FIRST_SLOT ≡ slice_range b (progress_place true + progress_length) FIRST_SLOT
 
 -- More is done, or as much. All that is done is copied, if all was that was done before. No slot of a track that was done changes, nor one from a
--- cylinder after what is done on, nor what stands after the tracks.
+-- cylinder after what is done on, nor what stands after the tracks. Of a slot that changes no byte behind its content's image does.
 pub record CopiesTo (claim : Claim) (content : ℕ → Option (List Rec)) (b c : List ℕ) : Type 0 where
   pub size : length c ≡ length b
   pub front : SameFront b c
@@ -44,6 +59,7 @@ pub record CopiesTo (claim : Claim) (content : ℕ → Option (List Rec)) (b c :
   pub before : slice_range c FIRST_SLOT (slot_place (done claim b)) ≡ slice_range b FIRST_SLOT (slot_place (done claim b))
   pub later : drop (slot_place (done claim c + TRACKS_OF_CYLINDER)) c ≡ drop (slot_place (done claim c + TRACKS_OF_CYLINDER)) b
   pub behind : drop (slot_place claim.tracks) c ≡ drop (slot_place claim.tracks) b
+  pub rests : KeepsRests content b c
 
 -- So many cylinders are done, and the number of the next progress is one more.
 pub record HasCylindersDone (claim : Claim) (target : List ℕ) (cylinders : ℕ) : Type 0 where

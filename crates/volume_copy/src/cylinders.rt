@@ -5,11 +5,10 @@ ghost use Rattle.xrc_edge.specs.declared.limits.TheConstants.{TRACKS_OF_CYLINDER
 ghost use Rattle.ckd_track.specs.declared.layout.TheConstants.{CYLINDER_LENGTH};
 ghost use Rattle.ckd_track.specs.SlotPlaces.{slot_place, slot_track};
 ghost use Rattle.crash_plant.specs.declared.device.Device.TheVariants.{Volume};
-ghost use Rattle.crash_plant.specs.Bytes.{Torn};
 ghost use Rattle.crash_plant.specs.Moments.{on, IsDurable};
 ghost use Rattle.volume_copy.specs.Copying.{IsCopyReady, IsOfCopy, WorksOnCopy};
 ghost use Rattle.volume_copy.specs.Faults.{FailsAmong};
-ghost use Rattle.volume_copy.specs.Targets.{CopiesTo, IsCopyOf, HasCylindersDone, progress_after};
+ghost use Rattle.volume_copy.specs.Targets.{CopiesTo, IsCopyOf, HasCylindersDone, WritesTargetSlots, progress_after};
 
 use crate::CopyJob;
 use crate::tracks::copy_track;
@@ -50,7 +49,7 @@ fn copy_tracks<P: Plant>(
 ) -> Result<(), Failed>
     requires ready { IsCopyReady (P.state plant.old) job.now }
     requires within { TRACKS_OF_CYLINDER * (cylinder + 1) ≤ job.now.claim.tracks }
-    ensures works { WorksOnCopy P.tells job.now.source job.now.target (Torn (slot_place (TRACKS_OF_CYLINDER * cylinder)) CYLINDER_LENGTH) (P.state plant.old) (P.state plant.new) }
+    ensures works { WorksOnCopy P.tells job.now.source job.now.target (WritesTargetSlots (slot_track ((P.state plant.old).bytes (Volume job.now.source))) (slot_place (TRACKS_OF_CYLINDER * cylinder)) CYLINDER_LENGTH) (P.state plant.old) (P.state plant.new) }
     ensures copied { P.tells → OnOk result ((x : ℕ) → TRACKS_OF_CYLINDER * cylinder ≤ x → x < TRACKS_OF_CYLINDER * (cylinder + 1) → IsCopyOf (slot_track ((P.state plant.old).bytes (Volume job.now.source)) x) ((P.state plant.new).bytes (Volume job.now.target)) x) }
     ensures fails { FailsAmong (IsOfCopy job.now.source job.now.target) (P.state plant.old).faults (P.state plant.new).faults result }
 {

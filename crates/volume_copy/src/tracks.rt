@@ -1,7 +1,8 @@
 //! One track, read from its slot on the source and written to that on the target.
 
-ghost use Rattle.std.specs.Prelude.{◌≡◌, ◌<◌, ◌≤◌, IfOk, OnOk};
+ghost use Rattle.std.specs.Prelude.{◌≡◌, ◌<◌, ◌≤◌, length, IfOk, OnOk, Some};
 ghost use Rattle.ckd_track.specs.declared.layout.TheConstants.{SLOT_LENGTH};
+ghost use Rattle.ckd_track.specs.Images.{image};
 ghost use Rattle.ckd_track.specs.SlotPlaces.{slot_end, slot_place, slot_track};
 ghost use Rattle.crash_plant.specs.declared.device.Device.TheVariants.{Volume};
 ghost use Rattle.crash_plant.specs.Bytes.{Torn};
@@ -10,7 +11,7 @@ ghost use Rattle.crash_plant.specs.Calls.{IsThere, WorksOn};
 ghost use Rattle.xrc_edge.specs.Causes.{HasCause};
 ghost use Rattle.volume_copy.specs.Copying.{IsCopyReady, IsOfCopy, WorksOnCopy};
 ghost use Rattle.volume_copy.specs.Faults.{FailsAmong};
-ghost use Rattle.volume_copy.specs.Targets.{IsCopyOf, IsHeld};
+ghost use Rattle.volume_copy.specs.Targets.{IsCopyOf, IsHeld, WritesTargetSlots};
 
 use crate::CopyJob;
 use ckd_track::{SLOT_LENGTH, Slot, slot_place};
@@ -47,8 +48,9 @@ fn write_image<P: Plant>(plant: &mut P, target: u16, track: u32, slot: &Slot) ->
     requires there { IsThere (P.state plant.old) (Volume target) }
     requires range { slot_end track ≤ (P.state plant.old).lengths (Volume target) }
     ensures copied { P.tells → OnOk result (IsCopyOf (Some slot.now) ((P.state plant.new).bytes (Volume target)) track) }
-    ensures torn { P.tells → Torn (slot_place track) SLOT_LENGTH ((P.state plant.old).bytes (Volume target)) ((P.state plant.new).bytes (Volume target)) }
-    ensures moments { P.tells → Follows (Torn (slot_place track) SLOT_LENGTH) (on (P.state plant.old) (Volume target)) (on (P.state plant.new) (Volume target)) }
+    ensures short { length (image slot.now) ≤ SLOT_LENGTH }
+    ensures torn { P.tells → Torn (slot_place track) (length (image slot.now)) ((P.state plant.old).bytes (Volume target)) ((P.state plant.new).bytes (Volume target)) }
+    ensures moments { P.tells → Follows (Torn (slot_place track) (length (image slot.now))) (on (P.state plant.old) (Volume target)) (on (P.state plant.new) (Volume target)) }
     ensures only { WorksOn P.tells (λ d. d ≡ Volume target) (P.state plant.old) (P.state plant.new) }
     ensures cause { HasCause ((P.state plant.old).faults (Volume target)) ((P.state plant.new).faults (Volume target)) result }
 {
@@ -64,7 +66,7 @@ pub(crate) fn copy_track<P: Plant>(
 ) -> Result<(), Failed>
     requires ready { IsCopyReady (P.state plant.old) job.now }
     requires within { track < job.now.claim.tracks }
-    ensures works { WorksOnCopy P.tells job.now.source job.now.target (Torn (slot_place track) SLOT_LENGTH) (P.state plant.old) (P.state plant.new) }
+    ensures works { WorksOnCopy P.tells job.now.source job.now.target (WritesTargetSlots (slot_track ((P.state plant.old).bytes (Volume job.now.source))) (slot_place track) SLOT_LENGTH) (P.state plant.old) (P.state plant.new) }
     ensures copied { P.tells → OnOk result (IsCopyOf (slot_track ((P.state plant.old).bytes (Volume job.now.source)) track) ((P.state plant.new).bytes (Volume job.now.target)) track) }
     ensures fails { FailsAmong (IsOfCopy job.now.source job.now.target) (P.state plant.old).faults (P.state plant.new).faults result }
 {

@@ -45,13 +45,13 @@ entries_keep_rules number control few = entries_keep number control 0 500 0 few 
 entry_length : (number control place : ℕ) → length (entry_spelling 1 (generated_entry number control place)) ≡ 26
 entry_length number control place = refl
 
-row_length : (number control place n : ℕ) → length (row (map (generated_entry number control) (range_with_len place n))) ≡ 26 * n
+row_length : (number control place n : ℕ) → length (row 1 (map (generated_entry number control) (range_with_len place n))) ≡ 26 * n
 row_length number control place zero = refl
 row_length number control place (suc n) =
-    omega (arith, length-append (entry_spelling 1 (generated_entry number control place)) (row (map (generated_entry number control) (range_with_len (place + 1) n))), entry_length number control place, row_length number control (place + 1) n)
+    omega (arith, length-append (entry_spelling 1 (generated_entry number control place)) (row 1 (map (generated_entry number control) (range_with_len (place + 1) n))), entry_length number control place, row_length number control (place + 1) n)
 
 header_length : (control : ℕ) → length (header_spelling (generated_header control)) ≡ 1706
 header_length control = refl
 
-pub trace_length : (number control : ℕ) → length (header_spelling (generated_header control) ++ row (generated_entries number control)) ≡ 14706
-trace_length number control = omega (arith, length-append (header_spelling (generated_header control)) (row (generated_entries number control)), header_length control, row_length number control 0 500)
+pub trace_length : (number control : ℕ) → length (header_spelling (generated_header control) ++ row 1 (generated_entries number control)) ≡ 14706
+trace_length number control = omega (arith, length-append (header_spelling (generated_header control)) (row 1 (generated_entries number control)), header_length control, row_length number control 0 500)

@@ -2,10 +2,10 @@
 use Rattle.std.proofs.Common.{◌≡◌, ◌<◌, ◌+◌, [], ℕ, zero, suc, map, true, IsTrue, refl, arith}
 use Rattle.std.specs.List.{range_with_len}
 use Rattle.ckd_track.specs.Tracks.{IsTrack}
-use Rattle.write_trace.specs.Headers.{are_volumes, is_header_of}
+use Rattle.write_trace.specs.Headers.{are_volumes, is_header}
 use Rattle.workload.specs.Traces.{generated_header, generated_volumes, zero_record}
 
-pub headers_keep_rules : (control : ℕ) → control < 4 → IsTrue (is_header_of 1 (generated_header control))
+pub headers_keep_rules : (control : ℕ) → control < 4 → IsTrue (is_header (generated_header control))
 headers_keep_rules zero lt = refl
 headers_keep_rules (suc zero) lt = refl
 headers_keep_rules (suc (suc zero)) lt = refl

@@ -29,7 +29,7 @@ whole_generated number control = record { header = generated_header control; ent
 
 -- The bytes of each trace are that trace, if no call on its source fails.
 abbrev pub TracesAreGood : Type 0
-TracesAreGood = (number control : ℕ) → control < CONTROLS → trace_of 1 false (generated_trace number control) ≡ Ok (whole_generated number control)
+TracesAreGood = (number control : ℕ) → control < CONTROLS → trace_of false (generated_trace number control) ≡ Ok (whole_generated number control)
 
 -- Each line of the script spells its command, and their times never fall.
 abbrev pub ScriptsAreRead : Type 0

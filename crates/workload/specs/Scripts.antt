@@ -1,6 +1,6 @@
 -- The script of a generated input: a session GEN to which all pairs are added before the first write. The first pair is suspended
 -- among the writes, and added again. The session ends after the last write.
-use Rattle.std.specs.Prelude.{ℕ, ◌+◌, List, [], ◌∷◌, ◌++◌, map, codes}
+use Rattle.std.specs.Prelude.{ℕ, ◌+◌, List, [], ◌∷◌, ◌++◌, None, map, codes}
 use Rattle.std.specs.List.{flat_map, range_with_len}
 use Rattle.tod_stamp.specs.Stamps.{stamp_text}
 use Rattle.pair_table.specs.declared.level.Level.TheVariants.{Volume}
@@ -23,7 +23,7 @@ abbrev pub line_at : (time : ℕ) → Command → Line
 line_at time command = record { time = record { 0 = time }; session = generated_session; command = command }
 
 abbrev pub adds_pair : (number : ℕ) → Command
-adds_pair number = AddPair (primary_named number) (secondary_named number)
+adds_pair number = AddPair (primary_named number) (secondary_named number) None
 
 abbrev pub suspends_pair : (number : ℕ) → Command
 suspends_pair number = Suspend (One (primary_named number) (secondary_named number))
@@ -36,7 +36,7 @@ generated_lines =
 -- A start leaves its level out.
 abbrev pub short_text : (session : List ℕ) → Command → List ℕ
 short_text session (Start level) = short_start_text session
-short_text session (AddPair primary secondary) = command_text session (AddPair primary secondary)
+short_text session (AddPair primary secondary group) = command_text session (AddPair primary secondary group)
 short_text session (DelPair choice) = command_text session (DelPair choice)
 short_text session (Suspend choice) = command_text session (Suspend choice)
 short_text session Query = command_text session Query

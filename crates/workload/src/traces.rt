@@ -16,6 +16,9 @@ use tod_stamp::Stamp;
 use write_trace::{BaseList, BaseTrack, Header, TraceWriter, VolumeHead, VolumeList};
 use xrc_edge::{Bytes, MemorySource, NoMemory, TRACKS_OF_CYLINDER};
 
+/// The version of the traces.
+const VERSION: u8 = 1;
+
 /// The content of a record: this byte as often as a content has bytes.
 fn content(alloc: Global, byte: u8) -> Result<Bytes, NoMemory>
     ensures { IfOk result (λ content. content ≡ replicate CONTENT byte) }
@@ -84,7 +87,7 @@ fn header(alloc: Global, control: u16) -> Result<Header, NoMemory>
     ensures { IfOk result (λ header. header ≡ generated_header control) }
 {
     Ok(Header {
-        version: 1,
+        version: VERSION,
         volumes: volumes(alloc, control)?,
         base: base_tracks(alloc)?,
     })
@@ -115,7 +118,7 @@ fn append_writes(alloc: Global, out: &mut Bytes, number: u32, control: u16) -> R
 {
     for place in 0..WRITES {
         let write = write(alloc, number, control, place)?;
-        TraceWriter::write(alloc, out, &write)?;
+        TraceWriter::write(alloc, out, VERSION, &write)?;
     }
     Ok(())
 }

@@ -41,6 +41,7 @@ fn row(rt: &impl Abort, device: u16, state: PairState) -> PairRow {
         device,
         cylinders: 1,
         state,
+        group: None,
     }
 }
 

@@ -1,19 +1,16 @@
 -- Reading base track after base track over a source, and a header from its parts.
-use Rattle.std.proofs.Common.{◌≡◌, ℕ, suc, ◌+◌, ◌-◌, ◌<◌, ◌≤◌, Bool, true, false, ◌||◌, nat_le, List, [], ◌∷◌, ◌++◌, length, sum_by, Option, None, Result, Ok, Err, refl, sym, ap, subst, ◌∙◌, append_assoc, arith, length-append}
-use Rattle.std.specs.Prelude.{bytes_eq, slice_index}
+use Rattle.std.proofs.Common.{◌≡◌, ℕ, suc, ◌+◌, ◌-◌, ◌<◌, ◌≤◌, true, nat_le, List, [], ◌∷◌, ◌++◌, length, sum_by, Option, None, Result, Ok, Err, refl, sym, ap, subst, ◌∙◌, append_assoc, arith, length-append}
 use Rattle.std.specs.Int.{w16, w32}
 use Rattle.std.proofs.lemmas.Bool.{le-leb}
 use Rattle.std.proofs.lemmas.List.{append-nil}
-use Rattle.std.proofs.lemmas.Slice.Eq.{bytes_eq-Decides}
 use Rattle.xrc_edge.specs.Causes.{Rose}
-use Rattle.tod_stamp.specs.Fields.{◌>>=◌, Left, Bad, bytes_at, number_at, within}
-use Rattle.tod_stamp.proofs.FieldLaws.{bind_ok}
+use Rattle.tod_stamp.specs.Fields.{◌>>=◌, Left, Bad, number_at, within, is_version}
 use Rattle.ckd_track.specs.Tracks.{IsTrack}
 use Rattle.write_trace.specs.declared.header.VolumeHead.{VolumeHead}
 use Rattle.write_trace.specs.declared.header.Header.{Header}
 use Rattle.write_trace.specs.declared.trace.HeaderError.{HeaderError}
 use Rattle.write_trace.specs.declared.trace.HeaderError.TheVariants.{BadHeader, HeaderFault, NoMemory}
-use Rattle.write_trace.specs.Headers.{Base, trace_mark, is_trace_mark, tracks_of, is_track_of, is_from, are_volumes, are_bases, is_header_of, version_at, volumes_at, base_at, bases_at, header_at}
+use Rattle.write_trace.specs.Headers.{Base, tracks_of, is_track_of, is_from, are_volumes, are_bases, is_header, version_at, volumes_at, base_at, bases_at, header_at}
 use Rattle.write_trace.specs.WholeTraces.{whole_trace}
 use Rattle.write_trace.proofs.FieldSteps.{and_true}
 use Rattle.write_trace.specs.UnreadBytes.{unread, seen}
@@ -21,7 +18,6 @@ use Rattle.write_trace.specs.Answers.{ReaderState}
 use Rattle.write_trace.specs.Starts.{ReadsHeader, Starts}
 use Rattle.write_trace.specs.HeaderProgress.{HeaderRest, ReachesHeader, Reached, ReadsPart}
 use Rattle.write_trace.specs.HeaderParts.{header_front_at}
-use Rattle.write_trace.proofs.HeaderSteps.{bytes_keep}
 
 -- readers that give the same
 pub reached_same : (start now : Option (List ℕ)) (remains others : HeaderRest) (held : Left) → ((left : Left) → remains left ≡ others left) → Reached start now remains held → Reached start now others held
@@ -36,25 +32,25 @@ abbrev pub after_bases : List Base → (List Base × Left → Result (Header × 
 after_bases front remains x = remains (front ++ x.0, x.1)
 
 -- where so many of the base tracks were read, what remained after all remains after the others
-abbrev pub ReadsOn : (before now : Option (List ℕ)) → List VolumeHead → (many count : ℕ) → (low : ℕ × ℕ) → List Base → (old new : Left) → Type 0
-ReadsOn before now volumes many count low front old new = (start : Option (List ℕ)) (remains : List Base × Left → Result (Header × Left) Bad) → Reached start before (λ left. bases_at 1 volumes many (0, 0) left >>= remains) old
-    → Reached start now (λ left. bases_at 1 volumes count low left >>= after_bases front remains) new
+abbrev pub ReadsOn : (before now : Option (List ℕ)) → (version : ℕ) → List VolumeHead → (many count : ℕ) → (low : ℕ × ℕ) → List Base → (old new : Left) → Type 0
+ReadsOn before now version volumes many count low front old new = (start : Option (List ℕ)) (remains : List Base × Left → Result (Header × Left) Bad) → Reached start before (λ left. bases_at version volumes many (0, 0) left >>= remains) old
+    → Reached start now (λ left. bases_at version volumes count low left >>= after_bases front remains) new
 
-pub reads_none : (before : Option (List ℕ)) (volumes : List VolumeHead) (many count : ℕ) (front : List Base) (old : Left) → count ≡ many → front ≡ [] → ReadsOn before before volumes many count (0, 0) front old old
-reads_none before volumes many count front old all none start remains reached =
-    subst (λ n. Reached start before (λ left. bases_at 1 volumes n (0, 0) left >>= after_bases front remains) old) (sym all)
-    (subst (λ (f : List Base). Reached start before (λ left. bases_at 1 volumes many (0, 0) left >>= after_bases f remains) old) (sym none) reached)
+pub reads_none : (before : Option (List ℕ)) (version : ℕ) (volumes : List VolumeHead) (many count : ℕ) (front : List Base) (old : Left) → count ≡ many → front ≡ [] → ReadsOn before before version volumes many count (0, 0) front old old
+reads_none before version volumes many count front old all none start remains reached =
+    subst (λ n. Reached start before (λ left. bases_at version volumes n (0, 0) left >>= after_bases front remains) old) (sym all)
+    (subst (λ (f : List Base). Reached start before (λ left. bases_at version volumes many (0, 0) left >>= after_bases f remains) old) (sym none) reached)
 
 -- what remains after the next base track
-abbrev after_base : List VolumeHead → (count : ℕ) → List Base → (List Base × Left → Result (Header × Left) Bad) → Base × Left → Result (Header × Left) Bad
-after_base volumes count front remains first = (bases_at 1 volumes count (first.0.0, first.0.1 + 1) first.1 >>= λ others. Ok (first.0 ∷ others.0, others.1)) >>= after_bases front remains
+abbrev after_base : (version : ℕ) → List VolumeHead → (count : ℕ) → List Base → (List Base × Left → Result (Header × Left) Bad) → Base × Left → Result (Header × Left) Bad
+after_base version volumes count front remains first = (bases_at version volumes count (first.0.0, first.0.1 + 1) first.1 >>= λ others. Ok (first.0 ∷ others.0, others.1)) >>= after_bases front remains
 
-next_base : (volumes : List VolumeHead) (count : ℕ) (low : ℕ × ℕ) (front : List Base) (remains : List Base × Left → Result (Header × Left) Bad) (left : Left)
-    → (bases_at 1 volumes (suc count) low left >>= after_bases front remains) ≡ (base_at 1 volumes low left >>= after_base volumes count front remains)
+next_base : (version : ℕ) (volumes : List VolumeHead) (count : ℕ) (low : ℕ × ℕ) (front : List Base) (remains : List Base × Left → Result (Header × Left) Bad) (left : Left)
+    → (bases_at version volumes (suc count) low left >>= after_bases front remains) ≡ (base_at version volumes low left >>= after_base version volumes count front remains)
 unfolding bases_at
-next_base volumes count low front remains left = choose (base_at 1 volumes low left)
+next_base version volumes count low front remains left = choose (base_at version volumes low left)
   where
-    choose : (r : Result (Base × Left) Bad) → ((r >>= λ first. bases_at 1 volumes count (first.0.0, first.0.1 + 1) first.1 >>= λ others. Ok (first.0 ∷ others.0, others.1)) >>= after_bases front remains) ≡ (r >>= after_base volumes count front remains)
+    choose : (r : Result (Base × Left) Bad) → ((r >>= λ first. bases_at version volumes count (first.0.0, first.0.1 + 1) first.1 >>= λ others. Ok (first.0 ∷ others.0, others.1)) >>= after_bases front remains) ≡ (r >>= after_base version volumes count front remains)
     choose (Ok x) = refl
     choose (Err e) = refl
 
@@ -63,46 +59,46 @@ one_more : (front : List Base) (b : Base) (remains : List Base × Left → Resul
 one_more front b remains (Ok x) = ap (λ (t : List Base). remains (t, x.1)) (sym (append_assoc front (b ∷ []) x.0))
 one_more front b remains (Err e) = refl
 
-pub reads_next : (before now next : Option (List ℕ)) (volumes : List VolumeHead) (many i : ℕ) (low : ℕ × ℕ) (front : List Base) (faults risen : ℕ) (old mid new : Left) (b : Base) → i < many
-    → ReadsOn before now volumes many (many - i) low front old mid → ReadsPart (base_at 1 volumes low) now next faults risen mid new (Ok b) → ReadsOn before next volumes many (many - (i + 1)) (b.0, b.1 + 1) (front ++ b ∷ []) old new
-reads_next before now next volumes many i low front faults risen old mid new b lt on part start remains reached =
+pub reads_next : (before now next : Option (List ℕ)) (version : ℕ) (volumes : List VolumeHead) (many i : ℕ) (low : ℕ × ℕ) (front : List Base) (faults risen : ℕ) (old mid new : Left) (b : Base) → i < many
+    → ReadsOn before now version volumes many (many - i) low front old mid → ReadsPart (base_at version volumes low) now next faults risen mid new (Ok b) → ReadsOn before next version volumes many (many - (i + 1)) (b.0, b.1 + 1) (front ++ b ∷ []) old new
+reads_next before now next version volumes many i low front faults risen old mid new b lt on part start remains reached =
     let count = many - (i + 1) in
     let k : many - i ≡ suc count = omega arith in
-    let here : Reached start now (λ left. base_at 1 volumes low left >>= after_base volumes count front remains) mid =
-    reached_same start now (λ left. bases_at 1 volumes (suc count) low left >>= after_bases front remains) (λ left. base_at 1 volumes low left >>= after_base volumes count front remains) mid (next_base volumes count low front remains)
-    (subst (λ n. Reached start now (λ left. bases_at 1 volumes n low left >>= after_bases front remains) mid) k (on start remains reached)) in
-    reached_same start next (λ left. after_base volumes count front remains (b, left)) (λ left. bases_at 1 volumes count (b.0, b.1 + 1) left >>= after_bases (front ++ b ∷ []) remains) new
-    (λ left. one_more front b remains (bases_at 1 volumes count (b.0, b.1 + 1) left)) (part.0 start (after_base volumes count front remains) here)
+    let here : Reached start now (λ left. base_at version volumes low left >>= after_base version volumes count front remains) mid =
+    reached_same start now (λ left. bases_at version volumes (suc count) low left >>= after_bases front remains) (λ left. base_at version volumes low left >>= after_base version volumes count front remains) mid (next_base version volumes count low front remains)
+    (subst (λ n. Reached start now (λ left. bases_at version volumes n low left >>= after_bases front remains) mid) k (on start remains reached)) in
+    reached_same start next (λ left. after_base version volumes count front remains (b, left)) (λ left. bases_at version volumes count (b.0, b.1 + 1) left >>= after_bases (front ++ b ∷ []) remains) new
+    (λ left. one_more front b remains (bases_at version volumes count (b.0, b.1 + 1) left)) (part.0 start (after_base version volumes count front remains) here)
 
-pub reads_ends : (before now next : Option (List ℕ)) (volumes : List VolumeHead) (many i : ℕ) (low : ℕ × ℕ) (front : List Base) (faults risen after : ℕ) (old mid new : Left) (error : HeaderError) → i < many → risen ≡ faults
-    → ReadsOn before now volumes many (many - i) low front old mid → ReadsPart (base_at 1 volumes low) now next risen after mid new (Err error) → ReadsPart (bases_at 1 volumes many (0, 0)) before next faults after old new (Err error)
-reads_ends before now next volumes many i low front faults risen after old mid new error lt same on part = choose error part
+pub reads_ends : (before now next : Option (List ℕ)) (version : ℕ) (volumes : List VolumeHead) (many i : ℕ) (low : ℕ × ℕ) (front : List Base) (faults risen after : ℕ) (old mid new : Left) (error : HeaderError) → i < many → risen ≡ faults
+    → ReadsOn before now version volumes many (many - i) low front old mid → ReadsPart (base_at version volumes low) now next risen after mid new (Err error) → ReadsPart (bases_at version volumes many (0, 0)) before next faults after old new (Err error)
+reads_ends before now next version volumes many i low front faults risen after old mid new error lt same on part = choose error part
   where
-    here : (start : Option (List ℕ)) (remains : List Base × Left → Result (Header × Left) Bad) → Reached start before (λ left. bases_at 1 volumes many (0, 0) left >>= remains) old → Reached start now (λ left. base_at 1 volumes low left >>= after_base volumes (many - (i + 1)) front remains) mid
+    here : (start : Option (List ℕ)) (remains : List Base × Left → Result (Header × Left) Bad) → Reached start before (λ left. bases_at version volumes many (0, 0) left >>= remains) old → Reached start now (λ left. base_at version volumes low left >>= after_base version volumes (many - (i + 1)) front remains) mid
     here start remains reached =
         let count = many - (i + 1) in
         let k : many - i ≡ suc count = omega arith in
-        reached_same start now (λ left. bases_at 1 volumes (suc count) low left >>= after_bases front remains) (λ left. base_at 1 volumes low left >>= after_base volumes count front remains) mid (next_base volumes count low front remains)
-        (subst (λ n. Reached start now (λ left. bases_at 1 volumes n low left >>= after_bases front remains) mid) k (on start remains reached))
+        reached_same start now (λ left. bases_at version volumes (suc count) low left >>= after_bases front remains) (λ left. base_at version volumes low left >>= after_base version volumes count front remains) mid (next_base version volumes count low front remains)
+        (subst (λ n. Reached start now (λ left. bases_at version volumes n low left >>= after_bases front remains) mid) k (on start remains reached))
 
-    choose : (e : HeaderError) → ReadsPart (base_at 1 volumes low) now next risen after mid new (Err e) → ReadsPart (bases_at 1 volumes many (0, 0)) before next faults after old new (Err e)
-    choose (BadHeader place) p = (λ start remains reached. p.0 start (after_base volumes (many - (i + 1)) front remains) (here start remains reached), p.1 ∙ same)
-    choose HeaderFault p = (λ start remains reached. p.0 start (after_base volumes (many - (i + 1)) front remains) (here start remains reached), subst (λ n. Rose n after) same p.1)
+    choose : (e : HeaderError) → ReadsPart (base_at version volumes low) now next risen after mid new (Err e) → ReadsPart (bases_at version volumes many (0, 0)) before next faults after old new (Err e)
+    choose (BadHeader place) p = (λ start remains reached. p.0 start (after_base version volumes (many - (i + 1)) front remains) (here start remains reached), p.1 ∙ same)
+    choose HeaderFault p = (λ start remains reached. p.0 start (after_base version volumes (many - (i + 1)) front remains) (here start remains reached), subst (λ n. Rose n after) same p.1)
     choose NoMemory p = p ∙ same
 
-pub reads_all : (before now : Option (List ℕ)) (volumes : List VolumeHead) (many i : ℕ) (low : ℕ × ℕ) (front : List Base) (faults risen : ℕ) (old mid : Left) → many ≤ i → risen ≡ faults
-    → ReadsOn before now volumes many (many - i) low front old mid → ReadsPart (bases_at 1 volumes many (0, 0)) before now faults risen old mid (Ok front)
+pub reads_all : (before now : Option (List ℕ)) (version : ℕ) (volumes : List VolumeHead) (many i : ℕ) (low : ℕ × ℕ) (front : List Base) (faults risen : ℕ) (old mid : Left) → many ≤ i → risen ≡ faults
+    → ReadsOn before now version volumes many (many - i) low front old mid → ReadsPart (bases_at version volumes many (0, 0)) before now faults risen old mid (Ok front)
 unfolding bases_at
-reads_all before now volumes many i low front faults risen old mid le same on = (λ start remains reached. done start remains (on start remains reached), same)
+reads_all before now version volumes many i low front faults risen old mid le same on = (λ start remains reached. done start remains (on start remains reached), same)
   where
     k : many - i ≡ 0
     k = omega arith
 
-    last : (remains : List Base × Left → Result (Header × Left) Bad) (left : Left) → (bases_at 1 volumes (many - i) low left >>= after_bases front remains) ≡ remains (front, left)
+    last : (remains : List Base × Left → Result (Header × Left) Bad) (left : Left) → (bases_at version volumes (many - i) low left >>= after_bases front remains) ≡ remains (front, left)
     last remains left = rw k (ap (λ (t : List Base). remains (t, left)) (append-nil front))
 
-    done : (start : Option (List ℕ)) (remains : List Base × Left → Result (Header × Left) Bad) → Reached start now (λ left. bases_at 1 volumes (many - i) low left >>= after_bases front remains) mid → Reached start now (λ left. remains (front, left)) mid
-    done start remains reached = reached_same start now (λ left. bases_at 1 volumes (many - i) low left >>= after_bases front remains) (λ left. remains (front, left)) mid (last remains) reached
+    done : (start : Option (List ℕ)) (remains : List Base × Left → Result (Header × Left) Bad) → Reached start now (λ left. bases_at version volumes (many - i) low left >>= after_bases front remains) mid → Reached start now (λ left. remains (front, left)) mid
+    done start remains reached = reached_same start now (λ left. bases_at version volumes (many - i) low left >>= after_bases front remains) (λ left. remains (front, left)) mid (last remains) reached
 
 -- ---- the rules of base tracks in a row
 
@@ -123,56 +119,42 @@ keeps_all volumes low front keeps = ap (are_bases volumes (0, 0)) (sym (append-n
 -- ---- a header from its parts
 
 -- what remains of a header after its head
-abbrev pub after_head : (List VolumeHead × ℕ) × Left → Result (Header × Left) Bad
-after_head head = bases_at 1 head.0.0 head.0.1 (0, 0) head.1 >>= λ base. Ok (record { version = 1; volumes = head.0.0; base = base.0 }, base.1)
-
-mark_is_first : (left : Left) (x : ℕ × Left) → version_at 1 left ≡ Ok x → x.0 ≡ 1
-unfolding version_at
-mark_is_first left x e =
-    let a = bind_ok (bytes_at 4 (is_trace_mark 1) left) (λ m. Ok (slice_index m.0 3 - 48, m.1)) x e in
-    let rule : bytes_eq a.0.0 (trace_mark 1) ≡ true = only (bytes_eq a.0.0 (trace_mark 1)) (bytes_keep 4 (is_trace_mark 1) left a.0 a.1) in
-    sym (first_is (slice_index a.0.0 3 - 48, a.0.1) x a.2) ∙ ap (λ (m : List ℕ). slice_index m 3 - 48) ((bytes_eq-Decides a.0.0 (trace_mark 1)).0 rule)
-  where
-    only : (b : Bool) → (b || false) ≡ true → b ≡ true
-    only true h = refl
-    only false h = h
-
-    first_is : (a b : ℕ × Left) → (let p : Result (ℕ × Left) Bad = Ok a in let q : Result (ℕ × Left) Bad = Ok b in p ≡ q) → a.0 ≡ b.0
-    first_is a b e = cc
+abbrev pub after_head : (ℕ × List VolumeHead × ℕ) × Left → Result (Header × Left) Bad
+after_head head = bases_at head.0.0 head.0.1 head.0.2 (0, 0) head.1 >>= λ base. Ok (record { version = head.0.0; volumes = head.0.1; base = base.0 }, base.1)
 
 abbrev many_at : List VolumeHead → Left → Result (ℕ × Left) Bad
 many_at volumes left = number_at w32 (λ n. nat_le n (sum_by tracks_of volumes)) left
 
-many_part : (volumes : List VolumeHead) (r : Result (ℕ × Left) Bad) → (r >>= λ many. bases_at 1 volumes many.0 (0, 0) many.1 >>= λ base. Ok (record { version = 1; volumes = volumes; base = base.0 }, base.1)) ≡ ((r >>= λ many. Ok ((volumes, many.0), many.1)) >>= after_head)
-many_part volumes (Ok x) = refl
-many_part volumes (Err e) = refl
+many_part : (version : ℕ) (volumes : List VolumeHead) (r : Result (ℕ × Left) Bad) → (r >>= λ many. bases_at version volumes many.0 (0, 0) many.1 >>= λ base. Ok (record { version = version; volumes = volumes; base = base.0 }, base.1)) ≡ ((r >>= λ many. Ok ((version, volumes, many.0), many.1)) >>= after_head)
+many_part version volumes (Ok x) = refl
+many_part version volumes (Err e) = refl
 
-volumes_part : (r : Result (List VolumeHead × Left) Bad)
-    → (r >>= λ volumes. many_at volumes.0 volumes.1 >>= λ many. bases_at 1 volumes.0 many.0 (0, 0) many.1 >>= λ base. Ok (record { version = 1; volumes = volumes.0; base = base.0 }, base.1))
-    ≡ ((r >>= λ volumes. many_at volumes.0 volumes.1 >>= λ many. Ok ((volumes.0, many.0), many.1)) >>= after_head)
-volumes_part (Ok x) = many_part x.0 (many_at x.0 x.1)
-volumes_part (Err e) = refl
-
-count_part : (r : Result (ℕ × Left) Bad)
-    → (r >>= λ count. volumes_at 1 count.0 [] count.1 >>= λ volumes. many_at volumes.0 volumes.1 >>= λ many. bases_at 1 volumes.0 many.0 (0, 0) many.1 >>= λ base. Ok (record { version = 1; volumes = volumes.0; base = base.0 }, base.1))
-    ≡ ((r >>= λ count. volumes_at 1 count.0 [] count.1 >>= λ volumes. many_at volumes.0 volumes.1 >>= λ many. Ok ((volumes.0, many.0), many.1)) >>= after_head)
-count_part (Ok x) = volumes_part (volumes_at 1 x.0 [] x.1)
-count_part (Err e) = refl
+volumes_part : (version : ℕ) (r : Result (List VolumeHead × Left) Bad)
+    → (r >>= λ volumes. many_at volumes.0 volumes.1 >>= λ many. bases_at version volumes.0 many.0 (0, 0) many.1 >>= λ base. Ok (record { version = version; volumes = volumes.0; base = base.0 }, base.1))
+    ≡ ((r >>= λ volumes. many_at volumes.0 volumes.1 >>= λ many. Ok ((version, volumes.0, many.0), many.1)) >>= after_head)
+volumes_part version (Ok x) = many_part version x.0 (many_at x.0 x.1)
+volumes_part version (Err e) = refl
 
 abbrev after_mark : (version : ℕ) → Left → Result (Header × Left) Bad
 after_mark version left = number_at w16 (within 1 32) left >>= λ count. volumes_at version count.0 [] count.1 >>= λ volumes. many_at volumes.0 volumes.1 >>= λ many. bases_at version volumes.0 many.0 (0, 0) many.1 >>= λ base. Ok (record { version = version; volumes = volumes.0; base = base.0 }, base.1)
 
-abbrev head_after_mark : Left → Result ((List VolumeHead × ℕ) × Left) Bad
-head_after_mark left = number_at w16 (within 1 32) left >>= λ count. volumes_at 1 count.0 [] count.1 >>= λ volumes. many_at volumes.0 volumes.1 >>= λ many. Ok ((volumes.0, many.0), many.1)
+abbrev head_after_mark : (version : ℕ) → Left → Result ((ℕ × List VolumeHead × ℕ) × Left) Bad
+head_after_mark version left = number_at w16 (within 1 32) left >>= λ count. volumes_at version count.0 [] count.1 >>= λ volumes. many_at volumes.0 volumes.1 >>= λ many. Ok ((version, volumes.0, many.0), many.1)
 
-mark_part : (r : Result (ℕ × Left) Bad) → ((x : ℕ × Left) → r ≡ Ok x → x.0 ≡ 1) → (r >>= λ version. after_mark version.0 version.1) ≡ ((r >>= λ version. head_after_mark version.1) >>= after_head)
-mark_part (Ok x) first = ap (λ v. after_mark v x.1) (first x refl) ∙ count_part (number_at w16 (within 1 32) x.1)
-mark_part (Err e) first = refl
+count_part : (version : ℕ) (r : Result (ℕ × Left) Bad)
+    → (r >>= λ count. volumes_at version count.0 [] count.1 >>= λ volumes. many_at volumes.0 volumes.1 >>= λ many. bases_at version volumes.0 many.0 (0, 0) many.1 >>= λ base. Ok (record { version = version; volumes = volumes.0; base = base.0 }, base.1))
+    ≡ ((r >>= λ count. volumes_at version count.0 [] count.1 >>= λ volumes. many_at volumes.0 volumes.1 >>= λ many. Ok ((version, volumes.0, many.0), many.1)) >>= after_head)
+count_part version (Ok x) = volumes_part version (volumes_at version x.0 [] x.1)
+count_part version (Err e) = refl
+
+mark_part : (r : Result (ℕ × Left) Bad) → (r >>= λ version. after_mark version.0 version.1) ≡ ((r >>= λ version. head_after_mark version.0 version.1) >>= after_head)
+mark_part (Ok x) = count_part x.0 (number_at w16 (within 1 32) x.1)
+mark_part (Err e) = refl
 
 -- A header is its head, and then its base tracks.
-pub header_parts : (left : Left) → header_at 1 left ≡ (header_front_at left >>= after_head)
+pub header_parts : (left : Left) → header_at left ≡ (header_front_at left >>= after_head)
 unfolding header_at header_front_at
-header_parts left = mark_part (version_at 1 left) (mark_is_first left)
+header_parts left = mark_part (version_at left)
 
 -- At the start nothing was given, and all remains.
 pub at_start : (before : Option (List ℕ)) (held : Left) → held ≡ record { place = 0; bytes = [] } → Reached before before (λ left. header_front_at left >>= after_head) held
@@ -185,13 +167,15 @@ at_start before held is bytes told = subst (λ (l : Left). ReachesHeader before 
   reads = λ more. header_parts (seen 0 more);
 })
 
-pub keeps_header : (volumes : List VolumeHead) (base : List Base) → 1 ≤ length volumes → length volumes ≤ 32 → are_volumes 1 [] volumes ≡ true → are_bases volumes (0, 0) base ≡ true → is_header_of 1 (record { version = 1; volumes = volumes; base = base }) ≡ true
-keeps_header volumes base some few rules bases = and_true _ _ (and_true _ _ (and_true (nat_le 1 (length volumes)) (nat_le (length volumes) 32) (le-leb _ _ some) (le-leb _ _ few)) rules) bases
+pub keeps_header : (version : ℕ) (volumes : List VolumeHead) (base : List Base) → is_version version ≡ true → 1 ≤ length volumes → length volumes ≤ 32 → are_volumes version [] volumes ≡ true → are_bases volumes (0, 0) base ≡ true → is_header (record { version = version; volumes = volumes; base = base }) ≡ true
+keeps_header version volumes base is some few rules bases =
+    and_true _ _ (and_true _ _ (and_true (is_version version) (within 1 32 (length volumes)) is (and_true (nat_le 1 (length volumes)) (nat_le (length volumes) 32) (le-leb _ _ some) (le-leb _ _ few))) rules) bases
 
 -- the whole header was read
-pub started : (before now : Option (List ℕ)) (volumes copy : List VolumeHead) (base : List Base) (held window : Left) (reader : ReaderState) → copy ≡ volumes → window ≡ held → Reached before now (λ left. Ok (record { version = 1; volumes = volumes; base = base }, left)) held
-    → reader ≡ record { volumes = copy; last = 0; left = window; stopped = None } → is_header_of 1 (record { version = 1; volumes = volumes; base = base }) ≡ true → ReadsHeader before now (record { version = 1; volumes = volumes; base = base }) reader
-started before now volumes copy base held window reader same there reached is keeps = subst (λ (r : ReaderState). ReadsHeader before now (record { version = 1; volumes = volumes; base = base }) r) (sym (is ∙ rw (same, there) refl)) (record {
+pub started : (before now : Option (List ℕ)) (version : ℕ) (volumes copy : List VolumeHead) (base : List Base) (held window : Left) (reader : ReaderState) → copy ≡ volumes → window ≡ held → Reached before now (λ left. Ok (record { version = version; volumes = volumes; base = base }, left)) held
+    → reader ≡ record { version = version; volumes = copy; last = 0; left = window; stopped = None } → is_header (record { version = version; volumes = volumes; base = base }) ≡ true → ReadsHeader before now (record { version = version; volumes = volumes; base = base }) reader
+started before now version volumes copy base held window reader same there reached is keeps = subst (λ (r : ReaderState). ReadsHeader before now (record { version = version; volumes = volumes; base = base }) r) (sym (is ∙ rw (same, there) refl)) (record {
+  version = refl;
   volumes = refl;
   last = refl;
   goes_on = refl;
@@ -199,7 +183,7 @@ started before now volumes copy base held window reader same there reached is ke
   reads = λ bytes told.
       let r = reached bytes told in
       let len : held.place + length (held.bytes ++ r.left) ≡ length bytes = omega (arith, r.long, length-append held.bytes r.left, ap length r.all, length-append r.given r.left) in
-      (held.bytes ++ r.left, ap (unread held.bytes) r.told, ap (λ (t : List ℕ). header_at 1 (whole_trace t)) r.all ∙ r.reads r.left, len);
+      (held.bytes ++ r.left, ap (unread held.bytes) r.told, ap (λ (t : List ℕ). header_at (whole_trace t)) r.all ∙ r.reads r.left, len);
 })
 
 -- a part of the header was not read

@@ -1,10 +1,10 @@
 -- What a header spells is read again, whatever follows.
-use Rattle.std.proofs.Common.{◌≡◌, ℕ, ◌+◌, ◌^◌, ◌≤◌, true, not, nat_eq, nat_le, ◌&&◌, List, [], ◌∷◌, ◌++◌, length, Ok, refl, sym, ap, subst, ◌∙◌, append_assoc, length-append, arith}
-use Rattle.std.specs.Prelude.{bytes_eq, sum_by}
+use Rattle.std.proofs.Common.{◌≡◌, ℕ, ◌+◌, ◌-◌, ◌^◌, ◌≤◌, true, not, nat_eq, nat_le, ◌&&◌, List, [], ◌∷◌, ◌++◌, length, Ok, refl, sym, ap, subst, ◌∙◌, append_assoc, length-append, arith, inl, inr}
+use Rattle.std.specs.Prelude.{bytes_eq, sum_by, slice_index}
 use Rattle.std.specs.List.{flat_map, list_any}
 use Rattle.std.specs.Int.{w16, w32, byte_len, to_be_bytes}
-use Rattle.std.proofs.lemmas.Bool.{leb-true, le-leb, eqb-true}
-use Rattle.tod_stamp.specs.Fields.{within}
+use Rattle.std.proofs.lemmas.Bool.{leb-true, le-leb}
+use Rattle.tod_stamp.specs.Fields.{within, is_version}
 use Rattle.tod_stamp.specs.Names.{serial_field, is_field, before_spaces}
 use Rattle.tod_stamp.proofs.FieldLaws.{at_place, wide16, wide32, number_again, bytes_again}
 use Rattle.tod_stamp.proofs.NameLaws.{fields_back, length-name_field}
@@ -13,6 +13,7 @@ use Rattle.ckd_track.specs.Images.{image}
 use Rattle.write_trace.specs.declared.header.VolumeHead.{VolumeHead}
 use Rattle.write_trace.specs.Headers.{Base, cylinder_width, most_cylinders, trace_mark, tracks_of, is_track_of, place_spelling, volume_spelling, base_spelling, header_spelling, are_volumes, is_from, are_bases, is_trace_mark, version_at, is_new_serial, volume_at, volumes_at, base_at, bases_at, header_at}
 use Rattle.write_trace.specs.Laws.{HeadersReadBack}
+use Rattle.tod_stamp.proofs.Versions.{one_or_two}
 use Rattle.write_trace.proofs.FieldSteps.{both_true, and_true, cylinder_limit, cylinder_wide}
 use Rattle.write_trace.proofs.FieldsAgain.{in_limit, FirstVolume, first_volume, place_again, image_back}
 use Rattle.write_trace.proofs.BaseCounts.{count_bases, few_tracks}
@@ -77,64 +78,69 @@ bases_again version place volumes low (b ∷ base) rest few are kept =
 
 -- ---- headers
 
-version_again : (place : ℕ) (rest : List ℕ) → version_at 1 (at_place place (trace_mark 1 ++ rest)) ≡ Ok (1, at_place (place + 4) rest)
+mark_again : (place version : ℕ) (rest : List ℕ) → is_trace_mark (trace_mark version) ≡ true → slice_index (trace_mark version) 3 - 48 ≡ version → version_at (at_place place (trace_mark version ++ rest)) ≡ Ok (version, at_place (place + 4) rest)
 unfolding version_at
-version_again place rest = rw (bytes_again 4 (is_trace_mark 1) place (trace_mark 1) rest refl refl) refl
+mark_again place version rest keeps says = rw (bytes_again 4 is_trace_mark place (trace_mark version) rest refl keeps) (ap (λ v. Ok (v, at_place (place + 4) rest)) says)
+
+version_again : (place version : ℕ) (rest : List ℕ) → is_version version ≡ true → version_at (at_place place (trace_mark version ++ rest)) ≡ Ok (version, at_place (place + 4) rest)
+version_again place version rest is =
+    elim (one_or_two version is) [
+      | inl first ↦ mark_again place version rest (ap (λ v. is_trace_mark (trace_mark v)) first) (omega (arith, ap (λ v. slice_index (trace_mark v) 3) first, first))
+      | inr second ↦ mark_again place version rest (ap (λ v. is_trace_mark (trace_mark v)) second) (omega (arith, ap (λ v. slice_index (trace_mark v) 3) second, second))
+    ]
 
 -- the fields of a header, one after another
-header_fields : (place : ℕ) (volumes : List VolumeHead) (base : List Base) (rest : List ℕ) → within 1 32 (length volumes) ≡ true → are_volumes 1 [] volumes ≡ true → are_bases volumes (0, 0) base ≡ true
-    → header_at 1 (at_place place (trace_mark 1 ++ (to_be_bytes w16 (length volumes) ++ (flat_map (volume_spelling 1) volumes ++ (to_be_bytes w32 (length base) ++ (flat_map (base_spelling 1) base ++ rest))))))
-    ≡ Ok (record { version = 1; volumes = volumes; base = base }, at_place (place + 4 + 2 + length (flat_map (volume_spelling 1) volumes) + 4 + length (flat_map (base_spelling 1) base)) rest)
+header_fields : (place version : ℕ) (volumes : List VolumeHead) (base : List Base) (rest : List ℕ) → is_version version ≡ true → within 1 32 (length volumes) ≡ true → are_volumes version [] volumes ≡ true → are_bases volumes (0, 0) base ≡ true
+    → header_at (at_place place (trace_mark version ++ (to_be_bytes w16 (length volumes) ++ (flat_map (volume_spelling version) volumes ++ (to_be_bytes w32 (length base) ++ (flat_map (base_spelling version) base ++ rest))))))
+    ≡ Ok (record { version = version; volumes = volumes; base = base }, at_place (place + 4 + 2 + length (flat_map (volume_spelling version) volumes) + 4 + length (flat_map (base_spelling version) base)) rest)
 unfolding header_at
-header_fields place volumes base rest number are kept =
+header_fields place version volumes base rest is number are kept =
     let few = leb-true (length volumes) 32 (both_true (nat_le 1 (length volumes)) (nat_le (length volumes) 32) number).1 in
     let most = count_bases volumes base kept in
-    let heads = flat_map (volume_spelling 1) volumes in
-    let tracks = flat_map (base_spelling 1) base in
-    let one = version_again place (to_be_bytes w16 (length volumes) ++ (heads ++ (to_be_bytes w32 (length base) ++ (tracks ++ rest)))) in
+    let heads = flat_map (volume_spelling version) volumes in
+    let tracks = flat_map (base_spelling version) base in
+    let one = version_again place version (to_be_bytes w16 (length volumes) ++ (heads ++ (to_be_bytes w32 (length base) ++ (tracks ++ rest)))) is in
     let two = number_again w16 (2 ^ 16) wide16 (within 1 32) (place + 4) (length volumes) (heads ++ (to_be_bytes w32 (length base) ++ (tracks ++ rest))) (omega (arith, few)) number in
-    let three = volumes_again 1 (place + 4 + 2) [] volumes (to_be_bytes w32 (length base) ++ (tracks ++ rest)) are in
+    let three = volumes_again version (place + 4 + 2) [] volumes (to_be_bytes w32 (length base) ++ (tracks ++ rest)) are in
     let four = number_again w32 (2 ^ 32) wide32 (λ n. nat_le n (sum_by tracks_of volumes)) (place + 4 + 2 + length heads) (length base) (tracks ++ rest)
-    (omega (arith, few, most, few_tracks [] volumes are)) (le-leb (length base) (sum_by tracks_of volumes) most) in
-    let five = bases_again 1 (place + 4 + 2 + length heads + 4) volumes (0, 0) base rest few are kept in
+    (omega (arith, few, most, few_tracks version [] volumes are)) (le-leb (length base) (sum_by tracks_of volumes) most) in
+    let five = bases_again version (place + 4 + 2 + length heads + 4) volumes (0, 0) base rest few are kept in
     rw (one, two, three, four, five) refl
 
 regrouped : (a b c d e rest : List ℕ) → ((((a ++ b) ++ c) ++ d) ++ e) ++ rest ≡ a ++ (b ++ (c ++ (d ++ (e ++ rest))))
 regrouped a b c d e rest = simp append_assoc
 
-headers_first : (place : ℕ) (version : ℕ) (volumes : List VolumeHead) (base : List Base) (rest : List ℕ) → 1 ≡ version → within 1 32 (length volumes) ≡ true → are_volumes 1 [] volumes ≡ true → are_bases volumes (0, 0) base ≡ true
-    → header_at 1 (at_place place (header_spelling (record { version = version; volumes = volumes; base = base }) ++ rest))
+headers_first : (place version : ℕ) (volumes : List VolumeHead) (base : List Base) (rest : List ℕ) → is_version version ≡ true → within 1 32 (length volumes) ≡ true → are_volumes version [] volumes ≡ true → are_bases volumes (0, 0) base ≡ true
+    → header_at (at_place place (header_spelling (record { version = version; volumes = volumes; base = base }) ++ rest))
     ≡ Ok (record { version = version; volumes = volumes; base = base }, at_place (place + length (header_spelling (record { version = version; volumes = volumes; base = base }))) rest)
-headers_first place version volumes base rest first number are kept =
-    subst (λ v. header_at 1 (at_place place (header_spelling (record { version = v; volumes = volumes; base = base }) ++ rest))
-    ≡ Ok (record { version = v; volumes = volumes; base = base }, at_place (place + length (header_spelling (record { version = v; volumes = volumes; base = base }))) rest)) first
-    (ap (λ (t : List ℕ). header_at 1 (at_place place t)) (regrouped (trace_mark 1) count heads many tracks rest)
-    ∙ header_fields place volumes base rest number are kept
-    ∙ ap (λ n. Ok (record { version = 1; volumes = volumes; base = base }, at_place n rest)) end)
+headers_first place version volumes base rest is number are kept =
+    ap (λ (t : List ℕ). header_at (at_place place t)) (regrouped (trace_mark version) count heads many tracks rest)
+    ∙ header_fields place version volumes base rest is number are kept
+    ∙ ap (λ n. Ok (record { version = version; volumes = volumes; base = base }, at_place n rest)) end
   where
     count : List ℕ
     count = to_be_bytes w16 (length volumes)
 
     heads : List ℕ
-    heads = flat_map (volume_spelling 1) volumes
+    heads = flat_map (volume_spelling version) volumes
 
     many : List ℕ
     many = to_be_bytes w32 (length base)
 
     tracks : List ℕ
-    tracks = flat_map (base_spelling 1) base
+    tracks = flat_map (base_spelling version) base
 
-    end : place + 4 + 2 + length (flat_map (volume_spelling 1) volumes) + 4 + length (flat_map (base_spelling 1) base) ≡ place + length (header_spelling (record { version = 1; volumes = volumes; base = base }))
+    end : place + 4 + 2 + length (flat_map (volume_spelling version) volumes) + 4 + length (flat_map (base_spelling version) base) ≡ place + length (header_spelling (record { version = version; volumes = volumes; base = base }))
     end = omega (
       arith,
-      length-append (trace_mark 1 ++ to_be_bytes w16 (length volumes) ++ flat_map (volume_spelling 1) volumes ++ to_be_bytes w32 (length base)) (flat_map (base_spelling 1) base),
-      length-append (trace_mark 1 ++ to_be_bytes w16 (length volumes) ++ flat_map (volume_spelling 1) volumes) (to_be_bytes w32 (length base)),
-      length-append (trace_mark 1 ++ to_be_bytes w16 (length volumes)) (flat_map (volume_spelling 1) volumes),
+      length-append (trace_mark version ++ to_be_bytes w16 (length volumes) ++ flat_map (volume_spelling version) volumes ++ to_be_bytes w32 (length base)) (flat_map (base_spelling version) base),
+      length-append (trace_mark version ++ to_be_bytes w16 (length volumes) ++ flat_map (volume_spelling version) volumes) (to_be_bytes w32 (length base)),
+      length-append (trace_mark version ++ to_be_bytes w16 (length volumes)) (flat_map (volume_spelling version) volumes),
     )
 
 pub headers_back : HeadersReadBack
 headers_back place h rest is =
-    let a = both_true (nat_eq h.version 1 && within 1 32 (length h.volumes) && are_volumes 1 [] h.volumes) (are_bases h.volumes (0, 0) h.base) is in
-    let b = both_true (nat_eq h.version 1 && within 1 32 (length h.volumes)) (are_volumes 1 [] h.volumes) a.0 in
-    let c = both_true (nat_eq h.version 1) (within 1 32 (length h.volumes)) b.0 in
-    headers_first place h.version h.volumes h.base rest (sym (eqb-true h.version 1 c.0)) c.1 b.1 a.1
+    let a = both_true (is_version h.version && within 1 32 (length h.volumes) && are_volumes h.version [] h.volumes) (are_bases h.volumes (0, 0) h.base) is in
+    let b = both_true (is_version h.version && within 1 32 (length h.volumes)) (are_volumes h.version [] h.volumes) a.0 in
+    let c = both_true (is_version h.version) (within 1 32 (length h.volumes)) b.0 in
+    headers_first place h.version h.volumes h.base rest c.0 c.1 b.1 a.1

@@ -1,11 +1,10 @@
 -- What is read as a header keeps the rules and was spelled so.
-use Rattle.std.proofs.Common.{◌≡◌, ℕ, zero, suc, ◌+◌, ◌-◌, ◌^◌, Bool, true, false, cond, not, nat_eq, nat_le, ◌&&◌, List, [], ◌∷◌, ◌++◌, length, Result, Ok, Err, refl, sym, ap, subst, ◌∙◌}
-use Rattle.std.specs.Prelude.{◌||◌, bytes_eq, sum_by, slice_index}
+use Rattle.std.proofs.Common.{◌≡◌, ℕ, zero, suc, ◌+◌, ◌-◌, ◌^◌, Bool, true, false, cond, not, nat_eq, nat_le, ◌&&◌, List, [], ◌∷◌, ◌++◌, length, Result, Ok, Err, refl, sym, ap, subst, ◌∙◌, inl, inr}
+use Rattle.std.specs.Prelude.{bytes_eq, sum_by, slice_index}
 use Rattle.std.specs.List.{flat_map, list_any}
 use Rattle.std.specs.Int.{w16, w32, to_be_bytes}
-use Rattle.std.proofs.lemmas.Bool.{eq-eqb}
 use Rattle.std.proofs.lemmas.Slice.Eq.{bytes_eq-Decides}
-use Rattle.tod_stamp.specs.Fields.{◌>>=◌, IsBytes, Left, Bad, bytes_at, number_at, within}
+use Rattle.tod_stamp.specs.Fields.{◌>>=◌, IsBytes, Left, Bad, bytes_at, number_at, within, is_version}
 use Rattle.tod_stamp.specs.Fields.Bad.{Broken}
 use Rattle.tod_stamp.specs.Names.{is_serial, serial_field, is_field, before_spaces}
 use Rattle.tod_stamp.proofs.FieldLaws.{bind_ok, Takes, Takes-then, wide16, wide32, number_takes, bytes_takes}
@@ -14,26 +13,34 @@ use Rattle.ckd_track.specs.Tracks.{is_track}
 use Rattle.ckd_track.specs.Images.{image}
 use Rattle.write_trace.specs.declared.header.VolumeHead.{VolumeHead}
 use Rattle.write_trace.specs.declared.header.Header.{Header}
-use Rattle.write_trace.specs.Headers.{Base, cylinder_width, most_cylinders, trace_mark, tracks_of, is_track_of, place_spelling, volume_spelling, base_spelling, header_spelling, are_volumes, is_from, are_bases, is_header_of, is_trace_mark, version_at, is_new_serial, volume_at, volumes_at, place_at, image_field, base_at, bases_at, header_at}
+use Rattle.write_trace.specs.Headers.{Base, cylinder_width, most_cylinders, trace_mark, tracks_of, is_track_of, place_spelling, volume_spelling, base_spelling, header_spelling, are_volumes, is_from, are_bases, is_header, is_trace_mark, version_at, is_new_serial, volume_at, volumes_at, place_at, image_field, base_at, bases_at, header_at}
 use Rattle.write_trace.specs.Laws.{HeadersAreSpelled}
-use Rattle.write_trace.proofs.FieldSteps.{both_true, and_true, given_is, none_taken, cylinder_limit, cylinder_wide, place_takes, image_takes}
+use Rattle.write_trace.proofs.FieldSteps.{both_true, either_true, and_true, given_is, none_taken, cylinder_limit, cylinder_wide, place_takes, image_takes}
 
 -- ---- the mark
 
-first_or : (b : Bool) → (b || false) ≡ true → b ≡ true
-first_or true e = refl
-first_or false e = absurd cc
+-- what was read as a mark
+record VersionTaken (left : Left) (version : ℕ) (next : Left) : Type 0 where
+  takes : Takes left (trace_mark version) next
+  kept : is_version version ≡ true
 
-version_takes : (left : Left) (version : ℕ) (next : Left) → IsBytes left.bytes → version_at 1 left ≡ Ok (version, next) → Takes left (trace_mark 1) next × (version ≡ 1)
+mark_taken : (left : Left) (version : ℕ) (mark : List ℕ) (next : Left) → mark ≡ trace_mark version → slice_index (trace_mark version) 3 - 48 ≡ version → is_version version ≡ true → Takes left mark next
+    → VersionTaken left (slice_index mark 3 - 48) next
+mark_taken left version mark next is says keeps takes =
+    let read : slice_index mark 3 - 48 ≡ version = ap (λ (t : List ℕ). slice_index t 3 - 48) is ∙ says in
+    subst (λ v. VersionTaken left v next) (sym read) (record { takes = subst (λ (t : List ℕ). Takes left t next) is takes; kept = keeps })
+
+version_takes : (left : Left) (version : ℕ) (next : Left) → IsBytes left.bytes → version_at left ≡ Ok (version, next) → VersionTaken left version next
 unfolding version_at
 version_takes left version next fits e =
-    let one = bind_ok (bytes_at 4 (is_trace_mark 1) left) (λ m. Ok (slice_index m.0 3 - 48, m.1)) (version, next) e in
-    let bytes = bytes_takes 4 (is_trace_mark 1) left one.0.0 one.0.1 fits one.1 in
-    let is : one.0.0 ≡ trace_mark 1 = (bytes_eq-Decides one.0.0 (trace_mark 1)).0 (first_or (bytes_eq one.0.0 (trace_mark 1)) bytes.2) in
-    let given = given_is (slice_index one.0.0 3 - 48, one.0.1) (version, next) one.2 in (
-      subst (λ (n : Left). Takes left (trace_mark 1) n) (ap (λ (p : ℕ × Left). p.1) given) (subst (λ (t : List ℕ). Takes left t one.0.1) is bytes.0),
-      sym (ap (λ (p : ℕ × Left). p.0) given) ∙ ap (λ (t : List ℕ). slice_index t 3 - 48) is,
-    )
+    let one = bind_ok (bytes_at 4 is_trace_mark left) (λ m. Ok (slice_index m.0 3 - 48, m.1)) (version, next) e in
+    let bytes = bytes_takes 4 is_trace_mark left one.0.0 one.0.1 fits one.1 in
+    let given = given_is (slice_index one.0.0 3 - 48, one.0.1) (version, next) one.2 in
+    subst (λ (p : ℕ × Left). VersionTaken left p.0 p.1) given
+    (elim (either_true (bytes_eq one.0.0 (trace_mark 1)) (bytes_eq one.0.0 (trace_mark 2)) bytes.2) [
+      | inl h ↦ mark_taken left 1 one.0.0 one.0.1 ((bytes_eq-Decides one.0.0 (trace_mark 1)).0 h) refl refl bytes.0
+      | inr h ↦ mark_taken left 2 one.0.0 one.0.1 ((bytes_eq-Decides one.0.0 (trace_mark 2)).0 h) refl refl bytes.0
+    ])
 
 -- ---- volumes
 
@@ -136,7 +143,7 @@ bases_take version volumes (suc count) low left base next fits e =
 -- what was read as a header
 pub record HeaderTaken (left : Left) (h : Header) (next : Left) : Type 0 where
   pub takes : Takes left (header_spelling h) next
-  pub kept : is_header_of 1 h ≡ true
+  pub kept : is_header h ≡ true
 
 -- what is read after the mark
 abbrev after_version : (version : ℕ) → Left → Result (Header × Left) Bad
@@ -147,17 +154,17 @@ after_version version left = do
   base ← bases_at version volumes.0 many.0 (0, 0) many.1
   Ok (record { version = version; volumes = volumes.0; base = base.0 }, base.1)
 
-pub header_takes : (left : Left) (h : Header) (next : Left) → IsBytes left.bytes → header_at 1 left ≡ Ok (h, next) → HeaderTaken left h next
+pub header_takes : (left : Left) (h : Header) (next : Left) → IsBytes left.bytes → header_at left ≡ Ok (h, next) → HeaderTaken left h next
 unfolding header_at
 header_takes left h next fits e =
-    let one = bind_ok (version_at 1 left) (λ m. after_version m.0 m.1) (h, next) e in
+    let one = bind_ok (version_at left) (λ m. after_version m.0 m.1) (h, next) e in
     let start = version_takes left one.0.0 one.0.1 fits one.1 in
-    after_mark one.0.0 one.0.1 start.1 start.0 one.2
+    after_mark one.0.0 one.0.1 start.kept start.takes one.2
   where
-    after_mark : (version : ℕ) (after : Left) → version ≡ 1 → Takes left (trace_mark 1) after
+    after_mark : (version : ℕ) (after : Left) → is_version version ≡ true → Takes left (trace_mark version) after
         → after_version version after ≡ Ok (h, next)
         → HeaderTaken left h next
-    after_mark version after first start e =
+    after_mark version after is start e =
         let two = bind_ok (number_at w16 (within 1 32) after) (λ c. volumes_at version c.0 [] c.1 >>= (λ v. number_at w32 (λ n. nat_le n (sum_by tracks_of v.0)) v.1 >>= (λ k. bases_at version v.0 k.0 (0, 0) k.1 >>= (λ b. Ok (record { version = version; volumes = v.0; base = b.0 }, b.1))))) (h, next) e in
         let count = number_takes w16 (2 ^ 16) wide16 (within 1 32) after two.0.0 two.0.1 start.rest_bytes two.1 in
         let three = bind_ok (volumes_at version two.0.0 [] two.0.1) (λ v. number_at w32 (λ n. nat_le n (sum_by tracks_of v.0)) v.1 >>= (λ k. bases_at version v.0 k.0 (0, 0) k.1 >>= (λ b. Ok (record { version = version; volumes = v.0; base = b.0 }, b.1)))) (h, next) two.2 in
@@ -168,18 +175,18 @@ header_takes left h next fits e =
         let five = bind_ok (bases_at version volumes four.0.0 (0, 0) four.0.1) (λ b. Ok (record { version = version; volumes = volumes; base = b.0 }, b.1)) (h, next) four.2 in
         let tracks = bases_take version volumes four.0.0 (0, 0) four.0.1 five.0.0 five.0.1 many.takes.rest_bytes five.1 in
         let found : Header = record { version = version; volumes = volumes; base = five.0.0 } in
-        let texts = λ (v n k : ℕ). (((trace_mark v ++ to_be_bytes w16 n) ++ flat_map (volume_spelling version) volumes) ++ to_be_bytes w32 k) ++ flat_map (base_spelling version) five.0.0 in
-        let a = Takes-then left (trace_mark 1) after (to_be_bytes w16 two.0.0) two.0.1 start count.takes in
-        let b = Takes-then left (trace_mark 1 ++ to_be_bytes w16 two.0.0) two.0.1 (flat_map (volume_spelling version) volumes) three.0.1 a heads.takes in
-        let c = Takes-then left ((trace_mark 1 ++ to_be_bytes w16 two.0.0) ++ flat_map (volume_spelling version) volumes) three.0.1 (to_be_bytes w32 four.0.0) four.0.1 b many.takes in
-        let whole : Takes left (texts 1 two.0.0 four.0.0) five.0.1 = Takes-then left (((trace_mark 1 ++ to_be_bytes w16 two.0.0) ++ flat_map (volume_spelling version) volumes) ++ to_be_bytes w32 four.0.0) four.0.1 (flat_map (base_spelling version) five.0.0) five.0.1 c tracks.takes in
-        let spelled : texts 1 two.0.0 four.0.0 ≡ texts version (length volumes) (length five.0.0) = ap (λ v. texts v two.0.0 four.0.0) (sym first) ∙ ap (λ n. texts version n four.0.0) (sym heads.number) ∙ ap (λ k. texts version (length volumes) k) (sym tracks.number) in
+        let texts = λ (n k : ℕ). (((trace_mark version ++ to_be_bytes w16 n) ++ flat_map (volume_spelling version) volumes) ++ to_be_bytes w32 k) ++ flat_map (base_spelling version) five.0.0 in
+        let a = Takes-then left (trace_mark version) after (to_be_bytes w16 two.0.0) two.0.1 start count.takes in
+        let b = Takes-then left (trace_mark version ++ to_be_bytes w16 two.0.0) two.0.1 (flat_map (volume_spelling version) volumes) three.0.1 a heads.takes in
+        let c = Takes-then left ((trace_mark version ++ to_be_bytes w16 two.0.0) ++ flat_map (volume_spelling version) volumes) three.0.1 (to_be_bytes w32 four.0.0) four.0.1 b many.takes in
+        let whole : Takes left (texts two.0.0 four.0.0) five.0.1 = Takes-then left (((trace_mark version ++ to_be_bytes w16 two.0.0) ++ flat_map (volume_spelling version) volumes) ++ to_be_bytes w32 four.0.0) four.0.1 (flat_map (base_spelling version) five.0.0) five.0.1 c tracks.takes in
+        let spelled : texts two.0.0 four.0.0 ≡ texts (length volumes) (length five.0.0) = ap (λ n. texts n four.0.0) (sym heads.number) ∙ ap (λ k. texts (length volumes) k) (sym tracks.number) in
         subst (λ (p : Header × Left). HeaderTaken left p.0 p.1) (given_is (found, five.0.1) (h, next) five.2) (record {
           takes = subst (λ (t : List ℕ). Takes left t five.0.1) spelled whole;
-          kept = and_true (nat_eq version 1 && within 1 32 (length volumes) && are_volumes 1 [] volumes) (are_bases volumes (0, 0) five.0.0)
-              (and_true (nat_eq version 1 && within 1 32 (length volumes)) (are_volumes 1 [] volumes)
-              (and_true (nat_eq version 1) (within 1 32 (length volumes)) (eq-eqb version 1 first) (subst (λ n. within 1 32 n ≡ true) (sym heads.number) count.kept))
-              (subst (λ v. are_volumes v [] volumes ≡ true) first heads.kept)) tracks.kept;
+          kept = and_true (is_version version && within 1 32 (length volumes) && are_volumes version [] volumes) (are_bases volumes (0, 0) five.0.0)
+              (and_true (is_version version && within 1 32 (length volumes)) (are_volumes version [] volumes)
+              (and_true (is_version version) (within 1 32 (length volumes)) is (subst (λ n. within 1 32 n ≡ true) (sym heads.number) count.kept))
+              heads.kept) tracks.kept;
         })
 
 pub headers_spelled : HeadersAreSpelled

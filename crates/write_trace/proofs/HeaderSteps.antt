@@ -10,7 +10,7 @@ use Rattle.tod_stamp.specs.Fields.Bad.{Cut, Broken}
 use Rattle.tod_stamp.specs.Names.{is_field, is_name, is_serial, before_spaces, name_in}
 use Rattle.tod_stamp.proofs.FieldLaws.{bind_ok, guard_ok, allow_ok}
 use Rattle.write_trace.specs.declared.header.VolumeHead.{VolumeHead}
-use Rattle.write_trace.specs.Headers.{tracks_of, version_at, is_new_serial, volume_at, volumes_at, are_volumes}
+use Rattle.write_trace.specs.Headers.{cylinder_width, most_cylinders, tracks_of, version_at, is_new_serial, volume_at, volumes_at, are_volumes}
 use Rattle.write_trace.proofs.FieldSteps.{both_true, and_true}
 use Rattle.write_trace.specs.declared.stop.NoRead.{NoRead}
 use Rattle.write_trace.specs.declared.stop.NoRead.TheVariants as stops
@@ -75,9 +75,9 @@ no_field field true is len none = absurd (clash (before_spaces field) (sym none 
     clash name e = cc
 no_field field false is len none = refl
 
-pub no_serial : (seen : List (List ℕ)) (left : Left) (field : List ℕ) (next : Left) → bytes_at 6 any left ≡ Ok (field, next) → name_in 6 field ≡ None → volume_at 1 seen left ≡ Err (Broken left.place)
+pub no_serial : (version : ℕ) (seen : List (List ℕ)) (left : Left) (field : List ℕ) (next : Left) → bytes_at 6 any left ≡ Ok (field, next) → name_in 6 field ≡ None → volume_at version seen left ≡ Err (Broken left.place)
 unfolding volume_at bytes_at
-no_serial seen left field next read none =
+no_serial version seen left field next read none =
     let is = front_is 6 left field next read in
     let bad : is_field 6 (take 6 left.bytes) ≡ false = ap (is_field 6) (sym is.front) ∙ no_field field (is_field 6 field) refl is.sized none in
     rw (is.there, bad) refl
@@ -92,34 +92,34 @@ regroup_volumes : (front : List VolumeHead) (v : VolumeHead) (read : Result (Lis
 regroup_volumes front v (Ok x) = ap (λ (vs : List VolumeHead). Ok (vs, x.1)) (simp append_assoc)
 regroup_volumes front v (Err e) = refl
 
-pub volumes_go_on : (front : List VolumeHead) (count i : ℕ) (left next : Left) (v : VolumeHead) (total : Result (List VolumeHead × Left) Bad) → i < count → volume_at 1 (seen_after [] front) left ≡ Ok (v, next)
-    → with_volumes front (volumes_at 1 (count - i) (seen_after [] front) left) ≡ total → with_volumes (front ++ v ∷ []) (volumes_at 1 (count - (i + 1)) (seen_after [] (front ++ v ∷ [])) next) ≡ total
+pub volumes_go_on : (version : ℕ) (front : List VolumeHead) (count i : ℕ) (left next : Left) (v : VolumeHead) (total : Result (List VolumeHead × Left) Bad) → i < count → volume_at version (seen_after [] front) left ≡ Ok (v, next)
+    → with_volumes front (volumes_at version (count - i) (seen_after [] front) left) ≡ total → with_volumes (front ++ v ∷ []) (volumes_at version (count - (i + 1)) (seen_after [] (front ++ v ∷ [])) next) ≡ total
 unfolding volumes_at
-volumes_go_on front count i left next v total lt read so_far =
+volumes_go_on version front count i left next v total lt read so_far =
     let k : count - i ≡ suc (count - (i + 1)) = omega arith in
-    let one : with_volumes front (volumes_at 1 (count - i) (seen_after [] front) left) ≡ with_volumes (front ++ v ∷ []) (volumes_at 1 (count - (i + 1)) (v.serial ∷ seen_after [] front) next) =
-    rw (k, read) (regroup_volumes front v (volumes_at 1 (count - (i + 1)) (v.serial ∷ seen_after [] front) next)) in
-    ap (λ (seen : List (List ℕ)). with_volumes (front ++ v ∷ []) (volumes_at 1 (count - (i + 1)) seen next)) (seen_more [] front v) ∙ sym one ∙ so_far
+    let one : with_volumes front (volumes_at version (count - i) (seen_after [] front) left) ≡ with_volumes (front ++ v ∷ []) (volumes_at version (count - (i + 1)) (v.serial ∷ seen_after [] front) next) =
+    rw (k, read) (regroup_volumes front v (volumes_at version (count - (i + 1)) (v.serial ∷ seen_after [] front) next)) in
+    ap (λ (seen : List (List ℕ)). with_volumes (front ++ v ∷ []) (volumes_at version (count - (i + 1)) seen next)) (seen_more [] front v) ∙ sym one ∙ so_far
 
-volumes_stop : (bad : Bad) (front : List VolumeHead) (count i : ℕ) (left : Left) (total : Result (List VolumeHead × Left) Bad) → i < count → volume_at 1 (seen_after [] front) left ≡ Err bad
-    → with_volumes front (volumes_at 1 (count - i) (seen_after [] front) left) ≡ total → total ≡ Err bad
+volumes_stop : (version : ℕ) (bad : Bad) (front : List VolumeHead) (count i : ℕ) (left : Left) (total : Result (List VolumeHead × Left) Bad) → i < count → volume_at version (seen_after [] front) left ≡ Err bad
+    → with_volumes front (volumes_at version (count - i) (seen_after [] front) left) ≡ total → total ≡ Err bad
 unfolding volumes_at
-volumes_stop bad front count i left total lt read so_far =
+volumes_stop version bad front count i left total lt read so_far =
     let k : count - i ≡ suc (count - (i + 1)) = omega arith in
-    let one : with_volumes front (volumes_at 1 (count - i) (seen_after [] front) left) ≡ Err bad = rw (k, read) refl in
+    let one : with_volumes front (volumes_at version (count - i) (seen_after [] front) left) ≡ Err bad = rw (k, read) refl in
     sym so_far ∙ one
 
-pub volumes_end : (stop : NoRead) (front : List VolumeHead) (count i : ℕ) (left : Left) (total : Result (List VolumeHead × Left) Bad) → i < count → Fails stop (volume_at 1 (seen_after [] front) left)
-    → with_volumes front (volumes_at 1 (count - i) (seen_after [] front) left) ≡ total → Fails stop total
-volumes_end stops.Memory front count i left total lt read so_far = tt
-volumes_end (stops.Cut place) front count i left total lt read so_far = volumes_stop (Cut place) front count i left total lt read so_far
-volumes_end (stops.Broken place) front count i left total lt read so_far = volumes_stop (Broken place) front count i left total lt read so_far
+pub volumes_end : (version : ℕ) (stop : NoRead) (front : List VolumeHead) (count i : ℕ) (left : Left) (total : Result (List VolumeHead × Left) Bad) → i < count → Fails stop (volume_at version (seen_after [] front) left)
+    → with_volumes front (volumes_at version (count - i) (seen_after [] front) left) ≡ total → Fails stop total
+volumes_end version stops.Memory front count i left total lt read so_far = tt
+volumes_end version (stops.Cut place) front count i left total lt read so_far = volumes_stop version (Cut place) front count i left total lt read so_far
+volumes_end version (stops.Broken place) front count i left total lt read so_far = volumes_stop version (Broken place) front count i left total lt read so_far
 
-pub volumes_done : (front : List VolumeHead) (count i : ℕ) (left : Left) (total : Result (List VolumeHead × Left) Bad) → count ≤ i → with_volumes front (volumes_at 1 (count - i) (seen_after [] front) left) ≡ total → total ≡ Ok (front, left)
+pub volumes_done : (version : ℕ) (front : List VolumeHead) (count i : ℕ) (left : Left) (total : Result (List VolumeHead × Left) Bad) → count ≤ i → with_volumes front (volumes_at version (count - i) (seen_after [] front) left) ≡ total → total ≡ Ok (front, left)
 unfolding volumes_at
-volumes_done front count i left total le so_far =
+volumes_done version front count i left total le so_far =
     let k : count - i ≡ 0 = omega arith in
-    let one : with_volumes front (volumes_at 1 (count - i) (seen_after [] front) left) ≡ Ok (front, left) = rw k (ap (λ (vs : List VolumeHead). Ok (vs, left)) (append-nil front)) in
+    let one : with_volumes front (volumes_at version (count - i) (seen_after [] front) left) ≡ Ok (front, left) = rw k (ap (λ (vs : List VolumeHead). Ok (vs, left)) (append-nil front)) in
     sym so_far ∙ one
 
 -- ---- what was read keeps the rules
@@ -139,47 +139,47 @@ number_keeps w rule left x e =
     let two = allow_ok (rule n) (Broken left.place) (n, after (byte_len w) left) x one.1 in
     ap (λ (y : ℕ × Left). rule y.0) (sym two.1) ∙ two.0
 
-pub record IsVolumeHeadSound (seen : List (List ℕ)) (v : VolumeHead) : Type 0 where
+pub record IsVolumeHeadSound (version : ℕ) (seen : List (List ℕ)) (v : VolumeHead) : Type 0 where
   pub serial : is_serial v.serial ≡ true
   pub new : not (list_any (bytes_eq v.serial) seen) ≡ true
-  pub cylinders : within 1 65520 v.cylinders ≡ true
+  pub cylinders : within 1 (most_cylinders version) v.cylinders ≡ true
 
-volume_keeps : (seen : List (List ℕ)) (left : Left) (x : VolumeHead × Left) → volume_at 1 seen left ≡ Ok x → IsVolumeHeadSound seen x.0
+volume_keeps : (version : ℕ) (seen : List (List ℕ)) (left : Left) (x : VolumeHead × Left) → volume_at version seen left ≡ Ok x → IsVolumeHeadSound version seen x.0
 unfolding volume_at
-volume_keeps seen left x e =
-    let a = bind_ok (bytes_at 6 (is_new_serial seen) left) (λ serial. number_at w16 (within 1 65520) serial.1 >>= λ cylinders. Ok (record { serial = before_spaces serial.0; cylinders = cylinders.0 }, cylinders.1)) x e in
-    let b = bind_ok (number_at w16 (within 1 65520) a.0.1) (λ cylinders. Ok (record { serial = before_spaces a.0.0; cylinders = cylinders.0 }, cylinders.1)) x a.2 in
+volume_keeps version seen left x e =
+    let a = bind_ok (bytes_at 6 (is_new_serial seen) left) (λ serial. number_at (cylinder_width version) (within 1 (most_cylinders version)) serial.1 >>= λ cylinders. Ok (record { serial = before_spaces serial.0; cylinders = cylinders.0 }, cylinders.1)) x e in
+    let b = bind_ok (number_at (cylinder_width version) (within 1 (most_cylinders version)) a.0.1) (λ cylinders. Ok (record { serial = before_spaces a.0.0; cylinders = cylinders.0 }, cylinders.1)) x a.2 in
     let rule = bytes_keep 6 (is_new_serial seen) left a.0 a.1 in
     let both = both_true (is_field 6 a.0.0) (not (list_any (bytes_eq (before_spaces a.0.0)) seen)) rule in
     let name = both_true (is_name 6 (before_spaces a.0.0)) (list_all (λ c. c == 32) (drop (length (before_spaces a.0.0)) a.0.0)) both.0 in
     let is : record { serial = before_spaces a.0.0; cylinders = b.0.0 } ≡ x.0 = first_is (record { serial = before_spaces a.0.0; cylinders = b.0.0 }, b.0.1) x b.2 in
-    let made : IsVolumeHeadSound seen (record { serial = before_spaces a.0.0; cylinders = b.0.0 }) = record { serial = name.0; new = both.1; cylinders = number_keeps w16 (within 1 65520) a.0.1 b.0 b.1 } in
-    subst (λ (v : VolumeHead). IsVolumeHeadSound seen v) is made
+    let made : IsVolumeHeadSound version seen (record { serial = before_spaces a.0.0; cylinders = b.0.0 }) = record { serial = name.0; new = both.1; cylinders = number_keeps (cylinder_width version) (within 1 (most_cylinders version)) a.0.1 b.0 b.1 } in
+    subst (λ (v : VolumeHead). IsVolumeHeadSound version seen v) is made
   where
     first_is : (a b : VolumeHead × Left) → (let p : Result (VolumeHead × Left) Bad = Ok a in let q : Result (VolumeHead × Left) Bad = Ok b in p ≡ q) → a.0 ≡ b.0
     first_is a b e = cc
 
 -- the volumes that were read are volumes of a header, and so many
-pub record KeepVolumes (count : ℕ) (seen : List (List ℕ)) (volumes : List VolumeHead) : Type 0 where
-  pub rules : are_volumes 1 seen volumes ≡ true
+pub record KeepVolumes (version count : ℕ) (seen : List (List ℕ)) (volumes : List VolumeHead) : Type 0 where
+  pub rules : are_volumes version seen volumes ≡ true
   pub many : length volumes ≡ count
 
-pub volumes_keep : (count : ℕ) (seen : List (List ℕ)) (left : Left) (x : List VolumeHead × Left) → volumes_at 1 count seen left ≡ Ok x → KeepVolumes count seen x.0
+pub volumes_keep : (version : ℕ) (count : ℕ) (seen : List (List ℕ)) (left : Left) (x : List VolumeHead × Left) → volumes_at version count seen left ≡ Ok x → KeepVolumes version count seen x.0
 unfolding volumes_at
-volumes_keep zero seen left x e = subst (λ (vs : List VolumeHead). KeepVolumes 0 seen vs) (first_is ([], left) x e) (record { rules = refl; many = refl })
+volumes_keep version zero seen left x e = subst (λ (vs : List VolumeHead). KeepVolumes version 0 seen vs) (first_is ([], left) x e) (record { rules = refl; many = refl })
   where
     first_is : (a b : List VolumeHead × Left) → (let p : Result (List VolumeHead × Left) Bad = Ok a in let q : Result (List VolumeHead × Left) Bad = Ok b in p ≡ q) → a.0 ≡ b.0
     first_is a b e = cc
-volumes_keep (suc count) seen left x e =
-    let a = bind_ok (volume_at 1 seen left) (λ first. volumes_at 1 count (first.0.serial ∷ seen) first.1 >>= λ others. Ok (first.0 ∷ others.0, others.1)) x e in
-    let b = bind_ok (volumes_at 1 count (a.0.0.serial ∷ seen) a.0.1) (λ others. Ok (a.0.0 ∷ others.0, others.1)) x a.2 in
-    let first = volume_keeps seen left a.0 a.1 in
-    let others = volumes_keep count (a.0.0.serial ∷ seen) a.0.1 b.0 b.1 in
-    let made : KeepVolumes (suc count) seen (a.0.0 ∷ b.0.0) = record {
+volumes_keep version (suc count) seen left x e =
+    let a = bind_ok (volume_at version seen left) (λ first. volumes_at version count (first.0.serial ∷ seen) first.1 >>= λ others. Ok (first.0 ∷ others.0, others.1)) x e in
+    let b = bind_ok (volumes_at version count (a.0.0.serial ∷ seen) a.0.1) (λ others. Ok (a.0.0 ∷ others.0, others.1)) x a.2 in
+    let first = volume_keeps version seen left a.0 a.1 in
+    let others = volumes_keep version count (a.0.0.serial ∷ seen) a.0.1 b.0 b.1 in
+    let made : KeepVolumes version (suc count) seen (a.0.0 ∷ b.0.0) = record {
       rules = and_true _ _ (and_true _ _ (and_true _ _ first.serial first.new) first.cylinders) others.rules;
       many = omega (arith, others.many);
     } in
-    subst (λ (vs : List VolumeHead). KeepVolumes (suc count) seen vs) (first_is (a.0.0 ∷ b.0.0, b.0.1) x b.2) made
+    subst (λ (vs : List VolumeHead). KeepVolumes version (suc count) seen vs) (first_is (a.0.0 ∷ b.0.0, b.0.1) x b.2) made
   where
     first_is : (a b : List VolumeHead × Left) → (let p : Result (List VolumeHead × Left) Bad = Ok a in let q : Result (List VolumeHead × Left) Bad = Ok b in p ≡ q) → a.0 ≡ b.0
     first_is a b e = cc
@@ -193,17 +193,17 @@ same_most r left a b e h = subst (λ k. GivesField (λ x. (x.0, x.1)) r (number_
 abbrev many_at : List VolumeHead → Left → Result (ℕ × Left) Bad
 many_at volumes left = number_at w32 (λ n. nat_le n (sum_by tracks_of volumes)) left
 
-head_then : (left marked counted next_is : Left) (count : ℕ) (volumes : List VolumeHead) → version_at 1 left ≡ Ok (1, marked) → number_at w16 (within 1 32) marked ≡ Ok (count, counted) → volumes_at 1 count [] counted ≡ Ok (volumes, next_is)
-    → header_front_at left ≡ (many_at volumes next_is >>= λ many. Ok ((volumes, many.0), many.1))
+head_then : (version : ℕ) (left marked counted next_is : Left) (count : ℕ) (volumes : List VolumeHead) → version_at left ≡ Ok (version, marked) → number_at w16 (within 1 32) marked ≡ Ok (count, counted) → volumes_at version count [] counted ≡ Ok (volumes, next_is)
+    → header_front_at left ≡ (many_at volumes next_is >>= λ many. Ok ((version, volumes, many.0), many.1))
 unfolding header_front_at
-head_then left marked counted next_is count volumes a b c = rw (a, b, c) refl
+head_then version left marked counted next_is count volumes a b c = rw (a, b, c) refl
 
-pub head_read : (left marked counted next_is next : Left) (count many : ℕ) (volumes : List VolumeHead) → version_at 1 left ≡ Ok (1, marked) → number_at w16 (within 1 32) marked ≡ Ok (count, counted) → volumes_at 1 count [] counted ≡ Ok (volumes, next_is)
-    → number_at w32 (λ n. nat_le n (sum_by tracks_of volumes)) next_is ≡ Ok (many, next) → header_front_at left ≡ Ok ((volumes, many), next)
-head_read left marked counted next_is next count many volumes a b c d = head_then left marked counted next_is count volumes a b c ∙ ap (λ (r : Result (ℕ × Left) Bad). r >>= λ many. Ok ((volumes, many.0), many.1)) d
+pub head_read : (version : ℕ) (left marked counted next_is next : Left) (count many : ℕ) (volumes : List VolumeHead) → version_at left ≡ Ok (version, marked) → number_at w16 (within 1 32) marked ≡ Ok (count, counted) → volumes_at version count [] counted ≡ Ok (volumes, next_is)
+    → number_at w32 (λ n. nat_le n (sum_by tracks_of volumes)) next_is ≡ Ok (many, next) → header_front_at left ≡ Ok ((version, volumes, many), next)
+head_read version left marked counted next_is next count many volumes a b c d = head_then version left marked counted next_is count volumes a b c ∙ ap (λ (r : Result (ℕ × Left) Bad). r >>= λ many. Ok ((version, volumes, many.0), many.1)) d
 
-pub head_fails : (stop : NoRead) (left marked counted next_is : Left) (count : ℕ) (volumes : List VolumeHead) → version_at 1 left ≡ Ok (1, marked) → number_at w16 (within 1 32) marked ≡ Ok (count, counted) → volumes_at 1 count [] counted ≡ Ok (volumes, next_is)
+pub head_fails : (version : ℕ) (stop : NoRead) (left marked counted next_is : Left) (count : ℕ) (volumes : List VolumeHead) → version_at left ≡ Ok (version, marked) → number_at w16 (within 1 32) marked ≡ Ok (count, counted) → volumes_at version count [] counted ≡ Ok (volumes, next_is)
     → Fails stop (number_at w32 (λ n. nat_le n (sum_by tracks_of volumes)) next_is) → Fails stop (header_front_at left)
-head_fails stops.Memory left marked counted next_is count volumes a b c d = tt
-head_fails (stops.Cut place) left marked counted next_is count volumes a b c d = head_then left marked counted next_is count volumes a b c ∙ ap (λ (r : Result (ℕ × Left) Bad). r >>= λ many. Ok ((volumes, many.0), many.1)) d
-head_fails (stops.Broken place) left marked counted next_is count volumes a b c d = head_then left marked counted next_is count volumes a b c ∙ ap (λ (r : Result (ℕ × Left) Bad). r >>= λ many. Ok ((volumes, many.0), many.1)) d
+head_fails version stops.Memory left marked counted next_is count volumes a b c d = tt
+head_fails version (stops.Cut place) left marked counted next_is count volumes a b c d = head_then version left marked counted next_is count volumes a b c ∙ ap (λ (r : Result (ℕ × Left) Bad). r >>= λ many. Ok ((version, volumes, many.0), many.1)) d
+head_fails version (stops.Broken place) left marked counted next_is count volumes a b c d = head_then version left marked counted next_is count volumes a b c ∙ ap (λ (r : Result (ℕ × Left) Bad). r >>= λ many. Ok ((version, volumes, many.0), many.1)) d

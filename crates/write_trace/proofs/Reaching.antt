@@ -45,7 +45,7 @@ waits_more before now old new at same le start remains reached bytes told =
       given = r.given ++ p.piece;
       all = r.all ∙ ap (λ (t : List ℕ). r.given ++ t) p.split ∙ sym (append_assoc r.given p.piece ahead.0);
       long = omega (arith, r.long, at, ap length p.longer, length-append r.given p.piece, length-append old.bytes p.piece);
-      reads = λ more. ap (λ (t : List ℕ). header_at 1 (seen 0 t)) (append_assoc r.given p.piece more) ∙ r.reads (p.piece ++ more)
+      reads = λ more. ap (λ (t : List ℕ). header_at (seen 0 t)) (append_assoc r.given p.piece more) ∙ r.reads (p.piece ++ more)
           ∙ ap (λ (t : List ℕ). remains (seen old.place t)) (sym (append_assoc old.bytes p.piece more) ∙ ap (λ (t : List ℕ). t ++ more) (sym p.longer)) ∙ ap (λ n. remains (seen n (new.bytes ++ more))) (sym at);
     }
 
@@ -67,8 +67,8 @@ part_read part steady start now remains old new x same read reached bytes told =
 
 -- ---- a field that is bad
 
-at_whole : (bytes given left : List ℕ) → bytes ≡ given ++ left → header_at 1 (whole_trace bytes) ≡ header_at 1 (seen 0 (given ++ left))
-at_whole bytes given left is = ap (λ (t : List ℕ). header_at 1 (whole_trace t)) is
+at_whole : (bytes given left : List ℕ) → bytes ≡ given ++ left → header_at (whole_trace bytes) ≡ header_at (seen 0 (given ++ left))
+at_whole bytes given left is = ap (λ (t : List ℕ). header_at (whole_trace t)) is
 
 pub part_broken : {A : Type 0} (part : Left → Result (A × Left) Bad) → IsSteady part → (start now : Option (List ℕ)) (remains : A × Left → Result (Header × Left) Bad) (old : Left) (place : ℕ)
     → part (seen old.place old.bytes) ≡ Err (Broken place) → Reached start now (λ left. part left >>= remains) old → IsBadHeader start place

@@ -10,13 +10,13 @@ use Rattle.write_trace.specs.HeaderParts.{header_front_at}
 use Rattle.write_trace.proofs.Steady.{IsSteady, steady_number, steady_bytes, steady_done, steady_then}
 use Rattle.write_trace.proofs.Forward.{IsForward, forward_number, forward_bytes, forward_done, forward_then}
 
-steady_version : (newest : ℕ) → IsSteady (version_at newest)
+steady_version : IsSteady version_at
 unfolding version_at
-steady_version newest = steady_then (bytes_at 4 (is_trace_mark newest)) (λ m. Ok (slice_index m.0 3 - 48, m.1)) (steady_bytes 4 (is_trace_mark newest)) (λ m. steady_done (slice_index m 3 - 48))
+steady_version = steady_then (bytes_at 4 is_trace_mark) (λ m. Ok (slice_index m.0 3 - 48, m.1)) (steady_bytes 4 is_trace_mark) (λ m. steady_done (slice_index m 3 - 48))
 
-forward_version : (newest : ℕ) → IsForward (version_at newest)
+forward_version : IsForward version_at
 unfolding version_at
-forward_version newest = forward_then (bytes_at 4 (is_trace_mark newest)) (λ m. Ok (slice_index m.0 3 - 48, m.1)) (forward_bytes 4 (is_trace_mark newest)) (λ m. forward_done (slice_index m 3 - 48))
+forward_version = forward_then (bytes_at 4 is_trace_mark) (λ m. Ok (slice_index m.0 3 - 48, m.1)) (forward_bytes 4 is_trace_mark) (λ m. forward_done (slice_index m 3 - 48))
 
 volume_made : List ℕ → ℕ → VolumeHead
 volume_made field cylinders = record { serial = before_spaces field; cylinders = cylinders }
@@ -53,15 +53,15 @@ many_at volumes left = number_at w32 (λ n. nat_le n (sum_by tracks_of volumes))
 pub steady_head : IsSteady header_front_at
 unfolding header_front_at
 steady_head =
-    steady_then (version_at 1) (λ version. number_at w16 (within 1 32) version.1 >>= λ count. volumes_at 1 count.0 [] count.1 >>= λ volumes. many_at volumes.0 volumes.1 >>= λ many. Ok ((volumes.0, many.0), many.1)) (steady_version 1)
-    (λ version. steady_then (number_at w16 (within 1 32)) (λ count. volumes_at 1 count.0 [] count.1 >>= λ volumes. many_at volumes.0 volumes.1 >>= λ many. Ok ((volumes.0, many.0), many.1)) (steady_number w16 (within 1 32))
-    (λ count. steady_then (volumes_at 1 count []) (λ volumes. many_at volumes.0 volumes.1 >>= λ many. Ok ((volumes.0, many.0), many.1)) (steady_volumes 1 count [])
-    (λ volumes. steady_then (many_at volumes) (λ many. Ok ((volumes, many.0), many.1)) (steady_number w32 (λ n. nat_le n (sum_by tracks_of volumes))) (λ many. steady_done (volumes, many)))))
+    steady_then version_at (λ version. number_at w16 (within 1 32) version.1 >>= λ count. volumes_at version.0 count.0 [] count.1 >>= λ volumes. many_at volumes.0 volumes.1 >>= λ many. Ok ((version.0, volumes.0, many.0), many.1)) steady_version
+    (λ version. steady_then (number_at w16 (within 1 32)) (λ count. volumes_at version count.0 [] count.1 >>= λ volumes. many_at volumes.0 volumes.1 >>= λ many. Ok ((version, volumes.0, many.0), many.1)) (steady_number w16 (within 1 32))
+    (λ count. steady_then (volumes_at version count []) (λ volumes. many_at volumes.0 volumes.1 >>= λ many. Ok ((version, volumes.0, many.0), many.1)) (steady_volumes version count [])
+    (λ volumes. steady_then (many_at volumes) (λ many. Ok ((version, volumes, many.0), many.1)) (steady_number w32 (λ n. nat_le n (sum_by tracks_of volumes))) (λ many. steady_done (version, volumes, many)))))
 
 pub forward_head : IsForward header_front_at
 unfolding header_front_at
 forward_head =
-    forward_then (version_at 1) (λ version. number_at w16 (within 1 32) version.1 >>= λ count. volumes_at 1 count.0 [] count.1 >>= λ volumes. many_at volumes.0 volumes.1 >>= λ many. Ok ((volumes.0, many.0), many.1)) (forward_version 1)
-    (λ version. forward_then (number_at w16 (within 1 32)) (λ count. volumes_at 1 count.0 [] count.1 >>= λ volumes. many_at volumes.0 volumes.1 >>= λ many. Ok ((volumes.0, many.0), many.1)) (forward_number w16 (within 1 32))
-    (λ count. forward_then (volumes_at 1 count []) (λ volumes. many_at volumes.0 volumes.1 >>= λ many. Ok ((volumes.0, many.0), many.1)) (forward_volumes 1 count [])
-    (λ volumes. forward_then (many_at volumes) (λ many. Ok ((volumes, many.0), many.1)) (forward_number w32 (λ n. nat_le n (sum_by tracks_of volumes))) (λ many. forward_done (volumes, many)))))
+    forward_then version_at (λ version. number_at w16 (within 1 32) version.1 >>= λ count. volumes_at version.0 count.0 [] count.1 >>= λ volumes. many_at volumes.0 volumes.1 >>= λ many. Ok ((version.0, volumes.0, many.0), many.1)) forward_version
+    (λ version. forward_then (number_at w16 (within 1 32)) (λ count. volumes_at version count.0 [] count.1 >>= λ volumes. many_at volumes.0 volumes.1 >>= λ many. Ok ((version, volumes.0, many.0), many.1)) (forward_number w16 (within 1 32))
+    (λ count. forward_then (volumes_at version count []) (λ volumes. many_at volumes.0 volumes.1 >>= λ many. Ok ((version, volumes.0, many.0), many.1)) (forward_volumes version count [])
+    (λ volumes. forward_then (many_at volumes) (λ many. Ok ((version, volumes, many.0), many.1)) (forward_number w32 (λ n. nat_le n (sum_by tracks_of volumes))) (λ many. forward_done (version, volumes, many)))))

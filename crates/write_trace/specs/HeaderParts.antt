@@ -11,11 +11,11 @@ abbrev pub seen_after : List (List ℕ) → List VolumeHead → List (List ℕ)
 seen_after seen [] = seen
 seen_after seen (v ∷ volumes) = seen_after (v.serial ∷ seen) volumes
 
--- the head of a header of version 1: the mark, the volumes, and the number of base tracks
-unfoldable pub header_front_at : Left → Result ((List VolumeHead × ℕ) × Left) Bad
+-- the head of a header: the version by its mark, the volumes, and the number of base tracks
+unfoldable pub header_front_at : Left → Result ((ℕ × List VolumeHead × ℕ) × Left) Bad
 header_front_at left = do
-  version ← version_at 1 left
+  version ← version_at left
   count ← number_at w16 (within 1 MOST_CONTROL_VOLUMES) version.1
-  volumes ← volumes_at 1 count.0 [] count.1
+  volumes ← volumes_at version.0 count.0 [] count.1
   many ← number_at w32 (λ n. nat_le n (sum_by tracks_of volumes.0)) volumes.1
-  Ok ((volumes.0, many.0), many.1)
+  Ok ((version.0, volumes.0, many.0), many.1)

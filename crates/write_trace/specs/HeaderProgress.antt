@@ -24,7 +24,7 @@ pub record ReachesHeader (now : Option (List ℕ)) (remains : HeaderRest) (held 
   pub given : List ℕ
   pub all : bytes ≡ given ++ left
   pub long : length given ≡ held.place + length held.bytes
-  pub reads : (more : List ℕ) → header_at 1 (seen 0 (given ++ more)) ≡ remains (seen held.place (held.bytes ++ more))
+  pub reads : (more : List ℕ) → header_at (seen 0 (given ++ more)) ≡ remains (seen held.place (held.bytes ++ more))
 
 -- the same where the source told its bytes at the start
 abbrev pub Reached : (start now : Option (List ℕ)) → HeaderRest → Left → Type 0

@@ -1,10 +1,10 @@
 -- The header of a trace: its volumes and base tracks, their one spelling, and reading it with the first bad field. The version
 -- of the format is a parameter: in version 1 a cylinder and a number of cylinders have two bytes, in version 2 four.
 use Rattle.std.specs.Prelude.{ℕ, zero, suc, ◌+◌, ◌-◌, ◌*◌, ◌/◌, ◌%◌, ◌==◌, ◌&&◌, ◌||◌, not, List, [], ◌∷◌, ◌++◌, length, sum_by, Bool, true, Result, Ok, Err, nat_lt, nat_le, if◌then◌else◌, slice_index, codes, bytes_eq}
-use Rattle.xrc_edge.specs.declared.limits.TheConstants.{MOST_CYLINDERS, MOST_CONTROL_VOLUMES, TRACKS_OF_CYLINDER}
+use Rattle.xrc_edge.specs.declared.limits.TheConstants.{MOST_CONTROL_VOLUMES, MOST_CYLINDERS, MOST_NARROW_CYLINDERS, TRACKS_OF_CYLINDER}
 use Rattle.std.specs.List.{flat_map, list_any}
-use Rattle.std.specs.Int.{Width, w16, w32, to_be_bytes}
-use Rattle.tod_stamp.specs.Fields.{◌>>=◌, Left, Bad, bytes_at, number_at, within}
+use Rattle.std.specs.Int.{Width, w16, w32, byte_len, to_be_bytes}
+use Rattle.tod_stamp.specs.Fields.{◌>>=◌, Left, Bad, bytes_at, number_at, is_version, within}
 use Rattle.tod_stamp.specs.Fields.Bad.{Cut, Broken}
 use Rattle.tod_stamp.specs.Names.{is_serial, serial_field, is_field, before_spaces}
 use Rattle.ckd_track.specs.declared.rec.Rec.{Rec}
@@ -25,7 +25,7 @@ abbrev pub cylinder_width : (version : ℕ) → Width
 cylinder_width version = if version == 1 then w16 else w32
 
 abbrev pub most_cylinders : (version : ℕ) → ℕ
-most_cylinders version = if version == 1 then MOST_CYLINDERS else 1000000
+most_cylinders version = if version == 1 then MOST_NARROW_CYLINDERS else MOST_CYLINDERS
 
 -- `XTR1` and `XTR2`
 abbrev pub trace_mark : (version : ℕ) → List ℕ
@@ -64,9 +64,13 @@ header_spelling h = trace_mark h.version
     ++ to_be_bytes w16 (length h.volumes) ++ flat_map (volume_spelling h.version) h.volumes
     ++ to_be_bytes w32 (length h.base) ++ flat_map (base_spelling h.version) h.base
 
+-- the bytes of a volume in a header: those of its serial, and of its cylinders
+abbrev pub volume_length : (version : ℕ) → ℕ
+volume_length version = 6 + byte_len (cylinder_width version)
+
 -- Where the serial of the volume of that number stands in a header: after the mark, the number of volumes, and the volumes before.
-abbrev pub serial_place : (volume : ℕ) → ℕ
-serial_place volume = 6 + volume * 8
+abbrev pub serial_place : (version volume : ℕ) → ℕ
+serial_place version volume = 6 + volume * volume_length version
 
 -- ---- the rules of a header
 
@@ -85,19 +89,19 @@ abbrev pub are_bases : List VolumeHead → (low : ℕ × ℕ) → List Base → 
 are_bases volumes low [] = true
 are_bases volumes low (b ∷ base) = is_track_of volumes b.0 b.1 && is_from low (b.0, b.1) && is_track b.2 && are_bases volumes (b.0, b.1 + 1) base
 
--- A header of this version has 1 to the most volumes and base tracks of theirs.
-abbrev pub is_header_of : (version : ℕ) → Header → Bool
-is_header_of version h = h.version == version && within 1 MOST_CONTROL_VOLUMES (length h.volumes) && are_volumes version [] h.volumes && are_bases h.volumes (0, 0) h.base
+-- A header of either version has 1 to the most volumes and base tracks of theirs.
+abbrev pub is_header : Header → Bool
+is_header h = is_version h.version && within 1 MOST_CONTROL_VOLUMES (length h.volumes) && are_volumes h.version [] h.volumes && are_bases h.volumes (0, 0) h.base
 
 -- ---- reading it, with the first bad field
 
--- the mark of a version up to the newest that is read
-abbrev pub is_trace_mark : (newest : ℕ) → List ℕ → Bool
-is_trace_mark newest bytes = bytes_eq bytes (trace_mark 1) || (nat_le 2 newest && bytes_eq bytes (trace_mark 2))
+-- the mark of a version
+abbrev pub is_trace_mark : List ℕ → Bool
+is_trace_mark bytes = bytes_eq bytes (trace_mark 1) || bytes_eq bytes (trace_mark 2)
 
-unfoldable pub version_at : (newest : ℕ) → Left → Result (ℕ × Left) Bad
-version_at newest left = do
-  m ← bytes_at 4 (is_trace_mark newest) left
+unfoldable pub version_at : Left → Result (ℕ × Left) Bad
+version_at left = do
+  m ← bytes_at 4 is_trace_mark left
   Ok (slice_index m.0 3 - 48, m.1)
 
 -- a field of a valid serial that isn't among those before
@@ -151,9 +155,9 @@ bases_at version volumes (suc count) low left = do
   Ok (first.0 ∷ others.0, others.1)
 
 -- the header that the bytes begin with
-unfoldable pub header_at : (newest : ℕ) → Left → Result (Header × Left) Bad
-header_at newest left = do
-  version ← version_at newest left
+unfoldable pub header_at : Left → Result (Header × Left) Bad
+header_at left = do
+  version ← version_at left
   count ← number_at w16 (within 1 MOST_CONTROL_VOLUMES) version.1
   volumes ← volumes_at version.0 count.0 [] count.1
   many ← number_at w32 (λ n. nat_le n (sum_by tracks_of volumes.0)) volumes.1

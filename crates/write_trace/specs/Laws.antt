@@ -8,25 +8,25 @@ use Rattle.write_trace.specs.declared.header.VolumeHead.{VolumeHead}
 use Rattle.write_trace.specs.declared.header.Header.{Header}
 use Rattle.write_trace.specs.declared.entry.Entry.{Entry}
 use Rattle.write_trace.specs.declared.trace.Trace.{Trace}
-use Rattle.write_trace.specs.Headers.{are_volumes, header_spelling, is_header_of, header_at, serial_place}
+use Rattle.write_trace.specs.Headers.{are_volumes, header_spelling, is_header, header_at, serial_place}
 use Rattle.write_trace.specs.Entries.{entry_spelling, is_entry, are_entries, entry_at}
 use Rattle.write_trace.specs.WholeTraces.{most_bytes, trace_of}
 
 -- What a header that keeps the rules spells is read again, whatever follows.
 abbrev pub HeadersReadBack : Type 0
-HeadersReadBack = (place : ℕ) (h : Header) (rest : List ℕ) → IsTrue (is_header_of 1 h) →
-    header_at 1 (record { place = place; bytes = header_spelling h ++ rest }) ≡ Ok (h, record { place = place + length (header_spelling h); bytes = rest })
+HeadersReadBack = (place : ℕ) (h : Header) (rest : List ℕ) → IsTrue (is_header h) →
+    header_at (record { place = place; bytes = header_spelling h ++ rest }) ≡ Ok (h, record { place = place + length (header_spelling h); bytes = rest })
 
 -- What is read as a header keeps the rules and was spelled so.
 abbrev pub HeadersAreSpelled : Type 0
 HeadersAreSpelled = (place : ℕ) (bytes : List ℕ) (h : Header) (left : Left) →
-    IsBytes bytes → header_at 1 (record { place = place; bytes = bytes }) ≡ Ok (h, left) →
-    IsTrue (is_header_of 1 h) × (bytes ≡ header_spelling h ++ left.bytes) × (left.place ≡ place + length (header_spelling h))
+    IsBytes bytes → header_at (record { place = place; bytes = bytes }) ≡ Ok (h, left) →
+    IsTrue (is_header h) × (bytes ≡ header_spelling h ++ left.bytes) × (left.place ≡ place + length (header_spelling h))
 
 -- The serial of each volume stands at its place in what a header spells.
 abbrev pub SerialsStandThere : Type 0
-SerialsStandThere = (h : Header) (volume : ℕ) (head : VolumeHead) → IsTrue (is_header_of 1 h) → slice_get h.volumes volume ≡ Some head →
-    take 6 (drop (serial_place volume) (header_spelling h)) ≡ serial_field head.serial
+SerialsStandThere = (h : Header) (volume : ℕ) (head : VolumeHead) → IsTrue (is_header h) → slice_get h.volumes volume ≡ Some head →
+    take 6 (drop (serial_place h.version volume) (header_spelling h)) ≡ serial_field head.serial
 
 -- What an entry that keeps the rules spells is read again, whatever follows.
 abbrev pub EntriesReadBack : Type 0
@@ -44,9 +44,9 @@ EntriesAreSpelled = (version place last : ℕ) (volumes : List VolumeHead) (byte
 -- of a trace.
 pub record BeginsWithEntries (given : List ℕ) (h : Header) (entries : List Entry) : Type 0 where
   pub rest : List ℕ
-  pub spelled : given ≡ header_spelling h ++ flat_map (entry_spelling 1) entries ++ rest
-  pub within : length (header_spelling h ++ flat_map (entry_spelling 1) entries) ≤ most_bytes
-  pub header : IsTrue (is_header_of 1 h)
+  pub spelled : given ≡ header_spelling h ++ flat_map (entry_spelling h.version) entries ++ rest
+  pub within : length (header_spelling h ++ flat_map (entry_spelling h.version) entries) ≤ most_bytes
+  pub header : IsTrue (is_header h)
   pub kept : IsTrue (are_entries h.volumes 0 entries)
 
 -- The bytes begin with them, and with no other header, and all entries that they begin with are the first of these.
@@ -56,8 +56,8 @@ AreLongest given h entries = BeginsWithEntries given h entries
 
 -- The entries of a trace are the longest row that its bytes begin with.
 abbrev pub EntriesAreLongest : Type 0
-EntriesAreLongest = (failed : Bool) (given : List ℕ) (t : Trace) → IsBytes given → trace_of 1 failed given ≡ Ok t → AreLongest given t.header t.entries
+EntriesAreLongest = (failed : Bool) (given : List ℕ) (t : Trace) → IsBytes given → trace_of failed given ≡ Ok t → AreLongest given t.header t.entries
 
 -- Bytes that begin with a header are a trace.
 abbrev pub TracesAreFound : Type 0
-TracesAreFound = (failed : Bool) (given : List ℕ) (h : Header) → BeginsWithEntries given h [] → (t : Trace) × (trace_of 1 failed given ≡ Ok t)
+TracesAreFound = (failed : Bool) (given : List ℕ) (h : Header) → BeginsWithEntries given h [] → (t : Trace) × (trace_of failed given ≡ Ok t)

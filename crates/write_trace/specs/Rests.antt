@@ -11,13 +11,13 @@ use Rattle.write_trace.specs.Answers.{ReaderState}
 
 -- the good entries of bytes that stand where a reader is, and what is left after them
 abbrev pub rest_of : ReaderState → List ℕ → List Entry × Left
-rest_of r bytes = let left = seen r.left.place bytes in entries_from (length left.bytes) 1 r.volumes r.last left
+rest_of r bytes = let left = seen r.left.place bytes in entries_from (length left.bytes) r.version r.volumes r.last left
 
 -- The good entries of these bytes, which stand where a reader is, and the end after them of a trace of which they are the last
 -- bytes that were given.
 pub record IsRest (failed : Bool) (r : ReaderState) (bytes : List ℕ) (entries : List Entry) (end : TraceEnd) : Type 0 where
   pub good : (rest_of r bytes).0 ≡ entries
-  pub ends : (given : List ℕ) → length given ≡ r.left.place + length bytes → end_of failed given 1 r.volumes (last_entry_stamp r.last entries) (rest_of r bytes).1 ≡ end
+  pub ends : (given : List ℕ) → length given ≡ r.left.place + length bytes → end_of failed given r.version r.volumes (last_entry_stamp r.last entries) (rest_of r bytes).1 ≡ end
 
 -- The rest of all bytes that are ahead.
 abbrev pub IsRestOfAll : (before : Option (List ℕ)) → ReaderState → List Entry → TraceEnd → Type 0

@@ -22,31 +22,32 @@ use Rattle.write_trace.specs.declared.stop.NoRead.TheVariants as stops
 -- ---- one look at the bytes held
 
 -- An entry was read from the front of some bytes, so many of them, and keeps the rules.
-pub record ReadOf (volumes : List VolumeHead) (last : ℕ) (left : Left) (e : Entry) (used : ℕ) : Type 0 where
+pub record ReadOf (version : ℕ) (volumes : List VolumeHead) (last : ℕ) (left : Left) (e : Entry) (used : ℕ) : Type 0 where
   pub there : used ≤ length left.bytes
   pub kept : IsTrue (is_entry volumes last e)
-  pub long : used ≡ length (entry_spelling 1 e)
-  pub spelled : left.bytes ≡ entry_spelling 1 e ++ drop used left.bytes
-  pub read : entry_at 1 volumes last left ≡ Ok (e, after used left)
+  pub long : used ≡ length (entry_spelling version e)
+  pub spelled : left.bytes ≡ entry_spelling version e ++ drop used left.bytes
+  pub read : entry_at version volumes last left ≡ Ok (e, after used left)
 
 -- An entry of the bytes held was taken, and those that follow it are held.
 pub record TakesEntry (old new : ReaderState) (e : Entry) : Type 0 where
+  pub version : new.version ≡ old.version
   pub volumes : new.volumes ≡ old.volumes
   pub last : new.last ≡ stamp_of e
   pub stopped : new.stopped ≡ old.stopped
   pub kept : IsTrue (is_entry old.volumes old.last e)
-  pub place : new.left.place ≡ old.left.place + length (entry_spelling 1 e)
+  pub place : new.left.place ≡ old.left.place + length (entry_spelling old.version e)
   pub within : new.left.place ≤ most_bytes
-  pub spelled : old.left.bytes ≡ entry_spelling 1 e ++ new.left.bytes
-  pub entry : entry_at 1 old.volumes old.last (seen old.left.place old.left.bytes) ≡ Ok (e, seen new.left.place new.left.bytes)
+  pub spelled : old.left.bytes ≡ entry_spelling old.version e ++ new.left.bytes
+  pub entry : entry_at old.version old.volumes old.last (seen old.left.place old.left.bytes) ≡ Ok (e, seen new.left.place new.left.bytes)
 
 -- The bytes held are cut within an entry.
 abbrev pub IsCut : ReaderState → Type 0
-IsCut r = (place : ℕ) × (entry_at 1 r.volumes r.last (seen r.left.place r.left.bytes) ≡ Err (Cut place))
+IsCut r = (place : ℕ) × (entry_at r.version r.volumes r.last (seen r.left.place r.left.bytes) ≡ Err (Cut place))
 
 -- A field of the bytes held breaks its rule.
 abbrev pub IsBroken : ReaderState → Type 0
-IsBroken r = (place : ℕ) × (entry_at 1 r.volumes r.last (seen r.left.place r.left.bytes) ≡ Err (Broken place))
+IsBroken r = (place : ℕ) × (entry_at r.version r.volumes r.last (seen r.left.place r.left.bytes) ≡ Err (Broken place))
 
 -- the answer that gives an entry
 abbrev pub next_of : Entry → Next
@@ -68,6 +69,7 @@ Tries old new (Err (stops.Broken place)) = (new ≡ old) × IsBroken old
 
 -- More bytes may be held, and nothing else has changed.
 pub record Waits (before now : Option (List ℕ)) (faults risen : ℕ) (old new : ReaderState) : Type 0 where
+  pub version : new.version ≡ old.version
   pub volumes : new.volumes ≡ old.volumes
   pub last : new.last ≡ old.last
   pub stopped : new.stopped ≡ old.stopped
@@ -84,4 +86,4 @@ EndsTrace before now faults risen old new ReadFault = FailsThere before now old 
 -- A piece came, which the window has room for; or the trace ends, and the reader has still to be stopped.
 abbrev pub Continues : (before now : Option (List ℕ)) → (faults risen : ℕ) → (old new : ReaderState) → Option TraceEnd → Type 0
 Continues before now faults risen old new None = Waits before now faults risen old new × (length old.left.bytes < length new.left.bytes) × (length new.left.bytes ≤ WINDOW_LENGTH)
-Continues before now faults risen old new (Some end) = (new.volumes ≡ old.volumes) × (new.last ≡ old.last) × EndsTrace before now faults risen old new end
+Continues before now faults risen old new (Some end) = (new.version ≡ old.version) × (new.volumes ≡ old.volumes) × (new.last ≡ old.last) × EndsTrace before now faults risen old new end

@@ -62,9 +62,9 @@ after_header failed given h read = record {
   end = end_of failed given h.version h.volumes (last_entry_stamp 0 read.0) read.1;
 }
 
--- The trace that was given, up to the newest version: its header and, by the longest row of good entries, its end.
-unfoldable pub trace_of : (newest : ℕ) → (failed : Bool) → List ℕ → Result Trace HeaderError
-trace_of newest failed given = elim (header_at newest (whole_trace given)) [
+-- The trace that was given: its header and, by the longest row of good entries, its end.
+unfoldable pub trace_of : (failed : Bool) → List ℕ → Result Trace HeaderError
+trace_of failed given = elim (header_at (whole_trace given)) [
   | Ok h ↦ Ok (after_header failed given h.0 (entries_from (length h.1.bytes) h.0.version h.0.volumes 0 h.1))
   | Err bad ↦ Err (bad_start failed given bad)
 ]

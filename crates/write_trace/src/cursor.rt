@@ -162,6 +162,37 @@ impl<'a> Cursor<'a> {
         Ok((number, rest))
     }
 
+    /// The next number of four bytes, below `limit`.
+    #[inline]
+    #[tactic(auto, unfolding(tod_stamp::specs::Fields::number_at, tod_stamp::specs::Fields::bytes_at))]
+    pub fn long_below(self, limit: u32) -> Result<(u32, Cursor<'a>), NoRead>
+        ensures reads { GivesField (λ x. (x.0, x.1)) result (number_at w32 (λ n. nat_lt n limit) self.entry) }
+        ensures below { IfOk result (λ x. x.0 < limit) }
+    {
+        let place = self.place;
+        let (field, rest) = self.front(4)?;
+        let number = BigEndian::read_u32(field);
+        if number >= limit {
+            return Err(NoRead::Broken(place));
+        }
+        Ok((number, rest))
+    }
+
+    /// The next number of four bytes, from `low` to `high`.
+    #[inline]
+    #[tactic(auto, unfolding(tod_stamp::specs::Fields::number_at, tod_stamp::specs::Fields::bytes_at))]
+    pub fn long_within(self, low: u32, high: u32) -> Result<(u32, Cursor<'a>), NoRead>
+        ensures { GivesField (λ x. (x.0, x.1)) result (number_at w32 (within low high) self.entry) }
+    {
+        let place = self.place;
+        let (field, rest) = self.front(4)?;
+        let number = BigEndian::read_u32(field);
+        if number < low || high < number {
+            return Err(NoRead::Broken(place));
+        }
+        Ok((number, rest))
+    }
+
     /// The next stamp, of at least 1 and not below the last.
     #[inline]
     #[tactic(auto, unfolding(tod_stamp::specs::Fields::number_at, tod_stamp::specs::Fields::bytes_at))]

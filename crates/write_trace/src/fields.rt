@@ -1,12 +1,11 @@
 //! Reading the fields of an entry one after another: each reader gives what the definition of its field gives.
 
-ghost use Rattle.std.specs.Prelude.{◌≡◌, ◌≢◌, ◌≤◌, ◌<◌, ◌+◌, ℕ, List, Result, Err, length, nat_lt, IfOk, IfErr};
-ghost use Rattle.xrc_edge.specs.declared.limits.TheConstants.{LONGEST_TRACE};
-ghost use Rattle.std.specs.Int.{w16};
+ghost use Rattle.std.specs.Prelude.{◌≡◌, ◌≢◌, ◌≤◌, ◌<◌, ◌+◌, ℕ, List, [], Result, Err, length, nat_lt, IfOk, IfErr, IsTrue};
+ghost use Rattle.xrc_edge.specs.declared.limits.TheConstants.{LONGEST_TRACE, MOST_CYLINDERS};
 ghost use Rattle.tod_stamp.specs.Fields.{Left, number_at};
 ghost use Rattle.ckd_track.specs.declared.rec.Rec as records;
 ghost use Rattle.ckd_track.specs.declared.fault.ImageError.{ImageError};
-ghost use Rattle.write_trace.specs.Headers.{place_at, cylinders_of, as_field, image_field};
+ghost use Rattle.write_trace.specs.Headers.{are_volumes, cylinder_width, place_at, cylinders_of, as_field, image_field};
 ghost use Rattle.write_trace.specs.Entries.{format_at, whole_at, kind_at, write_at, entry_at, records_field};
 ghost use Rattle.write_trace.specs.FieldReads.{GivesField, Fails};
 ghost use Rattle.write_trace.specs.Steps.{ReadOf};
@@ -58,33 +57,39 @@ fn cylinders_at(volumes: &[VolumeHead], volume: u16) -> u32
 
 /// A cylinder of the volume.
 fn cylinder_of<'a>(
+    version: u8,
     volumes: &[VolumeHead],
     volume: u16,
     cursor: Cursor<'a>,
-) -> Result<(u16, Cursor<'a>), NoRead>
-    requires { volume < length volumes.now }
-    ensures { GivesField (λ x. (x.0, x.1)) result (number_at w16 (λ n. nat_lt n (cylinders_of volumes.now volume)) cursor.entry) }
+) -> Result<(u32, Cursor<'a>), NoRead>
+    requires there { volume < length volumes.now }
+    requires rules { IsTrue (are_volumes version [] volumes.now) }
+    ensures reads { GivesField (λ x. (x.0, x.1)) result (number_at (cylinder_width version) (λ n. nat_lt n (cylinders_of volumes.now volume)) cursor.entry) }
+    ensures few { IfOk result (λ x. x.0 < MOST_CYLINDERS) }
 {
     let cylinders = cylinders_at(volumes, volume);
-    cursor.number_below(cylinders as usize)
+    if version == 1 {
+        let (cylinder, cursor) = cursor.number_below(cylinders as usize)?;
+        Ok((u32::from(cylinder), cursor))
+    } else {
+        cursor.long_below(cylinders)
+    }
 }
 
 /// A volume, and the number of a track of it.
 #[tactic(auto, unfolding(crate::specs::Headers::place_at))]
 pub fn place_of<'a>(
+    version: u8,
     volumes: &[VolumeHead],
     cursor: Cursor<'a>,
 ) -> Result<(u16, u32, Cursor<'a>), NoRead>
-    ensures { GivesField (λ x. ((x.0, x.1), x.2)) result (place_at 1 volumes.now cursor.entry) }
+    requires { IsTrue (are_volumes version [] volumes.now) }
+    ensures { GivesField (λ x. ((x.0, x.1), x.2)) result (place_at version volumes.now cursor.entry) }
 {
     let (volume, cursor) = cursor.number_below(volumes.len())?;
-    let (cylinder, cursor) = cylinder_of(volumes, volume, cursor)?;
+    let (cylinder, cursor) = cylinder_of(version, volumes, volume, cursor)?;
     let (head, cursor) = cursor.number_below(TRACKS_OF_CYLINDER as usize)?;
-    Ok((
-        volume,
-        TRACKS_OF_CYLINDER * cylinder as u32 + head as u32,
-        cursor,
-    ))
+    Ok((volume, TRACKS_OF_CYLINDER * cylinder + head as u32, cursor))
 }
 
 /// Why records are no field, at the field's place.
@@ -157,14 +162,16 @@ fn kind_of(alloc: Global, tag: u8, cursor: Cursor<'_>) -> Result<(Kind, Cursor<'
 #[tactic(auto, unfolding(crate::specs::Entries::write_at))]
 fn write_of<'a>(
     alloc: Global,
+    version: u8,
     volumes: &[VolumeHead],
     tag: u8,
     stamp: u64,
     cursor: Cursor<'a>,
 ) -> Result<(Entry, Cursor<'a>), NoRead>
-    ensures { GivesField (λ x. (x.0, x.1)) result (write_at 1 volumes.now tag stamp cursor.entry) }
+    requires { IsTrue (are_volumes version [] volumes.now) }
+    ensures { GivesField (λ x. (x.0, x.1)) result (write_at version volumes.now tag stamp cursor.entry) }
 {
-    let (volume, track, cursor) = place_of(volumes, cursor)?;
+    let (volume, track, cursor) = place_of(version, volumes, cursor)?;
     let (kind, cursor) = kind_of(alloc, tag, cursor)?;
     let write = Write {
         volume,
@@ -179,32 +186,36 @@ fn write_of<'a>(
 #[tactic(auto, unfolding(crate::specs::Entries::entry_at))]
 fn entry_of<'a>(
     alloc: Global,
+    version: u8,
     volumes: &[VolumeHead],
     last: u64,
     cursor: Cursor<'a>,
 ) -> Result<(Entry, Cursor<'a>), NoRead>
-    ensures { GivesField (λ x. (x.0, x.1)) result (entry_at 1 volumes.now last cursor.entry) }
+    requires { IsTrue (are_volumes version [] volumes.now) }
+    ensures { GivesField (λ x. (x.0, x.1)) result (entry_at version volumes.now last cursor.entry) }
 {
     let (tag, cursor) = cursor.byte(IDLE, WHOLE)?;
     let (stamp, cursor) = cursor.stamp(last)?;
     if tag == IDLE {
         return Ok((Entry::Idle(Stamp(stamp)), cursor));
     }
-    write_of(alloc, volumes, tag, stamp, cursor)
+    write_of(alloc, version, volumes, tag, stamp, cursor)
 }
 
 /// The entry that the bytes begin with, and how many of them it takes. The first byte stands at a place of a trace.
 pub fn entry_in(
     alloc: Global,
+    version: u8,
     volumes: &[VolumeHead],
     last: u64,
     place: u64,
     bytes: &[u8],
 ) -> Result<(Entry, usize), NoRead>
-    requires { place + length bytes.now ≤ LONGEST_TRACE }
-    ensures ok { IfOk result (λ x. ReadOf volumes.now last (record { place = place; bytes = bytes.now }) x.0 x.1) }
-    ensures err { IfErr result (λ stop. Fails stop (entry_at 1 volumes.now last (record { place = place; bytes = bytes.now }))) }
+    requires place { place + length bytes.now ≤ LONGEST_TRACE }
+    requires rules { IsTrue (are_volumes version [] volumes.now) }
+    ensures ok { IfOk result (λ x. ReadOf version volumes.now last (record { place = place; bytes = bytes.now }) x.0 x.1) }
+    ensures err { IfErr result (λ stop. Fails stop (entry_at version volumes.now last (record { place = place; bytes = bytes.now }))) }
 {
-    let (entry, rest) = entry_of(alloc, volumes, last, Cursor::new(place, bytes))?;
+    let (entry, rest) = entry_of(alloc, version, volumes, last, Cursor::new(place, bytes))?;
     Ok((entry, (rest.place() - place) as usize))
 }

@@ -5,12 +5,14 @@ ghost use Rattle.tod_stamp.specs.Names.{is_serial};
 ghost use Rattle.tod_stamp.specs.Fields.{within};
 ghost use Rattle.ckd_track.specs.Tracks.{is_track};
 ghost use Rattle.xrc_edge.specs.declared.limits.TheConstants.{MOST_CONTROL_VOLUMES};
-ghost use Rattle.write_trace.specs.Headers.{are_volumes, are_bases, cylinders_of, is_track_of, is_from, serial_place};
+ghost use Rattle.write_trace.specs.Headers.{are_volumes, are_bases, cylinders_of, is_track_of, is_from, most_cylinders, serial_place, volume_length};
 ghost use Rattle.write_trace.specs.SeenSerials.{serials_of, is_named_before};
 
 use ckd_track::Track;
 use tod_stamp::Serial;
-use xrc_edge::{List, MOST_CONTROL_VOLUMES, MOST_CYLINDERS, TRACKS_OF_CYLINDER};
+use xrc_edge::{
+    List, MOST_CONTROL_VOLUMES, MOST_CYLINDERS, MOST_NARROW_CYLINDERS, TRACKS_OF_CYLINDER,
+};
 
 /// A volume of a trace: its serial and its number of cylinders, which have `TRACKS_OF_CYLINDER` tracks each.
 #[derive(Clone, Copy, Debug)]
@@ -28,7 +30,7 @@ pub type BaseTrack = (u16, u32, Track);
 /// Base tracks, in order of volume and track. A track that is not listed is empty.
 pub type BaseList = List<BaseTrack>;
 
-/// The header of a trace. The version is 1.
+/// The header of a trace. The version is 1 or 2.
 #[derive(Debug, Drop)]
 pub struct Header {
     pub version: u8,
@@ -37,17 +39,17 @@ pub struct Header {
 }
 
 impl Header {
-    ghost use Rattle.write_trace.specs.Headers.{is_header_of};
+    ghost use Rattle.write_trace.specs.Headers.{is_header};
 
-    /// Whether this is a header of version 1: 1 to `MOST_CONTROL_VOLUMES` volumes, each with a serial that no other has and 1 to
-    /// `MOST_CYLINDERS` cylinders, and base tracks that rise by volume and track, each a track of one of these volumes.
+    /// Whether this is a header of its version: 1 to `MOST_CONTROL_VOLUMES` volumes, each with a serial that no other has and 1 to
+    /// as many cylinders as the version allows, and base tracks that rise by volume and track, each a track of one of these volumes.
     pub fn keeps_rules(&self) -> bool
-        ensures { IsTrue result ↔ IsTrue (is_header_of 1 self.now) }
+        ensures { IsTrue result ↔ IsTrue (is_header self.now) }
     {
         let volumes = self.volumes.as_slice();
-        self.version == 1
+        (1..=2).contains(&self.version)
             && (1..=MOST_CONTROL_VOLUMES as usize).contains(&volumes.len())
-            && are_volumes(volumes)
+            && are_volumes(self.version, volumes)
             && are_bases(volumes, self.base.as_slice())
     }
 }
@@ -55,15 +57,30 @@ impl Header {
 /// The bytes of a header before its volumes: the mark, and the number of volumes.
 const BEFORE_VOLUMES: u64 = 6;
 
-/// The bytes of a volume in a header: those of its serial, and of its cylinders.
-const VOLUME_LENGTH: u64 = 8;
+/// The bytes of a volume in a header of version 1: those of its serial, and of its cylinders.
+const NARROW_VOLUME_LENGTH: u64 = 8;
 
-/// The place in a header of the serial of the volume of that number.
-pub fn serial_place(volume: usize) -> u64
-    requires { volume < MOST_CONTROL_VOLUMES }
-    ensures { result ≡ serial_place volume }
+/// The same in version 2.
+const VOLUME_LENGTH: u64 = 10;
+
+/// The bytes of a volume in a header of a version.
+fn volume_length(version: u8) -> u64
+    ensures length { result ≡ volume_length version }
+    ensures few { result ≤ VOLUME_LENGTH }
 {
-    BEFORE_VOLUMES + volume as u64 * VOLUME_LENGTH
+    if version == 1 {
+        NARROW_VOLUME_LENGTH
+    } else {
+        VOLUME_LENGTH
+    }
+}
+
+/// The place in a header of a version of the serial of the volume of that number.
+pub fn serial_place(version: u8, volume: usize) -> u64
+    requires { volume < MOST_CONTROL_VOLUMES }
+    ensures { result ≡ serial_place version volume }
+{
+    BEFORE_VOLUMES + volume as u64 * volume_length(version)
 }
 
 /// Whether one of the volumes has the serial of these bytes.
@@ -79,21 +96,32 @@ fn has_serial(volumes: &[VolumeHead], serial: &[u8]) -> bool
     found
 }
 
-/// Whether a volume with a serial has 1 to `MOST_CYLINDERS` cylinders.
-fn is_volume(volume: &VolumeHead) -> bool
-    requires { IsTrue (is_serial volume.now.serial) }
-    ensures { result ≡ (is_serial volume.now.serial && within 1 MOST_CYLINDERS volume.now.cylinders) }
+/// The most cylinders of a volume in a version.
+pub fn most_cylinders(version: u8) -> u32
+    ensures { result ≡ most_cylinders version }
 {
-    (1..=MOST_CYLINDERS as u32).contains(&volume.cylinders)
+    if version == 1 {
+        u32::from(MOST_NARROW_CYLINDERS)
+    } else {
+        MOST_CYLINDERS
+    }
 }
 
-/// Whether each volume has a serial that no other has, and 1 to `MOST_CYLINDERS` cylinders.
-fn are_volumes(volumes: &[VolumeHead]) -> bool
-    ensures { result ≡ are_volumes 1 [] volumes.now }
+/// Whether a volume with a serial has 1 to the most cylinders.
+fn is_volume(version: u8, volume: &VolumeHead) -> bool
+    requires { IsTrue (is_serial volume.now.serial) }
+    ensures { result ≡ (is_serial volume.now.serial && within 1 (most_cylinders version) volume.now.cylinders) }
+{
+    (1..=most_cylinders(version)).contains(&volume.cylinders)
+}
+
+/// Whether each volume has a serial that no other has, and 1 to the most cylinders.
+fn are_volumes(version: u8, volumes: &[VolumeHead]) -> bool
+    ensures { result ≡ are_volumes version [] volumes.now }
 {
     for (place, volume) in volumes.iter().enumerate() {
         let serial = volume.serial.as_bytes();
-        if has_serial(&volumes[..place], serial) || !is_volume(volume) {
+        if has_serial(&volumes[..place], serial) || !is_volume(version, volume) {
             return false;
         }
     }

@@ -22,6 +22,7 @@ use xrc_edge::{NoMemory, Source};
 #[derive(Drop)]
 pub struct TraceReader {
     window: Window,
+    version: u8,
     volumes: VolumeList,
     last: Stamp,
     stopped: Option<Stopped>,
@@ -35,9 +36,9 @@ impl Model for TraceReader {
 
     ghost Value = { ReaderState };
 
-    ghost view = { λ r. record { volumes = r.volumes; last = r.last.0; left = r.window; stopped = r.stopped } };
+    ghost view = { λ r. record { version = r.version; volumes = r.volumes; last = r.last.0; left = r.window; stopped = r.stopped } };
 
-    ghost invariant = { λ r. (length r.volumes ≤ MOST_CONTROL_VOLUMES) × IsTrue (are_volumes 1 [] r.volumes) };
+    ghost invariant = { λ r. (length r.volumes ≤ MOST_CONTROL_VOLUMES) × IsTrue (are_volumes r.version [] r.volumes) };
 }
 
 impl Stopped {
@@ -70,13 +71,14 @@ impl TraceReader {
     ghost use Rattle.write_trace.specs.Steps.{answer_from, IsCut, Tries, Continues};
 
     /// A reader of the entries that follow a header of these volumes, which ends where the window begins.
-    pub(crate) fn after_header(window: Window, volumes: VolumeList) -> TraceReader
+    pub(crate) fn after_header(window: Window, version: u8, volumes: VolumeList) -> TraceReader
         requires number { length volumes ≤ MOST_CONTROL_VOLUMES }
-        requires rules { IsTrue (are_volumes 1 [] volumes) }
-        ensures { result ≡ record { volumes = volumes; last = 0; left = window; stopped = None } }
+        requires rules { IsTrue (are_volumes version [] volumes) }
+        ensures { result ≡ record { version = version; volumes = volumes; last = 0; left = window; stopped = None } }
     {
         TraceReader {
             window,
+            version,
             volumes,
             last: Stamp(0),
             stopped: None,
@@ -105,7 +107,7 @@ impl TraceReader {
         ensures again { (why : Stopped) → self.old.stopped ≡ Some why → (result ≡ Err why) × (self.new ≡ self.old) }
         ensures unasked { (why : Stopped) → self.old.stopped ≡ Some why → source.new ≡ source.old }
         ensures number { length self.old.volumes ≤ MOST_CONTROL_VOLUMES }
-        ensures rules { IsTrue (are_volumes 1 [] self.old.volumes) }
+        ensures rules { IsTrue (are_volumes self.old.version [] self.old.volumes) }
     {
         match self.stopped {
             Some(why) => Err(why),
@@ -162,7 +164,7 @@ impl TraceReader {
         let place = self.window.place();
         let volumes = self.volumes.as_slice();
         let visible = self.window.visible();
-        let (entry, used) = entry_in(alloc, volumes, self.last.0, place, visible)?;
+        let (entry, used) = entry_in(alloc, self.version, volumes, self.last.0, place, visible)?;
         self.window.skip(used);
         self.last = stamp(&entry);
         Ok(entry)
@@ -188,7 +190,7 @@ impl TraceReader {
     /// Reads no further.
     pub(crate) fn stop(&mut self, why: Stopped) -> Stopped
         ensures same { result ≡ why }
-        ensures stopped { self.new ≡ record { volumes = self.old.volumes; last = self.old.last; left = self.old.left; stopped = Some why } }
+        ensures stopped { self.new ≡ record { version = self.old.version; volumes = self.old.volumes; last = self.old.last; left = self.old.left; stopped = Some why } }
     {
         self.stopped = Some(why);
         why

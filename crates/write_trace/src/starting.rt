@@ -2,6 +2,7 @@
 
 ghost use Rattle.std.specs.Prelude.{◌≡◌, ◌≤◌, ◌<◌, ◌+◌, [], length, IfOk, IfErr, IsTrue};
 ghost use Rattle.xrc_edge.specs.declared.limits.TheConstants.{LONGEST_TRACE, MOST_CONTROL_VOLUMES};
+ghost use Rattle.tod_stamp.specs.Fields.{is_version};
 ghost use Rattle.write_trace.specs.Headers.{is_track_of, is_from, are_volumes, are_bases, base_at, bases_at};
 ghost use Rattle.ckd_track.specs.Tracks.{IsTrack};
 ghost use Rattle.write_trace.specs.Starts.{Starts};
@@ -33,15 +34,16 @@ fn gather<S: Source>(window: &mut Window, source: &mut S, place: u64) -> Result<
     }
 }
 
-/// Reads the head of a header: its volumes, and the number of its base tracks.
+/// Reads the head of a header: its version, its volumes, and the number of its base tracks.
 fn head<S: Source>(
     alloc: Global,
     window: &mut Window,
     source: &mut S,
-) -> Result<(VolumeList, u32), HeaderError>
+) -> Result<(u8, VolumeList, u32), HeaderError>
     ensures reads { ReadsPart header_front_at (S.left source.old) (S.left source.new) (S.faults source.old) (S.faults source.new) window.old window.new result }
-    ensures rules { IfOk result (λ head. IsTrue (are_volumes 1 [] head.0)) }
-    ensures many { IfOk result (λ head. (1 ≤ length head.0) × (length head.0 ≤ MOST_CONTROL_VOLUMES)) }
+    ensures version { IfOk result (λ head. IsTrue (is_version head.0)) }
+    ensures rules { IfOk result (λ head. IsTrue (are_volumes head.0 [] head.1)) }
+    ensures many { IfOk result (λ head. (1 ≤ length head.1) × (length head.1 ≤ MOST_CONTROL_VOLUMES)) }
 {
     loop {
         match head_in(alloc, window.place(), window.visible()) {
@@ -59,18 +61,27 @@ fn head<S: Source>(
 /// Reads a base track that stands from the place `low` on.
 fn base<S: Source>(
     alloc: Global,
+    version: u8,
     volumes: &[VolumeHead],
     low: (u16, u32),
     window: &mut Window,
     source: &mut S,
 ) -> Result<BaseTrack, HeaderError>
-    ensures reads { ReadsPart (base_at 1 volumes.now low) (S.left source.old) (S.left source.new) (S.faults source.old) (S.faults source.new) window.old window.new result }
+    requires { IsTrue (are_volumes version [] volumes.now) }
+    ensures reads { ReadsPart (base_at version volumes.now low) (S.left source.old) (S.left source.new) (S.faults source.old) (S.faults source.new) window.old window.new result }
     ensures there { IfOk result (λ base. IsTrue (is_track_of volumes.now base.0 base.1)) }
     ensures from { IfOk result (λ base. IsTrue (is_from low (base.0, base.1))) }
     ensures track { IfOk result (λ base. IsTrack base.2) }
 {
     loop {
-        match base_in(alloc, volumes, low, window.place(), window.visible()) {
+        match base_in(
+            alloc,
+            version,
+            volumes,
+            low,
+            window.place(),
+            window.visible(),
+        ) {
             Ok((base, used)) => {
                 window.skip(used);
                 return Ok(base);
@@ -85,19 +96,20 @@ fn base<S: Source>(
 /// Reads that many base tracks, which rise by volume and track.
 fn bases<S: Source>(
     alloc: Global,
+    version: u8,
     volumes: &[VolumeHead],
     many: u32,
     window: &mut Window,
     source: &mut S,
 ) -> Result<BaseList, HeaderError>
-    requires { IsTrue (are_volumes 1 [] volumes.now) }
-    ensures reads { ReadsPart (bases_at 1 volumes.now many (0, 0)) (S.left source.old) (S.left source.new) (S.faults source.old) (S.faults source.new) window.old window.new result }
+    requires { IsTrue (are_volumes version [] volumes.now) }
+    ensures reads { ReadsPart (bases_at version volumes.now many (0, 0)) (S.left source.old) (S.left source.new) (S.faults source.old) (S.faults source.new) window.old window.new result }
     ensures rules { IfOk result (λ base. IsTrue (are_bases volumes.now (0, 0) base)) }
 {
     let mut found = BaseList::make(alloc);
     let mut low = (0, 0);
     for _ in 0..many {
-        let one = base(alloc, volumes, low, window, source)?;
+        let one = base(alloc, version, volumes, low, window, source)?;
         low = (one.0, one.1 + 1);
         let Ok(()) = found.push(alloc, one) else {
             return Err(HeaderError::NoMemory);
@@ -126,11 +138,18 @@ pub fn start<S: Source>(alloc: Global, source: &mut S) -> Result<(Header, TraceR
     let Ok(mut window) = Window::make(alloc) else {
         return Err(HeaderError::NoMemory);
     };
-    let (volumes, many) = head(alloc, &mut window, source)?;
-    let base = bases(alloc, volumes.as_slice(), many, &mut window, source)?;
-    let reader = TraceReader::after_header(window, copied(alloc, volumes.as_slice())?);
+    let (version, volumes, many) = head(alloc, &mut window, source)?;
+    let base = bases(
+        alloc,
+        version,
+        volumes.as_slice(),
+        many,
+        &mut window,
+        source,
+    )?;
+    let reader = TraceReader::after_header(window, version, copied(alloc, volumes.as_slice())?);
     let header = Header {
-        version: 1,
+        version,
         volumes,
         base,
     };

@@ -1,4 +1,4 @@
-//! Writing traces of version 1.
+//! Writing traces.
 
 ghost use Rattle.std.specs.Prelude.{◌≡◌, ◌≤◌, ◌<◌, ◌^◌, ◌*◌, ◌++◌, ◌∷◌, [], length, take, OnOk, OnErr, IsTrue};
 ghost use Rattle.std.specs.Int.{w16, w32, w64, to_be_bytes};
@@ -7,17 +7,18 @@ ghost use Rattle.ckd_track.specs.Effects.{keeps_rules};
 ghost use Rattle.ckd_track.specs.Entries.{tag_of};
 ghost use Rattle.write_trace.specs.declared.entry.Entry.TheVariants.{Written, Idle as idle_entry};
 ghost use Rattle.write_trace.specs.Entries.{entry_spelling};
-ghost use Rattle.write_trace.specs.Headers.{trace_mark, most_cylinders, place_spelling, volume_spelling, base_spelling, header_spelling, is_header_of};
+ghost use Rattle.tod_stamp.specs.Fields.{is_version};
+ghost use Rattle.write_trace.specs.Headers.{trace_mark, most_cylinders, place_spelling, volume_spelling, base_spelling, header_spelling, is_header};
 
 use crate::header::{BaseTrack, Header, VolumeHead};
 use byteorder::{BigEndian, ByteOrder};
-use ckd_track::{BEFORE_IMAGE, Write};
+use ckd_track::Write;
 use std::alloc::Global;
 use tod_stamp::Stamp;
 use xrc_edge::{Bytes, NoMemory, TRACKS_OF_CYLINDER};
 
-/// The volume, cylinder and head of a track.
-fn place_bytes(volume: u16, track: u32) -> [u8; 6]
+/// The volume, cylinder and head of a track, in version 1.
+fn narrow_place(volume: u16, track: u32) -> [u8; 6]
     requires { track < TRACKS_OF_CYLINDER * most_cylinders 1 }
     ensures { result ≡ place_spelling 1 volume track }
 {
@@ -28,7 +29,39 @@ fn place_bytes(volume: u16, track: u32) -> [u8; 6]
     bytes
 }
 
-fn volume_bytes(volume: &VolumeHead) -> [u8; 8]
+/// The same in version 2.
+fn wide_place(volume: u16, track: u32) -> [u8; 8]
+    ensures { result ≡ place_spelling 2 volume track }
+{
+    let mut bytes = [0; 8];
+    BigEndian::write_u16(&mut bytes, volume);
+    BigEndian::write_u32(&mut bytes[2..], track / TRACKS_OF_CYLINDER);
+    BigEndian::write_u16(&mut bytes[6..], (track % TRACKS_OF_CYLINDER) as u16);
+    bytes
+}
+
+/// Puts a track's place after other bytes.
+fn append_place(
+    alloc: Global,
+    out: &mut Bytes,
+    version: u8,
+    volume: u16,
+    track: u32,
+) -> Result<(), NoMemory>
+    requires version { IsTrue (is_version version) }
+    requires track { track < TRACKS_OF_CYLINDER * most_cylinders version }
+    ensures ok { OnOk result (out.new ≡ out.old ++ place_spelling version volume track) }
+    ensures kept { take (length out.old) out.new ≡ out.old }
+{
+    if version == 1 {
+        out.extend_from_slice(alloc, &narrow_place(volume, track))
+    } else {
+        out.extend_from_slice(alloc, &wide_place(volume, track))
+    }
+}
+
+/// A volume in version 1.
+fn narrow_volume(volume: &VolumeHead) -> [u8; 8]
     requires { volume.now.cylinders < 2 ^ 16 }
     ensures { result ≡ volume_spelling 1 volume.now }
 {
@@ -38,15 +71,42 @@ fn volume_bytes(volume: &VolumeHead) -> [u8; 8]
     bytes
 }
 
-/// The part of an entry before the fields of its kind.
-fn entry_head(write: &Write) -> [u8; BEFORE_IMAGE]
-    requires { write.now.track < TRACKS_OF_CYLINDER * most_cylinders 1 }
-    ensures { result ≡ tag_of write.now.kind ∷ [] ++ to_be_bytes w64 write.now.stamp.0 ++ place_spelling 1 write.now.volume write.now.track }
+/// A volume in version 2.
+fn wide_volume(volume: &VolumeHead) -> [u8; 10]
+    ensures { result ≡ volume_spelling 2 volume.now }
 {
-    let mut head = [0; BEFORE_IMAGE];
+    let mut bytes = [0; 10];
+    BigEndian::write_u32(&mut bytes[6..], volume.cylinders);
+    bytes[..6].copy_from_slice(&volume.serial.field());
+    bytes
+}
+
+/// Puts a volume after other bytes.
+fn append_volume(
+    alloc: Global,
+    out: &mut Bytes,
+    version: u8,
+    volume: &VolumeHead,
+) -> Result<(), NoMemory>
+    requires version { IsTrue (is_version version) }
+    requires few { volume.now.cylinders ≤ most_cylinders version }
+    ensures ok { OnOk result (out.new ≡ out.old ++ volume_spelling version volume.now) }
+    ensures kept { take (length out.old) out.new ≡ out.old }
+{
+    if version == 1 {
+        out.extend_from_slice(alloc, &narrow_volume(volume))
+    } else {
+        out.extend_from_slice(alloc, &wide_volume(volume))
+    }
+}
+
+/// The tag of an entry, and its stamp.
+fn entry_head(write: &Write) -> [u8; 9]
+    ensures { result ≡ tag_of write.now.kind ∷ [] ++ to_be_bytes w64 write.now.stamp.0 }
+{
+    let mut head = [0; 9];
     head[0] = write.kind.tag();
     BigEndian::write_u64(&mut head[1..], write.stamp.0);
-    head[9..].copy_from_slice(&place_bytes(write.volume, write.track));
     head
 }
 
@@ -58,72 +118,94 @@ fn idle_bytes(stamp: Stamp) -> [u8; 9]
     bytes
 }
 
-fn append_entry(alloc: Global, out: &mut Bytes, write: &Write) -> Result<(), NoMemory>
-    requires track { write.now.track < TRACKS_OF_CYLINDER * most_cylinders 1 }
+fn append_entry(alloc: Global, out: &mut Bytes, version: u8, write: &Write) -> Result<(), NoMemory>
+    requires version { IsTrue (is_version version) }
+    requires track { write.now.track < TRACKS_OF_CYLINDER * most_cylinders version }
     requires rules { IsTrue (keeps_rules write.now.kind) }
-    ensures ok { OnOk result (out.new ≡ out.old ++ entry_spelling 1 (Written write.now)) }
+    ensures ok { OnOk result (out.new ≡ out.old ++ entry_spelling version (Written write.now)) }
     ensures kept { take (length out.old) out.new ≡ out.old }
 {
     out.extend_from_slice(alloc, &entry_head(write))?;
+    append_place(alloc, out, version, write.volume, write.track)?;
     write.kind.encode_fields(alloc, out)
 }
 
 /// Puts volumes after other bytes. Want of memory may leave a part of them there.
-fn append_volumes(alloc: Global, out: &mut Bytes, volumes: &[VolumeHead]) -> Result<(), NoMemory>
-    requires narrow { All (λ v. v.cylinders ≤ most_cylinders 1) volumes.now }
-    ensures ok { OnOk result (out.new ≡ out.old ++ flat_map (volume_spelling 1) volumes.now) }
+fn append_volumes(
+    alloc: Global,
+    out: &mut Bytes,
+    version: u8,
+    volumes: &[VolumeHead],
+) -> Result<(), NoMemory>
+    requires version { IsTrue (is_version version) }
+    requires few { All (λ v. v.cylinders ≤ most_cylinders version) volumes.now }
+    ensures ok { OnOk result (out.new ≡ out.old ++ flat_map (volume_spelling version) volumes.now) }
     ensures kept { take (length out.old) out.new ≡ out.old }
 {
     for volume in volumes {
-        out.extend_from_slice(alloc, &volume_bytes(volume))?;
+        append_volume(alloc, out, version, volume)?;
     }
     Ok(())
 }
 
-fn append_base(alloc: Global, out: &mut Bytes, base: &BaseTrack) -> Result<(), NoMemory>
-    requires near { base.now.1 < TRACKS_OF_CYLINDER * most_cylinders 1 }
-    ensures ok { OnOk result (out.new ≡ out.old ++ base_spelling 1 base.now) }
+fn append_base(
+    alloc: Global,
+    out: &mut Bytes,
+    version: u8,
+    base: &BaseTrack,
+) -> Result<(), NoMemory>
+    requires version { IsTrue (is_version version) }
+    requires near { base.now.1 < TRACKS_OF_CYLINDER * most_cylinders version }
+    ensures ok { OnOk result (out.new ≡ out.old ++ base_spelling version base.now) }
     ensures kept { take (length out.old) out.new ≡ out.old }
 {
     let (volume, track, recs) = base;
-    out.extend_from_slice(alloc, &place_bytes(*volume, *track))?;
+    append_place(alloc, out, version, *volume, *track)?;
     recs.encode_image(alloc, out)
 }
 
 /// Puts base tracks after other bytes. Want of memory may leave a part of them there.
-fn append_bases(alloc: Global, out: &mut Bytes, base: &[BaseTrack]) -> Result<(), NoMemory>
-    requires near { All (λ b. b.1 < TRACKS_OF_CYLINDER * most_cylinders 1) base.now }
-    ensures ok { OnOk result (out.new ≡ out.old ++ flat_map (base_spelling 1) base.now) }
+fn append_bases(
+    alloc: Global,
+    out: &mut Bytes,
+    version: u8,
+    base: &[BaseTrack],
+) -> Result<(), NoMemory>
+    requires version { IsTrue (is_version version) }
+    requires near { All (λ b. b.1 < TRACKS_OF_CYLINDER * most_cylinders version) base.now }
+    ensures ok { OnOk result (out.new ≡ out.old ++ flat_map (base_spelling version) base.now) }
     ensures kept { take (length out.old) out.new ≡ out.old }
 {
     for one in base {
-        append_base(alloc, out, one)?;
+        append_base(alloc, out, version, one)?;
     }
     Ok(())
 }
 
-/// The mark of version 1, and the number of volumes.
-fn header_head(count: usize) -> [u8; 6]
-    requires { count < 2 ^ 16 }
-    ensures { result ≡ trace_mark 1 ++ to_be_bytes w16 count }
+/// The mark of a version, and the number of volumes.
+fn header_head(version: u8, count: usize) -> [u8; 6]
+    requires version { IsTrue (is_version version) }
+    requires count { count < 2 ^ 16 }
+    ensures { result ≡ trace_mark version ++ to_be_bytes w16 count }
 {
-    let mut head = *b"XTR1\0\0";
+    let mut head = *b"XTR0\0\0";
+    head[3] += version;
     BigEndian::write_u16(&mut head[4..], count as u16);
     head
 }
 
 fn append_header(alloc: Global, out: &mut Bytes, header: &Header) -> Result<(), NoMemory>
-    requires rules { IsTrue (is_header_of 1 header.now) }
+    requires rules { IsTrue (is_header header.now) }
     ensures ok { OnOk result (out.new ≡ out.old ++ header_spelling header.now) }
     ensures kept { take (length out.old) out.new ≡ out.old }
 {
-    out.extend_from_slice(alloc, &header_head(header.volumes.len()))?;
-    append_volumes(alloc, out, header.volumes.as_slice())?;
+    out.extend_from_slice(alloc, &header_head(header.version, header.volumes.len()))?;
+    append_volumes(alloc, out, header.version, header.volumes.as_slice())?;
     out.extend_from_slice(alloc, &(header.base.len() as u32).to_be_bytes())?;
-    append_bases(alloc, out, header.base.as_slice())
+    append_bases(alloc, out, header.version, header.base.as_slice())
 }
 
-/// Writes the parts of a trace of version 1, each after the bytes that are there. Where memory is short the bytes stay as they
+/// Writes the parts of a trace, each after the bytes that are there. Where memory is short the bytes stay as they
 /// were.
 pub struct TraceWriter;
 
@@ -137,10 +219,10 @@ impl TraceWriter {
         out.extend_from_slice(alloc, &idle_bytes(stamp))
     }
 
-    /// The header of a trace. It keeps the rules: 1 to `MOST_CONTROL_VOLUMES` volumes with different serials and 1 to `MOST_CYLINDERS`
-    /// cylinders each, and base tracks of theirs in order.
+    /// The header of a trace. It keeps the rules: 1 to `MOST_CONTROL_VOLUMES` volumes with different serials and 1 to its
+    /// version's most cylinders each, and base tracks of theirs in order.
     pub fn header(alloc: Global, out: &mut Bytes, header: &Header) -> Result<(), NoMemory>
-        requires { IsTrue (is_header_of 1 header.now) }
+        requires { IsTrue (is_header header.now) }
         ensures ok { OnOk result (out.new ≡ out.old ++ header_spelling header.now) }
         ensures err { OnErr result (out.new ≡ out.old) }
     {
@@ -152,16 +234,17 @@ impl TraceWriter {
         appended
     }
 
-    /// The entry of a write. Its track lies in one of the first `MOST_CYLINDERS` cylinders.
-    pub fn write(alloc: Global, out: &mut Bytes, write: &Write) -> Result<(), NoMemory>
+    /// The entry of a write in a version. Its track lies in one of the version's most cylinders.
+    pub fn write(alloc: Global, out: &mut Bytes, version: u8, write: &Write) -> Result<(), NoMemory>
+        requires version { IsTrue (is_version version) }
         requires stamp { 1 ≤ write.now.stamp.0 }
-        requires track { write.now.track < TRACKS_OF_CYLINDER * most_cylinders 1 }
+        requires track { write.now.track < TRACKS_OF_CYLINDER * most_cylinders version }
         requires rules { IsTrue (keeps_rules write.now.kind) }
-        ensures ok { OnOk result (out.new ≡ out.old ++ entry_spelling 1 (Written write.now)) }
+        ensures ok { OnOk result (out.new ≡ out.old ++ entry_spelling version (Written write.now)) }
         ensures err { OnErr result (out.new ≡ out.old) }
     {
         let before = out.len();
-        let appended = append_entry(alloc, out, write);
+        let appended = append_entry(alloc, out, version, write);
         if appended.is_err() {
             out.truncate(before);
         }

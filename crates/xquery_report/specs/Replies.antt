@@ -10,7 +10,7 @@ use Rattle.pair_table.specs.declared.command.Refusal.TheVariants.{NoSession, Ses
 
 abbrev pub command_word : Command → List ℕ
 command_word (Start level) = codes "XSTART"
-command_word (AddPair primary secondary) = codes "XADDPAIR"
+command_word (AddPair primary secondary group) = codes "XADDPAIR"
 command_word (DelPair choice) = codes "XDELPAIR"
 command_word (Suspend choice) = codes "XSUSPEND"
 command_word Query = codes "XQUERY"
@@ -68,7 +68,7 @@ refusal_part refusal = codes " REFUSED" ++ 32 ∷ decimal (refusal_number refusa
 
 -- how many tracks are to be copied of a pair that was added
 abbrev pub tracks_part : Command → (tracks : ℕ) → List ℕ
-tracks_part (AddPair primary secondary) tracks = codes " TRACKS" ++ 32 ∷ decimal tracks
+tracks_part (AddPair primary secondary group) tracks = codes " TRACKS" ++ 32 ∷ decimal tracks
 tracks_part (Start level) tracks = []
 tracks_part (DelPair choice) tracks = []
 tracks_part (Suspend choice) tracks = []

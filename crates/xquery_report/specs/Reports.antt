@@ -6,7 +6,7 @@ use Rattle.tod_stamp.specs.Stamps.{stamp_text}
 use Rattle.ckd_track.specs.declared.write.Cause.{Cause}
 use Rattle.ckd_track.specs.declared.write.Cause.TheVariants.{ReadFault, BadTrace, Crowded}
 use Rattle.pair_table.specs.declared.level.Level.{Level}
-use Rattle.pair_table.specs.declared.level.Level.TheVariants.{Volume as ByVolume, Session as BySession}
+use Rattle.pair_table.specs.declared.level.Level.TheVariants.{Volume as ByVolume, Session as BySession, Group as ByGroup}
 use Rattle.pair_table.specs.declared.row.PairState.{PairState}
 use Rattle.pair_table.specs.declared.row.PairState.TheVariants.{Pending, Copy, Duplex, Suspended}
 use Rattle.pair_table.specs.States.{cause_word}
@@ -16,6 +16,7 @@ use Rattle.pair_table.specs.Tables.{Table}
 abbrev pub level_part : Level → List ℕ
 level_part ByVolume = codes " LEVEL VOLUME"
 level_part BySession = codes " LEVEL SESSION"
+level_part ByGroup = codes " LEVEL GROUP"
 
 -- the session, its level, the time of the journal, and the number of pairs
 abbrev pub session_line : Table → Level → (time : ℕ) → List ℕ

@@ -22,6 +22,7 @@ fn level_part(level: Level) -> &'static [u8]
     match level {
         Level::Volume => b" LEVEL VOLUME",
         Level::Session => b" LEVEL SESSION",
+        Level::Group => b" LEVEL GROUP",
     }
 }
 

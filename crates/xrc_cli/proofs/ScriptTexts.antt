@@ -71,14 +71,14 @@ record Asks (n before : ℕ) (at_end : Bool) (a : Answered) : Type 0 where
 asks_of : (n before : ℕ) (at_end : Bool) (a : Answered) → next_line n before at_end a.text ≡ Some a.line → Asks n before at_end a
 asks_of n before at_end a asks = by_whole (is_whole_line at_end a.text) refl asks
   where
-    short_of : later_line n before (line_spelled (first_line a.text)) ≡ Some a.line → (56 < length (first_line a.text)) ⊎ (length (first_line a.text) ≤ 56) → length (first_line a.text) ≤ 256
+    short_of : later_line n before (line_spelled (first_line a.text)) ≡ Some a.line → (70 < length (first_line a.text)) ⊎ (length (first_line a.text) ≤ 70) → length (first_line a.text) ≤ 256
     short_of line (inl long) =
         let none : later_line n before (line_spelled (first_line a.text)) ≡ None = ap (later_line n before) (long_spells_none (first_line a.text) long) in
         absurd (cc (line, none))
     short_of line (inr few) = omega (arith, few)
 
     by_whole : (w : Bool) → is_whole_line at_end a.text ≡ w → cond w (later_line n before (line_spelled (first_line a.text))) None ≡ Some a.line → Asks n before at_end a
-    by_whole true is line = record { whole = is; line = line; short = short_of line (cases_lt 56 (length (first_line a.text))) }
+    by_whole true is line = record { whole = is; line = line; short = short_of line (cases_lt 70 (length (first_line a.text))) }
     by_whole false is line = absurd (cc line)
 
 -- It is a whole line of what is left of the script, after which so much stands.

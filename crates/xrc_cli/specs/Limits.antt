@@ -1,10 +1,10 @@
 -- The numbers of all limits and lengths.
 use Rattle.std.specs.Prelude.{◌≡◌, ◌-◌, ◌^◌, true}
 use Rattle.xrc_edge.specs.declared.block.TheConstants.{BLOCK}
-use Rattle.xrc_edge.specs.declared.limits.TheConstants.{FEWEST_JOURNALS, LONGEST_LINE, LONGEST_TEXT, LONGEST_TRACE, MOST_CONTROLS, MOST_CONTROL_VOLUMES, MOST_CYLINDERS, MOST_JOURNALS, MOST_LINES, MOST_SITE_VOLUMES, TRACKS_OF_CYLINDER}
+use Rattle.xrc_edge.specs.declared.limits.TheConstants.{FEWEST_JOURNALS, LONGEST_LINE, LONGEST_TEXT, LONGEST_TRACE, MOST_CONTROLS, MOST_CONTROL_VOLUMES, MOST_CYLINDERS, MOST_JOURNALS, MOST_LINES, MOST_NARROW_CYLINDERS, MOST_SITE_VOLUMES, TRACKS_OF_CYLINDER}
 use Rattle.ckd_track.specs.declared.layout.TheConstants.{CAPACITY, CYLINDER_LENGTH, FIRST_SLOT, LONGEST_UPDATE, SLOT_LENGTH, WRITES_OF_RUN}
 use Rattle.crash_plant.specs.declared.layout.TheConstants.{CONTROL_LENGTH, STATE_LENGTH, SWITCH}
-use Rattle.pair_table.specs.declared.limits.TheConstants.{MOST_ROWS, ROW_LENGTH}
+use Rattle.pair_table.specs.declared.limits.TheConstants.{MOST_ROWS, NARROW_ROW_LENGTH, ROW_LENGTH}
 use Rattle.xrc_journal.specs.declared.layout.TheConstants.{BESIDE_CONTROLS, MOST_BODY, OF_CONTROL}
 use Rattle.control_set.specs.Slots.{place_of_slot}
 use Rattle.state_set.specs.Slots.{state_slot_place}
@@ -15,7 +15,8 @@ pub record AreLimitsFixed : Type 0 where
   -- a session, its traces and its script
   pub controls : MOST_CONTROLS ≡ 16
   pub control_volumes : MOST_CONTROL_VOLUMES ≡ 32
-  pub cylinders : MOST_CYLINDERS ≡ 65520
+  pub cylinders : MOST_CYLINDERS ≡ 1000000
+  pub narrow_cylinders : MOST_NARROW_CYLINDERS ≡ 65520
   pub tracks : TRACKS_OF_CYLINDER ≡ 15
   pub run_writes : WRITES_OF_RUN ≡ 32
   pub trace : LONGEST_TRACE ≡ 2 ^ 40
@@ -29,7 +30,8 @@ pub record AreLimitsFixed : Type 0 where
   pub site_volumes : MOST_SITE_VOLUMES ≡ 64
   pub last_device : LAST_DEVICE ≡ 63
   pub rows : MOST_ROWS ≡ 64
-  pub row : ROW_LENGTH ≡ 30
+  pub row : ROW_LENGTH ≡ 38
+  pub narrow_row : NARROW_ROW_LENGTH ≡ 30
   -- the bytes of a track, of a volume, and of the devices of a site
   pub block : BLOCK ≡ 512
   pub track : CAPACITY ≡ 56664

@@ -89,8 +89,7 @@ pub fn xrc<R: Threads + Wait + Sync, S: Source + Send, P: Plant>(
         Some(Asked::Copy(session, shift)) => copy_site(rt, alloc, plant, *session, *shift),
         Some(Asked::Query(session)) => query_site(alloc, plant, *session),
         Some(Asked::Init(device, serial, cylinders)) => {
-            let serial = *serial;
-            let cylinders = u32::from(*cylinders);
+            let (serial, cylinders) = (*serial, *cylinders);
             label_volume(plant, *device, &Label { serial, cylinders })
         }
         Some(Asked::Generate(number)) => run_generated(rt, alloc, *number, plant),

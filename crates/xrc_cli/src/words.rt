@@ -40,7 +40,7 @@ pub(crate) enum Asked {
     /// `query SESSION`: to say the report of a session's site.
     Query(Session),
     /// `init DEVICE SERIAL CYLINDERS`: to label a volume.
-    Init(u16, Serial, u16),
+    Init(u16, Serial, u32),
     /// `generate NUMBER`: to run the input of a number in memory.
     Generate(u32),
 }
@@ -173,7 +173,7 @@ pub(crate) fn asked_in(words: &[String]) -> Option<Asked>
         }
         [command, device, serial, cylinders] if command.as_str() == "init" => {
             let device = short_number(0, LAST_DEVICE, device.as_str())?;
-            let cylinders = short_number(1, MOST_CYLINDERS, cylinders.as_str())?;
+            let cylinders = number_in(1, MOST_CYLINDERS, cylinders.as_str())?;
             Some(Asked::Init(device, serial_of(serial.as_str())?, cylinders))
         }
         _ => None,

@@ -12,11 +12,11 @@ use Rattle.pair_table.specs.declared.command.Choice.TheVariants.{One}
 use Rattle.pair_table.specs.declared.command.Command.{Command}
 use Rattle.pair_table.specs.declared.command.Command.TheVariants.{Start, AddPair, DelPair, Suspend, Query, End}
 use Rattle.pair_table.specs.declared.level.Level.{Level}
-use Rattle.pair_table.specs.declared.level.Level.TheVariants.{Volume, Session}
-use Rattle.xrc_command.specs.Lines.{level_text, choice_text, command_text, short_start_text, IsCommandText, has_serials}
-use Rattle.xrc_command.specs.Reading.{split_at, before_space, from_space, session_of, level_of, pair_of, choice_of, bare, command_of, command_at}
+use Rattle.pair_table.specs.declared.level.Level.TheVariants.{Volume, Session, Group}
+use Rattle.xrc_command.specs.Lines.{level_text, choice_text, group_text, command_text, short_start_text, IsCommandText, has_serials}
+use Rattle.xrc_command.specs.Reading.{split_at, before_space, from_space, session_of, level_of, grouped_pair_of, choice_of, bare, command_of, command_at}
 use Rattle.xrc_command.proofs.PartReading.{bind_some, map_some, allow_some, first_or, split_takes, split_again, space_parts, before_again, from_again, session_takes, session_again}
-use Rattle.xrc_command.proofs.OperandReading.{level_operand, IsLevelOperand, level_takes, choice_operand, pair_takes, pair_again, choice_takes, choice_again}
+use Rattle.xrc_command.proofs.OperandReading.{level_operand, IsLevelOperand, level_takes, choice_operand, grouped_operand, grouped_takes, grouped_again, choice_takes, choice_again}
 
 -- ---- what is read
 
@@ -35,6 +35,15 @@ volume_text : (word session operand : List ℕ) (choice : Choice) → operand �
     → word ++ (session ++ operand) ≡ word ++ session ++ codes " VOLUME(" ++ choice_text choice ++ codes ")"
 volume_text word session operand choice e = ap (λ (t : List ℕ). word ++ (session ++ t)) e ∙ grouped word session (codes " VOLUME(") (choice_text choice) (codes ")")
 
+-- the same of a pair with its group
+grouped_text : (session primary secondary : List ℕ) (group : Option (List ℕ)) → codes "XADDPAIR " ++ (session ++ grouped_operand primary secondary group) ≡ command_text session (AddPair primary secondary group)
+grouped_text session primary secondary group =
+    let word = codes "XADDPAIR " in
+    let front = choice_operand (One primary secondary) in
+    let end = group_text group in
+    sym (append_assoc word (session ++ front) end ∙ ap (λ (t : List ℕ). word ++ t) (append_assoc session front end))
+    ∙ ap (λ (t : List ℕ). t ++ end) (volume_text word session front (One primary secondary) refl)
+
 start_spelled : (session operand : List ℕ) (level : Level) → IsLevelOperand level operand → IsSpelled session (codes "XSTART") operand (Start level)
 start_spelled session operand level (inl e) = (inl (start_text session operand level e), refl)
 start_spelled session operand level (inr (by_volume, e)) = (inr (ap (λ l. Start l) by_volume, rw (e, append-nil session) refl), refl)
@@ -44,11 +53,12 @@ start_takes session operand command e =
     let found = map_some (λ (level : Level). Start level) (level_of operand) command e in
     subst (λ (c : Command). IsSpelled session (codes "XSTART") operand c) found.2 (start_spelled session operand found.0 (level_takes operand found.0 found.1))
 
-add_pair_takes : (session operand : List ℕ) (command : Command) → option_map (λ pair. AddPair pair.0 pair.1) (pair_of operand) ≡ Some command → IsSpelled session (codes "XADDPAIR") operand command
+add_pair_takes : (session operand : List ℕ) (command : Command) → option_map (λ pair. AddPair pair.0.0 pair.0.1 pair.1) (grouped_pair_of operand) ≡ Some command → IsSpelled session (codes "XADDPAIR") operand command
 add_pair_takes session operand command e =
-    let found = map_some (λ (pair : List ℕ × List ℕ). AddPair pair.0 pair.1) (pair_of operand) command e in
-    let pair = pair_takes operand found.0 found.1 in
-    subst (λ (c : Command). IsSpelled session (codes "XADDPAIR") operand c) found.2 (inl (volume_text (codes "XADDPAIR ") session operand (One found.0.0 found.0.1) pair.0), pair.1)
+    let found = map_some (λ (pair : (List ℕ × List ℕ) × Option (List ℕ)). AddPair pair.0.0 pair.0.1 pair.1) (grouped_pair_of operand) command e in
+    let pair = grouped_takes operand found.0 found.1 in
+    let whole = ap (λ (t : List ℕ). codes "XADDPAIR " ++ (session ++ t)) pair.spelled ∙ grouped_text session found.0.0.0 found.0.0.1 found.0.1 in
+    subst (λ (c : Command). IsSpelled session (codes "XADDPAIR") operand c) found.2 (inl whole, pair.serials)
 
 del_pair_takes : (session operand : List ℕ) (command : Command) → option_map (λ choice. DelPair choice) (choice_of operand) ≡ Some command → IsSpelled session (codes "XDELPAIR") operand command
 del_pair_takes session operand command e =
@@ -122,13 +132,14 @@ parted : (text session : List ℕ) (command : Command) → text ≡ command_text
 unfolding command_of
 parted text session (Start Volume) e serials = record { word = codes "XSTART"; operand = level_operand Volume; parts = e ∙ sym (start_text session (level_operand Volume) Volume refl); letters = refl; apart = refl; reads = refl }
 parted text session (Start Session) e serials = record { word = codes "XSTART"; operand = level_operand Session; parts = e ∙ sym (start_text session (level_operand Session) Session refl); letters = refl; apart = refl; reads = refl }
-parted text session (AddPair primary secondary) e serials = record {
+parted text session (Start Group) e serials = record { word = codes "XSTART"; operand = level_operand Group; parts = e ∙ sym (start_text session (level_operand Group) Group refl); letters = refl; apart = refl; reads = refl }
+parted text session (AddPair primary secondary group) e serials = record {
   word = codes "XADDPAIR";
-  operand = choice_operand (One primary secondary);
-  parts = e ∙ sym (volume_text (codes "XADDPAIR ") session (choice_operand (One primary secondary)) (One primary secondary) refl);
+  operand = grouped_operand primary secondary group;
+  parts = e ∙ sym (grouped_text session primary secondary group);
   letters = refl;
   apart = refl;
-  reads = ap (λ (o : Option (List ℕ × List ℕ)). option_map (λ pair. AddPair pair.0 pair.1) o) (pair_again primary secondary serials);
+  reads = ap (λ (o : Option ((List ℕ × List ℕ) × Option (List ℕ))). option_map (λ pair. AddPair pair.0.0 pair.0.1 pair.1) o) (grouped_again primary secondary group serials);
 }
 parted text session (DelPair choice) e serials = record {
   word = codes "XDELPAIR";

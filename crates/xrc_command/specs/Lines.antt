@@ -1,5 +1,5 @@
 -- The lines of a script, as they are spelled: a time, one space and a command to a session.
-use Rattle.std.specs.Prelude.{◌≡◌, ◌≤◌, ◌⊎◌, ◌&&◌, ℕ, List, ◌++◌, Bool, true, Ok, codes, IsTrue}
+use Rattle.std.specs.Prelude.{◌≡◌, ◌≤◌, ◌⊎◌, ◌&&◌, ℕ, List, [], ◌++◌, Bool, true, Option, Some, None, Ok, codes, IsTrue}
 use Rattle.tod_stamp.specs.Names.{is_serial, is_session}
 use Rattle.tod_stamp.specs.Stamps.{stamp_of_digits}
 use Rattle.pair_table.specs.declared.command.Choice.{Choice}
@@ -7,7 +7,8 @@ use Rattle.pair_table.specs.declared.command.Choice.TheVariants.{One, All}
 use Rattle.pair_table.specs.declared.command.Command.{Command}
 use Rattle.pair_table.specs.declared.command.Command.TheVariants.{Start, AddPair, DelPair, Suspend, Query, End}
 use Rattle.pair_table.specs.declared.level.Level.{Level}
-use Rattle.pair_table.specs.declared.level.Level.TheVariants.{Volume, Session}
+use Rattle.pair_table.specs.declared.level.Level.TheVariants.{Volume, Session, Group}
+use Rattle.pair_table.specs.Rows.{is_group}
 use Rattle.xrc_command.specs.declared.line.Line.{Line}
 
 -- ---- the texts of commands
@@ -15,9 +16,15 @@ use Rattle.xrc_command.specs.declared.line.Line.{Line}
 abbrev pub level_text : Level → List ℕ
 level_text Volume = codes "VOLUME"
 level_text Session = codes "SESSION"
+level_text Group = codes "GROUP"
 
 abbrev pub pair_text : (primary secondary : List ℕ) → List ℕ
 pair_text primary secondary = primary ++ codes "," ++ secondary
+
+-- what a pair that gets a group has after it
+abbrev pub group_text : Option (List ℕ) → List ℕ
+group_text None = []
+group_text (Some group) = codes " GROUP(" ++ group ++ codes ")"
 
 abbrev pub choice_text : Choice → List ℕ
 choice_text (One primary secondary) = pair_text primary secondary
@@ -26,7 +33,7 @@ choice_text All = codes "ALL"
 -- a command's text, with nothing left out
 abbrev pub command_text : (session : List ℕ) → Command → List ℕ
 command_text session (Start level) = codes "XSTART " ++ session ++ codes " ERRORLEVEL(" ++ level_text level ++ codes ")"
-command_text session (AddPair primary secondary) = codes "XADDPAIR " ++ session ++ codes " VOLUME(" ++ pair_text primary secondary ++ codes ")"
+command_text session (AddPair primary secondary group) = codes "XADDPAIR " ++ session ++ codes " VOLUME(" ++ pair_text primary secondary ++ codes ")" ++ group_text group
 command_text session (DelPair choice) = codes "XDELPAIR " ++ session ++ codes " VOLUME(" ++ choice_text choice ++ codes ")"
 command_text session (Suspend choice) = codes "XSUSPEND " ++ session ++ codes " VOLUME(" ++ choice_text choice ++ codes ")"
 command_text session Query = codes "XQUERY " ++ session
@@ -46,10 +53,10 @@ abbrev pub names_serials : Choice → Bool
 names_serials (One primary secondary) = is_serial primary && is_serial secondary
 names_serials All = true
 
--- What a command calls a primary or a secondary is a serial.
+-- What a command calls a primary or a secondary is a serial, and a group has a serial's form.
 abbrev pub has_serials : Command → Bool
 has_serials (Start level) = true
-has_serials (AddPair primary secondary) = is_serial primary && is_serial secondary
+has_serials (AddPair primary secondary group) = is_serial primary && is_serial secondary && is_group group
 has_serials (DelPair choice) = names_serials choice
 has_serials (Suspend choice) = names_serials choice
 has_serials Query = true

@@ -12,12 +12,11 @@ use Rattle.pair_table.specs.declared.command.Choice.TheVariants.{One, All}
 use Rattle.pair_table.specs.declared.command.Command.{Command}
 use Rattle.pair_table.specs.declared.command.Command.TheVariants.{Start, AddPair, DelPair, Suspend, Query, End}
 use Rattle.pair_table.specs.declared.level.Level.{Level}
-use Rattle.pair_table.specs.declared.level.Level.TheVariants.{Volume, Session}
+use Rattle.pair_table.specs.declared.level.Level.TheVariants.{Volume, Session, Group}
 use Rattle.tod_stamp.specs.Options.{◌>>=◌}
 use Rattle.xrc_command.specs.declared.line.Line.{Line}
 use Rattle.xrc_command.specs.Lines.{IsLine}
 
--- the next step, if this one read something
 -- ---- parts
 
 -- what follows a text that stands in front
@@ -70,6 +69,7 @@ abbrev pub level_of : (operand : List ℕ) → Option Level
 level_of operand =
     if bytes_eq operand [] || bytes_eq operand (codes " ERRORLEVEL(VOLUME)") then Some Volume
     else if bytes_eq operand (codes " ERRORLEVEL(SESSION)") then Some Session
+    else if bytes_eq operand (codes " ERRORLEVEL(GROUP)") then Some Group
     else None
 
 abbrev pub both_serials : (primary secondary : List ℕ) → Option (List ℕ × List ℕ)
@@ -78,13 +78,35 @@ both_serials primary secondary = do
   second ← serial_of secondary
   Some (first, second)
 
--- the primary and the secondary
-unfoldable pub pair_of : (operand : List ℕ) → Option (List ℕ × List ℕ)
-pair_of operand = do
+-- the primary and the secondary, and what follows them
+unfoldable pub pair_then : (operand : List ℕ) → Option ((List ℕ × List ℕ) × List ℕ)
+pair_then operand = do
   names ← text_at (codes " VOLUME(") operand
   first ← split_at 44 names
   second ← split_at 41 first.1
-  if bytes_eq second.1 [] then both_serials first.0 second.0 else None
+  pair ← both_serials first.0 second.0
+  Some (pair, second.1)
+
+-- the primary and the secondary alone
+abbrev pub pair_of : (operand : List ℕ) → Option (List ℕ × List ℕ)
+pair_of operand = do
+  found ← pair_then operand
+  if bytes_eq found.1 [] then Some found.0 else None
+
+-- the group that follows a pair, or none if nothing does
+unfoldable pub pair_group : (rest : List ℕ) → Option (Option (List ℕ))
+pair_group rest = if bytes_eq rest [] then Some None else do
+  names ← text_at (codes " GROUP(") rest
+  name ← split_at 41 names
+  group ← serial_of name.0
+  if bytes_eq name.1 [] then Some (Some group) else None
+
+-- the primary and the secondary, and their group
+abbrev pub grouped_pair_of : (operand : List ℕ) → Option ((List ℕ × List ℕ) × Option (List ℕ))
+grouped_pair_of operand = do
+  found ← pair_then operand
+  group ← pair_group found.1
+  Some (found.0, group)
 
 abbrev pub choice_of : (operand : List ℕ) → Option Choice
 choice_of operand = if bytes_eq operand (codes " VOLUME(ALL)") then Some All else option_map (λ pair. One pair.0 pair.1) (pair_of operand)
@@ -98,7 +120,7 @@ bare command operand = if bytes_eq operand [] then Some command else None
 unfoldable pub command_of : (word operand : List ℕ) → Option Command
 command_of word operand =
     if bytes_eq word (codes "XSTART") then option_map (λ level. Start level) (level_of operand)
-    else if bytes_eq word (codes "XADDPAIR") then option_map (λ pair. AddPair pair.0 pair.1) (pair_of operand)
+    else if bytes_eq word (codes "XADDPAIR") then option_map (λ pair. AddPair pair.0.0 pair.0.1 pair.1) (grouped_pair_of operand)
     else if bytes_eq word (codes "XDELPAIR") then option_map (λ choice. DelPair choice) (choice_of operand)
     else if bytes_eq word (codes "XSUSPEND") then option_map (λ choice. Suspend choice) (choice_of operand)
     else if bytes_eq word (codes "XQUERY") then bare Query operand

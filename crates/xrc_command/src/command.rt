@@ -1,5 +1,5 @@
-ghost use Rattle.std.specs.Prelude.{◌≡◌};
-ghost use Rattle.xrc_command.specs.Reading.{command_at, command_of as command_in, level_of as level_in, choice_of as choice_in, pair_of as pair_in, bare as bare_in};
+ghost use Rattle.std.specs.Prelude.{◌≡◌, None, Some, MatchOption};
+ghost use Rattle.xrc_command.specs.Reading.{command_at, command_of as command_in, level_of as level_in, choice_of as choice_in, pair_then, pair_of as pair_in, pair_group, grouped_pair_of as grouped_pair_in, bare as bare_in};
 
 use crate::parts::{read_serial, read_session, split_at, split_before_space, strip};
 use pair_table::{Choice, Command, Level};
@@ -25,7 +25,12 @@ fn command_of(word: &[u8], operand: &[u8]) -> Option<Command>
     if word == b"XSTART".as_slice() {
         level_of(operand).map(|level| Command::Start { level })
     } else if word == b"XADDPAIR".as_slice() {
-        pair_of(operand).map(|(primary, secondary)| Command::AddPair { primary, secondary })
+        let ((primary, secondary), group) = grouped_pair_of(operand)?;
+        Some(Command::AddPair {
+            primary,
+            secondary,
+            group,
+        })
     } else if word == b"XDELPAIR".as_slice() {
         choice_of(operand).map(Command::DelPair)
     } else if word == b"XSUSPEND".as_slice() {
@@ -56,6 +61,8 @@ fn level_of(operand: &[u8]) -> Option<Level>
         Some(Level::Volume)
     } else if operand == b" ERRORLEVEL(SESSION)".as_slice() {
         Some(Level::Session)
+    } else if operand == b" ERRORLEVEL(GROUP)".as_slice() {
+        Some(Level::Group)
     } else {
         None
     }
@@ -72,15 +79,50 @@ fn choice_of(operand: &[u8]) -> Option<Choice>
     Some(Choice::One { primary, secondary })
 }
 
-#[tactic(auto, unfolding(crate::specs::Reading::pair_of))]
-fn pair_of(operand: &[u8]) -> Option<(Serial, Serial)>
-    ensures { result ≡ pair_in operand.now }
+// The names of a pair, and what follows them.
+#[tactic(auto, unfolding(crate::specs::Reading::pair_then))]
+fn pair_then(operand: &[u8]) -> Option<((Serial, Serial), &[u8])>
+    ensures { MatchOption result (pair_then operand.now ≡ None) (λ read. pair_then operand.now ≡ Some (read.0, read.1.now)) }
 {
     let names = strip(b" VOLUME(", operand)?;
     let (primary, rest) = split_at(b',', names)?;
     let (secondary, rest) = split_at(b')', rest)?;
-    if !rest.is_empty() {
-        return None;
+    Some(((read_serial(primary)?, read_serial(secondary)?), rest))
+}
+
+fn pair_of(operand: &[u8]) -> Option<(Serial, Serial)>
+    ensures { result ≡ pair_in operand.now }
+{
+    match pair_then(operand) {
+        Some((pair, rest)) if rest.is_empty() => Some(pair),
+        _ => None,
     }
-    Some((read_serial(primary)?, read_serial(secondary)?))
+}
+
+// The group that follows a pair, or none if nothing does.
+#[tactic(auto, unfolding(crate::specs::Reading::pair_group))]
+fn group_of(rest: &[u8]) -> Option<Option<Serial>>
+    ensures { result ≡ pair_group rest.now }
+{
+    if rest.is_empty() {
+        return Some(None);
+    }
+    let names = strip(b" GROUP(", rest)?;
+    let (name, rest) = split_at(b')', names)?;
+    let group = read_serial(name)?;
+    if rest.is_empty() {
+        Some(Some(group))
+    } else {
+        None
+    }
+}
+
+fn grouped_pair_of(operand: &[u8]) -> Option<((Serial, Serial), Option<Serial>)>
+    ensures { result ≡ grouped_pair_in operand.now }
+{
+    let Some((pair, rest)) = pair_then(operand) else {
+        return None;
+    };
+    let group = group_of(rest)?;
+    Some((pair, group))
 }

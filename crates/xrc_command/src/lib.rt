@@ -5,8 +5,8 @@
 //! ```text
 //! line     = time " " command
 //! time     = 16 hexadecimal digits of either case, not all zero
-//! command  = "XSTART " session [ " ERRORLEVEL(" ( "VOLUME" | "SESSION" ) ")" ]
-//!          | "XADDPAIR " session " VOLUME(" serial "," serial ")"
+//! command  = "XSTART " session [ " ERRORLEVEL(" ( "VOLUME" | "SESSION" | "GROUP" ) ")" ]
+//!          | "XADDPAIR " session " VOLUME(" serial "," serial ")" [ " GROUP(" serial ")" ]
 //!          | "XDELPAIR " session " VOLUME(" ( serial "," serial | "ALL" ) ")"
 //!          | "XSUSPEND " session " VOLUME(" ( serial "," serial | "ALL" ) ")"
 //!          | "XQUERY " session

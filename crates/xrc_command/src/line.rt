@@ -22,7 +22,7 @@ pub fn read_line(bytes: &[u8]) -> Option<Line>
     ensures spelled { result ≡ line_spelled bytes.now }
     ensures read { IfSome result (λ line. IsLine line bytes.now) }
     ensures every { (line : _) → IsLine line bytes.now → result ≡ Some line }
-    ensures short { IsSome result → length bytes.now ≤ 56 }
+    ensures short { IsSome result → length bytes.now ≤ 70 }
 {
     let (time, text) = read_time(bytes)?;
     let (session, command) = read_command(text)?;

@@ -16,8 +16,11 @@ pub const FEWEST_JOURNALS: u16 = 2;
 /// The most journals of a site.
 pub const MOST_JOURNALS: u16 = 16;
 
-/// The most cylinders of a volume.
-pub const MOST_CYLINDERS: u16 = 65_520;
+/// The most cylinders of a volume, as version 2 of the formats can say it.
+pub const MOST_CYLINDERS: u32 = 1_000_000;
+
+/// The most cylinders of a volume that version 1 of a trace or of a row can say.
+pub const MOST_NARROW_CYLINDERS: u16 = 65_520;
 
 /// A cylinder has this many tracks.
 pub const TRACKS_OF_CYLINDER: u32 = 15;

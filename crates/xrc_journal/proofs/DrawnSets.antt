@@ -14,7 +14,7 @@ use Rattle.xrc_journal.specs.Items.{Item, Earlier, earlier_after, is_drawn}
 use Rattle.xrc_journal.specs.Items.Item.{Image, Delta, Pair, Gone}
 use Rattle.xrc_journal.specs.Bodies.{BeginsWith}
 use Rattle.xrc_journal.specs.Drawn.{AreDrawn, device_and_track}
-use Rattle.xrc_journal.proofs.Scans.{tag_is}
+use Rattle.xrc_journal.proofs.Scans.{tag_is, tag_high}
 use Rattle.xrc_journal.proofs.Told.{image_fields}
 
 same_number : (m n : ℕ) → is_eq (nat_cmp m n) ≡ (n == m)
@@ -64,14 +64,14 @@ after_image bytes fields earlier known (Image d x recs) whole b drawn =
     let track : (device_and_track fields).1 ≡ x = ap (λ (l : List ℕ). from_be_bytes w32 (take 4 (drop 3 l))) (sym whole) ∙ found.1 in
     subst (λ (t : ℕ × ℕ). AreDrawn known (t ∷ earlier.drawn)) (λ i. (device i, track i)) drawn
 after_image bytes fields earlier known (Delta d x kind) whole b drawn = absurd (omega (arith, tag_is bytes (Delta d x kind) b, ap (λ (l : List ℕ). slice_index l 0) whole))
-after_image bytes fields earlier known (Pair row) whole b drawn = absurd (omega (arith, tag_is bytes (Pair row) b, ap (λ (l : List ℕ). slice_index l 0) whole))
+after_image bytes fields earlier known (Pair version row) whole b drawn = absurd (omega (arith, tag_is bytes (Pair version row) b, tag_high version, ap (λ (l : List ℕ). slice_index l 0) whole))
 after_image bytes fields earlier known (Gone d) whole b drawn = absurd (omega (arith, tag_is bytes (Gone d) b, ap (λ (l : List ℕ). slice_index l 0) whole))
 
 -- no other item draws a track
 pub after_other : (bytes fields : List ℕ) (tag : ℕ) (earlier : Earlier) (known : DrawnTracks) (item : Item) → tag ≢ 1 → bytes ≡ tag ∷ fields → BeginsWith bytes item → AreDrawn known earlier.drawn → AreDrawn known (earlier_after item earlier).drawn
 after_other bytes fields tag earlier known (Image d x recs) other whole b drawn = absurd (other (ap (λ (l : List ℕ). slice_index l 0) (sym whole) ∙ tag_is bytes (Image d x recs) b))
 after_other bytes fields tag earlier known (Delta d x kind) other whole b drawn = drawn
-after_other bytes fields tag earlier known (Pair row) other whole b drawn = drawn
+after_other bytes fields tag earlier known (Pair version row) other whole b drawn = drawn
 after_other bytes fields tag earlier known (Gone d) other whole b drawn = drawn
 
 pub then_there : {P Q : Type 0} (r : Option ℕ) → IfSome r (λ n. P) → (P → Q) → IfSome r (λ n. Q)

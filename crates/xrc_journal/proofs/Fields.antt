@@ -1,7 +1,7 @@
 -- Steps that the readers of items and of records share.
-use Rattle.std.proofs.Common.{◌≡◌, ℕ, ◌+◌, ◌-◌, ◌<◌, Bool, true, false, cond, nat_eq, nat_lt, ◌&&◌, List, [], ◌∷◌, ◌++◌, length, Option, Some, None, Result, Ok, Err, refl, ap, subst, arith, length-append}
+use Rattle.std.proofs.Common.{◌≡◌, ℕ, ◌+◌, ◌-◌, ◌<◌, Bool, true, false, nat_lt, ◌&&◌, List, [], ◌∷◌, ◌++◌, length, Option, Some, None, Result, Ok, Err, refl, ap, subst, arith, length-append}
 use Rattle.std.specs.Int.{w8, to_be_bytes}
-use Rattle.std.proofs.lemmas.Bool.{le-ltb, eqb-true}
+use Rattle.std.proofs.lemmas.Bool.{le-ltb}
 use Rattle.std.proofs.lemmas.List.{take_at, drop_at}
 use Rattle.tod_stamp.specs.Fields.{IsBytes, Left, Bad, number_at}
 use Rattle.tod_stamp.proofs.FieldLaws.{IsBytes-drop, IsBytes-take, Takes, at_place}
@@ -11,8 +11,6 @@ use Rattle.ckd_track.specs.Tracks.{is_track}
 use Rattle.ckd_track.specs.Images.{image, image_at}
 use Rattle.ckd_track.proofs.ImageLaws.{image_again, image_taken}
 use Rattle.pair_table.specs.declared.row.PairRow.{PairRow}
-use Rattle.pair_table.specs.Rows.{fields_of, row_at, row_spelling, is_row}
-use Rattle.pair_table.proofs.RowsAgain.{rows_back}
 use Rattle.xrc_journal.specs.Deltas.{as_body_field}
 use Rattle.xrc_journal.specs.Reading.{body_image_field, row_or}
 
@@ -80,17 +78,6 @@ image_takes left track next fits e =
     (subst (λ (n : Left). Takes left (image track) n) read.2 (after_takes left (image track) read.0 fits taken.1), taken.0)
 
 -- ---- rows
-
-thirty : (t : Bool) (fields : Option PairRow) (row : PairRow) → cond t fields None ≡ Some row → t ≡ true
-thirty true fields row e = refl
-thirty false fields row e = absurd cc
-
--- what is read as a row has 30 bytes
-pub row_length : (bytes : List ℕ) (row : PairRow) → row_at bytes ≡ Some row → length bytes ≡ 30
-row_length bytes row e = eqb-true (length bytes) 30 (thirty (nat_eq (length bytes) 30) (fields_of bytes) row e)
-
-pub spelled_length : (row : PairRow) → is_row row ≡ true → length (row_spelling row) ≡ 30
-spelled_length row is = row_length (row_spelling row) row (rows_back row is)
 
 pub row_given : (left : Left) (read : Option PairRow) (row : PairRow) → row_or left read ≡ Ok row → read ≡ Some row
 row_given left (Some found) row e = ap (λ (r : PairRow). Some r) (given_is found row e)

@@ -34,7 +34,7 @@ item_anywhere form earlier (Delta device track kind) no_deltas is = absurd (bad 
     bad : (a b c d e f : Bool) → a ≡ false → ((a && b) && c && d && e && f) ≡ true → ⊥
     bad true b c d e f none e' = cc
     bad false b c d e f none e' = cc
-item_anywhere form earlier (Pair row) no_deltas is = is
+item_anywhere form earlier (Pair version row) no_deltas is = is
 item_anywhere form earlier (Gone device) no_deltas is = is
 
 pub are_anywhere : (form : Form) (earlier : Earlier) (items : List Item) → form.deltas ≡ false → are_items_after form earlier items ≡ true → are_items_after anywhere earlier items ≡ true
@@ -142,7 +142,11 @@ module _ (form : Form) (no_deltas : form.deltas ≡ false) (bytes : List ℕ) (n
       bad : (a b c d e f : Bool) → a ≡ false → ((a && b) && c && d && e && f) ≡ true → ⊥
       bad true b c d e f none e' = cc
       bad false b c d e f none e' = cc
-  late_by (Pair row) is parts = ap (λ (k : ℕ). not (nat_eq k 1)) (ap (λ (l : List ℕ). slice_index l 0) parts)
+  late_by (Pair version row) is parts = ap (λ (k : ℕ). not (nat_eq k 1)) (ap (λ (l : List ℕ). slice_index l 0) parts) ∙ no_image (nat_eq version 1)
+    where
+      no_image : (narrow : Bool) → not (nat_eq (cond narrow 3 5) 1) ≡ true
+      no_image true = refl
+      no_image false = refl
   late_by (Gone device) is parts = ap (λ (k : ℕ). not (nat_eq k 1)) (ap (λ (l : List ℕ). slice_index l 0) parts)
 
   more_by : (item : Item) (next : Left) (size : ℕ) → IsBytes bytes → item_at form (earlier_of (take n bytes)) (at_place 0 (drop n bytes)) ≡ Ok (item, next) → size ≡ length (item_spelling item) → OneMore form bytes n size

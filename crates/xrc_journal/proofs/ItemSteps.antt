@@ -12,15 +12,14 @@ use Rattle.ckd_track.proofs.ImageLaws.{image_taken}
 use Rattle.ckd_track.proofs.Parts.{length-image}
 use Rattle.std.proofs.lemmas.List.{take_all}
 use Rattle.pair_table.specs.declared.row.PairRow.{PairRow}
-use Rattle.pair_table.specs.Rows.{row_at}
+use Rattle.pair_table.specs.Rows.{row_by, row_length}
 use Rattle.xrc_journal.specs.Items.{Form, Earlier, may_draw, item_spelling}
 use Rattle.xrc_journal.specs.Items.Item.{Image, Pair}
 use Rattle.xrc_journal.specs.Deltas.{as_body_field}
 use Rattle.xrc_journal.specs.Reading.{track_at, row_or, image_item_at, delta_item_at, pair_item_at, gone_item_at, is_tag, item_at}
 use Rattle.xrc_journal.specs.Answers.{length_of}
 use Rattle.xrc_journal.proofs.Steps.{number_step, number_cut, bytes_cut}
-use Rattle.pair_table.proofs.RowReads.{rows_keep}
-use Rattle.xrc_journal.proofs.Fields.{spelled_length}
+use Rattle.pair_table.proofs.Versions.{text_length, version_keeps}
 
 -- ---- a gone device
 
@@ -34,31 +33,33 @@ gone_whole p fields long = rw (number_step w16 any p 0 fields long) refl
 
 -- ---- a row
 
-pub pair_cut : (p : ℕ) (fields : List ℕ) → length fields < 30 → length_of (pair_item_at (at_place p fields)) ≡ None
+pub pair_cut : (version p : ℕ) (fields : List ℕ) → length fields < row_length version → length_of (pair_item_at version (at_place p fields)) ≡ None
 unfolding pair_item_at
-pair_cut p fields short = rw (bytes_cut 30 any p fields short) refl
+pair_cut version p fields short = rw (bytes_cut (row_length version) any p fields short) refl
 
 -- the length of a row's item, where the row is read
-abbrev row_length_of : Option PairRow → Option ℕ
-row_length_of (Some row) = Some (length (item_spelling (Pair row)))
-row_length_of None = None
+abbrev row_length_of : (version : ℕ) → Option PairRow → Option ℕ
+row_length_of version (Some row) = Some (length (item_spelling (Pair version row)))
+row_length_of version None = None
 
-pair_read : (p : ℕ) (fields : List ℕ) → 30 ≤ length fields → length_of (pair_item_at (at_place p fields)) ≡ row_length_of (row_at (take 30 fields))
+pair_read : (version p : ℕ) (fields : List ℕ) → row_length version ≤ length fields → length_of (pair_item_at version (at_place p fields)) ≡ row_length_of version (row_by version (take (row_length version) fields))
 unfolding pair_item_at bytes_at
-pair_read p fields long = rw (le-ltb (length fields) 30 long) (by_row (row_at (take 30 fields)))
+pair_read version p fields long = rw (le-ltb (length fields) (row_length version) long) (by_row (row_by version (take (row_length version) fields)))
   where
-    by_row : (r : Option PairRow) → length_of (row_or (at_place p fields) r >>= (λ row. Ok (Pair row, at_place (p + 30) (drop 30 fields)))) ≡ row_length_of r
+    by_row : (r : Option PairRow) → length_of (row_or (at_place p fields) r >>= (λ row. Ok (Pair version row, at_place (p + row_length version) (drop (row_length version) fields)))) ≡ row_length_of version r
     by_row (Some row) = refl
     by_row None = refl
 
-pub pair_none : (p : ℕ) (fields : List ℕ) → 30 ≤ length fields → row_at (take 30 fields) ≡ None → length_of (pair_item_at (at_place p fields)) ≡ None
-pair_none p fields long none = pair_read p fields long ∙ ap row_length_of none
+pub pair_none : (version p : ℕ) (fields : List ℕ) → row_length version ≤ length fields → row_by version (take (row_length version) fields) ≡ None → length_of (pair_item_at version (at_place p fields)) ≡ None
+pair_none version p fields long none = pair_read version p fields long ∙ ap (row_length_of version) none
 
-pub pair_whole : (p : ℕ) (fields : List ℕ) (row : PairRow) → IsBytes fields → 30 ≤ length fields → row_at (take 30 fields) ≡ Some row → length_of (pair_item_at (at_place p fields)) ≡ Some 31
-pair_whole p fields row fits long is =
-    let len = spelled_length row (rows_keep (take 30 fields) row (IsBytes-take 30 fields fits) is) in
-    let total : length (item_spelling (Pair row)) ≡ 31 = omega (arith, len) in
-    pair_read p fields long ∙ ap row_length_of is ∙ ap (λ (n : ℕ). Some n) total
+pub pair_whole : (version p : ℕ) (fields : List ℕ) (row : PairRow) → IsBytes fields → row_length version ≤ length fields → row_by version (take (row_length version) fields) ≡ Some row
+    → length_of (pair_item_at version (at_place p fields)) ≡ Some (1 + row_length version)
+pair_whole version p fields row fits long is =
+    let text = take (row_length version) fields in
+    let len = text_length version row (version_keeps version text row (IsBytes-take (row_length version) fields fits) is) in
+    let total : length (item_spelling (Pair version row)) ≡ 1 + row_length version = omega (arith, len) in
+    pair_read version p fields long ∙ ap (row_length_of version) is ∙ ap (λ (n : ℕ). Some n) total
 
 -- ---- an image
 
@@ -140,12 +141,12 @@ short_image bytes recs rest fits is = length-image recs (image_taken (take (leng
 module _ (form : Form) (earlier : Earlier) (no_deltas : form.deltas ≡ false) (p : ℕ) (fields : List ℕ) where
   tagged : (tag : ℕ) (b : Bool) → is_tag form.deltas earlier.late tag ≡ b
       → length_of (item_at form earlier (at_place p (tag ∷ fields)))
-      ≡ cond b (length_of (cond (nat_eq tag 1) (image_item_at form earlier (at_place (p + 1) fields)) (cond (nat_eq tag 2) (delta_item_at form (at_place (p + 1) fields)) (cond (nat_eq tag 3) (pair_item_at (at_place (p + 1) fields)) (gone_item_at (at_place (p + 1) fields)))))) None
+      ≡ cond b (length_of (cond (nat_eq tag 1) (image_item_at form earlier (at_place (p + 1) fields)) (cond (nat_eq tag 2) (delta_item_at form (at_place (p + 1) fields)) (cond (nat_eq tag 3) (pair_item_at 1 (at_place (p + 1) fields)) (cond (nat_eq tag 5) (pair_item_at 2 (at_place (p + 1) fields)) (gone_item_at (at_place (p + 1) fields))))))) None
   unfolding item_at number_at
   tagged tag b is = rw (le-ltb (length (tag ∷ fields)) 1 (omega arith), is) (by_rule b)
     where
-      by_rule : (b : Bool) → length_of (let read : Result (ℕ × Left) Bad = cond b (Ok (tag, at_place (p + 1) fields)) (Err (Broken p)) in read >>= (λ t. cond (nat_eq t.0 1) (image_item_at form earlier t.1) (cond (nat_eq t.0 2) (delta_item_at form t.1) (cond (nat_eq t.0 3) (pair_item_at t.1) (gone_item_at t.1)))))
-          ≡ cond b (length_of (cond (nat_eq tag 1) (image_item_at form earlier (at_place (p + 1) fields)) (cond (nat_eq tag 2) (delta_item_at form (at_place (p + 1) fields)) (cond (nat_eq tag 3) (pair_item_at (at_place (p + 1) fields)) (gone_item_at (at_place (p + 1) fields)))))) None
+      by_rule : (b : Bool) → length_of (let read : Result (ℕ × Left) Bad = cond b (Ok (tag, at_place (p + 1) fields)) (Err (Broken p)) in read >>= (λ t. cond (nat_eq t.0 1) (image_item_at form earlier t.1) (cond (nat_eq t.0 2) (delta_item_at form t.1) (cond (nat_eq t.0 3) (pair_item_at 1 t.1) (cond (nat_eq t.0 5) (pair_item_at 2 t.1) (gone_item_at t.1))))))
+          ≡ cond b (length_of (cond (nat_eq tag 1) (image_item_at form earlier (at_place (p + 1) fields)) (cond (nat_eq tag 2) (delta_item_at form (at_place (p + 1) fields)) (cond (nat_eq tag 3) (pair_item_at 1 (at_place (p + 1) fields)) (cond (nat_eq tag 5) (pair_item_at 2 (at_place (p + 1) fields)) (gone_item_at (at_place (p + 1) fields))))))) None
       by_rule true = refl
       by_rule false = refl
 
@@ -158,16 +159,19 @@ module _ (form : Form) (earlier : Earlier) (no_deltas : form.deltas ≡ false) (
   pub tag_image : earlier.late ≡ false → length_of (item_at form earlier (at_place p (1 ∷ fields))) ≡ length_of (image_item_at form earlier (at_place (p + 1) fields))
   tag_image early = tagged 1 true (λ i. is_tag (no_deltas i) (early i) 1)
 
-  pub tag_pair : length_of (item_at form earlier (at_place p (3 ∷ fields))) ≡ length_of (pair_item_at (at_place (p + 1) fields))
-  tag_pair = tagged 3 true refl
+  pub tag_narrow : length_of (item_at form earlier (at_place p (3 ∷ fields))) ≡ length_of (pair_item_at 1 (at_place (p + 1) fields))
+  tag_narrow = tagged 3 true refl
+
+  pub tag_pair : length_of (item_at form earlier (at_place p (5 ∷ fields))) ≡ length_of (pair_item_at 2 (at_place (p + 1) fields))
+  tag_pair = tagged 5 true refl
 
   pub tag_gone : length_of (item_at form earlier (at_place p (4 ∷ fields))) ≡ length_of (gone_item_at (at_place (p + 1) fields))
   tag_gone = tagged 4 true refl
 
-  pub tag_none : (tag : ℕ) → tag ≢ 1 → tag ≢ 3 → tag ≢ 4 → length_of (item_at form earlier (at_place p (tag ∷ fields))) ≡ None
-  tag_none tag one three four = tagged tag false (rw (no_deltas, ne_eqb tag 1 one, ne_eqb tag 3 three, ne_eqb tag 4 four) (by_two (nat_eq tag 2)))
+  pub tag_none : (tag : ℕ) → tag ≢ 1 → tag ≢ 3 → tag ≢ 4 → tag ≢ 5 → length_of (item_at form earlier (at_place p (tag ∷ fields))) ≡ None
+  tag_none tag one three four five = tagged tag false (rw (no_deltas, ne_eqb tag 1 one, ne_eqb tag 3 three, ne_eqb tag 4 four, ne_eqb tag 5 five) (by_two (nat_eq tag 2)))
     where
-      by_two : (two : Bool) → ((false && not earlier.late) || (two && (false && not earlier.late)) || false || false) ≡ false
+      by_two : (two : Bool) → ((false && not earlier.late) || (two && (false && not earlier.late)) || false || false || false) ≡ false
       by_two true = refl
       by_two false = refl
 

@@ -1,8 +1,8 @@
 -- What items spell is read again.
-use Rattle.std.proofs.Common.{◌≡◌, ℕ, zero, suc, ◌+◌, ◌^◌, ◌<◌, ◌≤◌, Bool, true, false, not, nat_lt, ◌&&◌, List, [], ◌∷◌, ◌++◌, length, Ok, None, refl, ap, ◌∙◌, append_assoc, arith, length-append}
+use Rattle.std.proofs.Common.{◌≡◌, ℕ, zero, suc, ◌+◌, ◌^◌, ◌<◌, ◌≤◌, Bool, true, false, not, nat_lt, ◌&&◌, List, [], ◌∷◌, ◌++◌, length, Ok, None, refl, sym, ap, subst, inl, inr, ◌∙◌, append_assoc, arith, length-append}
 use Rattle.std.specs.Int.{w16, w32, to_be_bytes}
 use Rattle.std.proofs.lemmas.Bool.{ltb-true}
-use Rattle.tod_stamp.specs.Fields.{Left, any}
+use Rattle.tod_stamp.specs.Fields.{Left, any, is_version}
 use Rattle.tod_stamp.proofs.FieldLaws.{at_place, wide16, wide32, number_again, bytes_again}
 use Rattle.ckd_track.specs.declared.rec.Rec.{Rec}
 use Rattle.ckd_track.specs.declared.write.Kind.{Kind}
@@ -11,13 +11,14 @@ use Rattle.ckd_track.specs.Entries.{delta_spelling, changes_part}
 use Rattle.ckd_track.specs.Tracks.{is_track}
 use Rattle.ckd_track.specs.Images.{image}
 use Rattle.pair_table.specs.declared.row.PairRow.{PairRow}
-use Rattle.pair_table.specs.Rows.{is_row, row_spelling}
-use Rattle.pair_table.proofs.RowsAgain.{rows_back}
-use Rattle.xrc_journal.specs.Items.{Item, Form, Earlier, none_earlier, earlier_after, may_draw, is_item, are_items_after, item_spelling, body_spelling, AreItems}
+use Rattle.pair_table.specs.Rows.{is_version_row, row_length, row_text}
+use Rattle.pair_table.proofs.Versions.{text_length, version_back}
+use Rattle.xrc_journal.specs.Items.{Item, Form, Earlier, none_earlier, earlier_after, may_draw, is_item, are_items_after, item_spelling, body_spelling, pair_tag, AreItems}
 use Rattle.xrc_journal.specs.Items.Item.{Image, Delta, Pair, Gone}
 use Rattle.xrc_journal.specs.Reading.{Items, track_at, image_item_at, delta_item_at, pair_item_at, gone_item_at, is_tag, item_at, items_from, items_at}
 use Rattle.xrc_journal.proofs.Changes.{changes_again}
-use Rattle.xrc_journal.proofs.Fields.{both_true, byte_again, image_back, spelled_length}
+use Rattle.tod_stamp.proofs.Versions.{one_or_two}
+use Rattle.xrc_journal.proofs.Fields.{both_true, byte_again, image_back}
 use Rattle.std.specs.Prelude.{IsTrue}
 
 -- what an image's item keeps
@@ -76,11 +77,11 @@ delta_fields form place device track kind rest device_fits track_fits has part i
     let three = changes_again (place + 2 + 4) kind rest part is in
     rw (one, two, three) refl
 
-pair_fields : (place : ℕ) (row : PairRow) (rest : List ℕ) → is_row row ≡ true → pair_item_at (at_place place (row_spelling row ++ rest)) ≡ Ok (Pair row, at_place (place + 30) rest)
+pair_fields : (version place : ℕ) (row : PairRow) (rest : List ℕ) → is_version_row version row ≡ true → pair_item_at version (at_place place (row_text version row ++ rest)) ≡ Ok (Pair version row, at_place (place + row_length version) rest)
 unfolding pair_item_at
-pair_fields place row rest is =
-    let one = bytes_again 30 any place (row_spelling row) rest (spelled_length row is) refl in
-    let two = rows_back row is in
+pair_fields version place row rest is =
+    let one = bytes_again (row_length version) any place (row_text version row) rest (text_length version row is) refl in
+    let two = version_back version row is in
     rw (one, two) refl
 
 gone_fields : (place device : ℕ) (rest : List ℕ) → device < 2 ^ 16 → gone_item_at (at_place place (to_be_bytes w16 device ++ rest)) ≡ Ok (Gone device, at_place (place + 2) rest)
@@ -105,9 +106,19 @@ delta_tagged : (form : Form) (earlier : Earlier) (place : ℕ) (fields : List �
 unfolding item_at
 delta_tagged form earlier place fields allowed = rw (byte_again (is_tag form.deltas earlier.late) place 2 fields (tag_delta form.deltas earlier.late allowed)) refl
 
-pair_tagged : (form : Form) (earlier : Earlier) (place : ℕ) (fields : List ℕ) → item_at form earlier (at_place place (3 ∷ fields)) ≡ pair_item_at (at_place (place + 1) fields)
+narrow_tagged : (form : Form) (earlier : Earlier) (place : ℕ) (fields : List ℕ) → item_at form earlier (at_place place (3 ∷ fields)) ≡ pair_item_at 1 (at_place (place + 1) fields)
 unfolding item_at
-pair_tagged form earlier place fields = rw (byte_again (is_tag form.deltas earlier.late) place 3 fields refl) refl
+narrow_tagged form earlier place fields = rw (byte_again (is_tag form.deltas earlier.late) place 3 fields refl) refl
+
+wide_tagged : (form : Form) (earlier : Earlier) (place : ℕ) (fields : List ℕ) → item_at form earlier (at_place place (5 ∷ fields)) ≡ pair_item_at 2 (at_place (place + 1) fields)
+unfolding item_at
+wide_tagged form earlier place fields = rw (byte_again (is_tag form.deltas earlier.late) place 5 fields refl) refl
+
+pair_tagged : (version : ℕ) (form : Form) (earlier : Earlier) (place : ℕ) (fields : List ℕ) → is_version version ≡ true → item_at form earlier (at_place place (pair_tag version ∷ fields)) ≡ pair_item_at version (at_place (place + 1) fields)
+pair_tagged version form earlier place fields known = elim (one_or_two version known) [
+  | inl one ↦ subst (λ v. item_at form earlier (at_place place (pair_tag v ∷ fields)) ≡ pair_item_at v (at_place (place + 1) fields)) (sym one) (narrow_tagged form earlier place fields)
+  | inr two ↦ subst (λ v. item_at form earlier (at_place place (pair_tag v ∷ fields)) ≡ pair_item_at v (at_place (place + 1) fields)) (sym two) (wide_tagged form earlier place fields)
+]
 
 gone_tagged : (form : Form) (earlier : Earlier) (place : ℕ) (fields : List ℕ) → item_at form earlier (at_place place (4 ∷ fields)) ≡ gone_item_at (at_place (place + 1) fields)
 unfolding item_at
@@ -132,8 +143,10 @@ items_again form earlier place (Delta device track kind) rest is =
     ∙ ap (λ (t : List ℕ). delta_item_at form (at_place (place + 1) t)) (three_parts (to_be_bytes w16 device) (to_be_bytes w32 track) (delta_spelling kind) rest)
     ∙ delta_fields form (place + 1) device track kind rest rules.device_fits rules.track_fits rules.has_slot rules.part rules.is
     ∙ ap (λ n. Ok (Delta device track kind, at_place n rest)) (omega (arith, length-append front (delta_spelling kind)))
-items_again form earlier place (Pair row) rest is =
-    pair_tagged form earlier place (row_spelling row ++ rest) ∙ pair_fields (place + 1) row rest is ∙ ap (λ n. Ok (Pair row, at_place n rest)) (omega (arith, spelled_length row is))
+items_again form earlier place (Pair version row) rest is =
+    let parts = both_true (is_version version) (is_version_row version row) is in
+    pair_tagged version form earlier place (row_text version row ++ rest) parts.0 ∙ pair_fields version (place + 1) row rest parts.1
+    ∙ ap (λ n. Ok (Pair version row, at_place n rest)) (omega (arith, text_length version row parts.1))
 items_again form earlier place (Gone device) rest is =
     gone_tagged form earlier place (to_be_bytes w16 device ++ rest) ∙ gone_fields (place + 1) device rest (ltb-true device (2 ^ 16) is) ∙ ap (λ n. Ok (Gone device, at_place n rest)) (omega arith)
 
@@ -148,7 +161,7 @@ first_is turns form earlier left item next some is = grind (arith, some, is)
 pub some_bytes : (item : Item) → 1 ≤ length (item_spelling item)
 some_bytes (Image device track recs) = omega arith
 some_bytes (Delta device track kind) = omega arith
-some_bytes (Pair row) = omega arith
+some_bytes (Pair version row) = omega arith
 some_bytes (Gone device) = omega arith
 
 pub body_again : (turns : ℕ) (form : Form) (earlier : Earlier) (place : ℕ) (items : List Item) → are_items_after form earlier items ≡ true → length (body_spelling items) ≤ turns

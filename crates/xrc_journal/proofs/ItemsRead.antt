@@ -2,15 +2,15 @@
 use Rattle.std.proofs.Common.{◌≡◌, ◌≢◌, ℕ, zero, suc, ◌+◌, ◌^◌, ◌<◌, ◌≤◌, Bool, true, false, not, cond, nat_eq, nat_lt, ◌&&◌, ◌||◌, List, [], ◌∷◌, ◌++◌, length, Some, None, IsTrue, Result, Ok, Err, refl, sym, ap, subst, ◌∙◌, append_assoc, arith, length-append}
 use Rattle.std.specs.Int.{w8, w16, w32, to_be_bytes}
 use Rattle.std.proofs.lemmas.Bool.{lt-ltb, eqb-true}
-use Rattle.tod_stamp.specs.Fields.{◌>>=◌, IsBytes, Left, Bad, bytes_at, number_at, any}
+use Rattle.tod_stamp.specs.Fields.{◌>>=◌, IsBytes, Left, Bad, bytes_at, number_at, any, is_version}
 use Rattle.tod_stamp.proofs.FieldLaws.{bind_ok, Takes, Takes-then, wide8, wide16, wide32, number_takes, bytes_takes}
 use Rattle.ckd_track.specs.Effects.{is_kind}
 use Rattle.ckd_track.specs.Entries.{delta_spelling, changes_part}
 use Rattle.ckd_track.specs.Tracks.{is_track}
 use Rattle.ckd_track.specs.Images.{image}
-use Rattle.pair_table.specs.Rows.{row_at}
-use Rattle.pair_table.proofs.RowReads.{rows_keep, rows_spelled}
-use Rattle.xrc_journal.specs.Items.{AreItems, Item, Form, Earlier, none_earlier, earlier_after, earlier_after_all, may_draw, is_item, are_items_after, item_spelling, body_spelling}
+use Rattle.pair_table.specs.Rows.{is_version_row, row_by, row_length}
+use Rattle.pair_table.proofs.Versions.{version_keeps, version_spelled}
+use Rattle.xrc_journal.specs.Items.{AreItems, Item, Form, Earlier, none_earlier, earlier_after, earlier_after_all, may_draw, is_item, are_items_after, item_spelling, body_spelling, pair_tag}
 use Rattle.xrc_journal.specs.Items.Item.{Image, Delta, Pair, Gone}
 use Rattle.xrc_journal.specs.Deltas.{change_at}
 use Rattle.xrc_journal.specs.Reading.{Items, track_at, body_image_field, row_or, image_item_at, delta_item_at, pair_item_at, gone_item_at, is_tag, item_at, no_items, first_and_rest, items_from, items_at}
@@ -78,17 +78,18 @@ module _ (form : Form) (earlier : Earlier) (start left : Left) (item : Item) (ne
             allowed (lt-ltb one.0.0.0 (2 ^ 16) at.device_fits) (lt-ltb one.0.0.1 (2 ^ 32) at.track_fits) at.kept (and_true (changes_part two.0.0) (is_kind two.0.0) kind.part kind.kept);
       })
 
-  pair_taken : Takes start (3 ∷ []) left → pair_item_at left ≡ Ok (item, next) → ItemTaken form earlier start item next
+  pair_taken : (version : ℕ) → is_version version ≡ true → Takes start (pair_tag version ∷ []) left → pair_item_at version left ≡ Ok (item, next) → ItemTaken form earlier start item next
   unfolding pair_item_at
-  pair_taken tag e =
-      let one = bind_ok (bytes_at 30 any left) (λ t. row_or left (row_at t.0) >>= (λ r. Ok (Pair r, t.1))) (item, next) e in
-      let text = bytes_takes 30 any left one.0.0 one.0.1 tag.rest_bytes one.1 in
-      let two = bind_ok (row_or left (row_at one.0.0)) (λ r. Ok (Pair r, one.0.1)) (item, next) one.2 in
-      let is = row_given left (row_at one.0.0) two.0 two.1 in
+  pair_taken version known tag e =
+      let long = row_length version in
+      let one = bind_ok (bytes_at long any left) (λ t. row_or left (row_by version t.0) >>= (λ r. Ok (Pair version r, t.1))) (item, next) e in
+      let text = bytes_takes long any left one.0.0 one.0.1 tag.rest_bytes one.1 in
+      let two = bind_ok (row_or left (row_by version one.0.0)) (λ r. Ok (Pair version r, one.0.1)) (item, next) one.2 in
+      let is = row_given left (row_by version one.0.0) two.0 two.1 in
       let bytes : IsBytes one.0.0 = front_bytes left one.0.0 one.0.1 tag.rest_bytes text.0 in
-      subst (λ (p : Item × Left). ItemTaken form earlier start p.0 p.1) (given_is (Pair two.0, one.0.1) (item, next) two.2) (record {
-        takes = subst (λ (t : List ℕ). Takes start (3 ∷ t) one.0.1) (rows_spelled one.0.0 two.0 bytes is) (Takes-then start (3 ∷ []) left one.0.0 one.0.1 tag text.0);
-        kept = rows_keep one.0.0 two.0 bytes is;
+      subst (λ (p : Item × Left). ItemTaken form earlier start p.0 p.1) (given_is (Pair version two.0, one.0.1) (item, next) two.2) (record {
+        takes = subst (λ (t : List ℕ). Takes start (pair_tag version ∷ t) one.0.1) (version_spelled version one.0.0 two.0 bytes is) (Takes-then start (pair_tag version ∷ []) left one.0.0 one.0.1 tag text.0);
+        kept = and_true (is_version version) (is_version_row version two.0) known (version_keeps version one.0.0 two.0 bytes is);
       })
     where
       front_bytes : (left : Left) (text : List ℕ) (next : Left) → IsBytes left.bytes → Takes left text next → IsBytes text
@@ -111,44 +112,48 @@ module _ (deltas late : Bool) (tag : ℕ) (is : is_tag deltas late tag ≡ true)
   tag_early : nat_eq tag 1 ≡ true → not late ≡ true
   tag_early one = by_tests (not late) (deltas && not late) (ap (λ (t : ℕ). is_tag deltas late t) (sym (eqb-true tag 1 one)) ∙ is)
     where
-      by_tests : (early changed : Bool) → ((true && early) || (false && changed) || false || false) ≡ true → early ≡ true
+      by_tests : (early changed : Bool) → ((true && early) || (false && changed) || false || false || false) ≡ true → early ≡ true
       by_tests true changed e = refl
       by_tests false changed e = absurd cc
 
   tag_delta : nat_eq tag 2 ≡ true → (deltas && not late) ≡ true
   tag_delta two = by_tests (not late) (deltas && not late) (ap (λ (t : ℕ). is_tag deltas late t) (sym (eqb-true tag 2 two)) ∙ is)
     where
-      by_tests : (early changed : Bool) → ((false && early) || (true && changed) || false || false) ≡ true → changed ≡ true
+      by_tests : (early changed : Bool) → ((false && early) || (true && changed) || false || false || false) ≡ true → changed ≡ true
       by_tests early true e = refl
       by_tests early false e = absurd cc
 
-  tag_gone : nat_eq tag 1 ≡ false → nat_eq tag 2 ≡ false → nat_eq tag 3 ≡ false → tag ≡ 4
-  tag_gone one two three = eqb-true tag 4 (by_tests (not late) (deltas && not late) (nat_eq tag 1) (nat_eq tag 2) (nat_eq tag 3) (nat_eq tag 4) is one two three)
+  tag_gone : nat_eq tag 1 ≡ false → nat_eq tag 2 ≡ false → nat_eq tag 3 ≡ false → nat_eq tag 5 ≡ false → tag ≡ 4
+  tag_gone one two three five = eqb-true tag 4 (by_tests (not late) (deltas && not late) (nat_eq tag 1) (nat_eq tag 2) (nat_eq tag 3) (nat_eq tag 4) (nat_eq tag 5) is one two three five)
     where
-      by_tests : (early changed one two three four : Bool) → ((one && early) || (two && changed) || three || four) ≡ true → one ≡ false → two ≡ false → three ≡ false → four ≡ true
-      by_tests early changed false false false four e f g h = e
-      by_tests early changed true two three four e f g h = absurd cc
-      by_tests early changed false true three four e f g h = absurd cc
-      by_tests early changed false false true four e f g h = absurd cc
+      by_tests : (early changed one two three four five : Bool) → ((one && early) || (two && changed) || three || four || five) ≡ true → one ≡ false → two ≡ false → three ≡ false → five ≡ false → four ≡ true
+      by_tests early changed false false false true five e f g h k = refl
+      by_tests early changed false false false false true e f g h k = absurd cc
+      by_tests early changed false false false false false e f g h k = absurd cc
+      by_tests early changed true two three four five e f g h k = absurd cc
+      by_tests early changed false true three four five e f g h k = absurd cc
+      by_tests early changed false false true four five e f g h k = absurd cc
 
 pub item_takes : (form : Form) (earlier : Earlier) (left : Left) (item : Item) (next : Left) → IsBytes left.bytes → item_at form earlier left ≡ Ok (item, next) → ItemTaken form earlier left item next
 unfolding item_at
 item_takes form earlier left item next fits e =
     let one = bind_ok (number_at w8 (is_tag form.deltas earlier.late) left)
-    (λ t. cond (nat_eq t.0 1) (image_item_at form earlier t.1) (cond (nat_eq t.0 2) (delta_item_at form t.1) (cond (nat_eq t.0 3) (pair_item_at t.1) (gone_item_at t.1)))) (item, next) e in
+    (λ t. cond (nat_eq t.0 1) (image_item_at form earlier t.1) (cond (nat_eq t.0 2) (delta_item_at form t.1) (cond (nat_eq t.0 3) (pair_item_at 1 t.1) (cond (nat_eq t.0 5) (pair_item_at 2 t.1) (gone_item_at t.1))))) (item, next) e in
     let tag = number_takes w8 (2 ^ 8) wide8 (is_tag form.deltas earlier.late) left one.0.0 one.0.1 fits one.1 in
-    choose one.0.0 one.0.1 (nat_eq one.0.0 1) (nat_eq one.0.0 2) (nat_eq one.0.0 3) refl refl refl tag.kept (subst (λ (t : List ℕ). Takes left t one.0.1) (one_byte one.0.0 tag.fits) tag.takes) one.2
+    choose one.0.0 one.0.1 (nat_eq one.0.0 1) (nat_eq one.0.0 2) (nat_eq one.0.0 3) (nat_eq one.0.0 5) refl refl refl refl tag.kept (subst (λ (t : List ℕ). Takes left t one.0.1) (one_byte one.0.0 tag.fits) tag.takes) one.2
   where
-    choose : (tag : ℕ) (after : Left) (one two three : Bool) → nat_eq tag 1 ≡ one → nat_eq tag 2 ≡ two → nat_eq tag 3 ≡ three → is_tag form.deltas earlier.late tag ≡ true → Takes left (tag ∷ []) after
-        → cond one (image_item_at form earlier after) (cond two (delta_item_at form after) (cond three (pair_item_at after) (gone_item_at after))) ≡ Ok (item, next) → ItemTaken form earlier left item next
-    choose tag after true two three is other another kept head e =
+    choose : (tag : ℕ) (after : Left) (one two three five : Bool) → nat_eq tag 1 ≡ one → nat_eq tag 2 ≡ two → nat_eq tag 3 ≡ three → nat_eq tag 5 ≡ five → is_tag form.deltas earlier.late tag ≡ true → Takes left (tag ∷ []) after
+        → cond one (image_item_at form earlier after) (cond two (delta_item_at form after) (cond three (pair_item_at 1 after) (cond five (pair_item_at 2 after) (gone_item_at after)))) ≡ Ok (item, next) → ItemTaken form earlier left item next
+    choose tag after true two three five is other another further kept head e =
         image_taken form earlier left after item next (tag_early form.deltas earlier.late tag kept is) (subst (λ k. Takes left (k ∷ []) after) (eqb-true tag 1 is) head) e
-    choose tag after false true three other is another kept head e =
+    choose tag after false true three five other is another further kept head e =
         delta_taken form earlier left after item next (tag_delta form.deltas earlier.late tag kept is) (subst (λ k. Takes left (k ∷ []) after) (eqb-true tag 2 is) head) e
-    choose tag after false false true other another is kept head e =
-        pair_taken form earlier left after item next (subst (λ k. Takes left (k ∷ []) after) (eqb-true tag 3 is) head) e
-    choose tag after false false false one two three kept head e =
-        gone_taken form earlier left after item next (subst (λ k. Takes left (k ∷ []) after) (tag_gone form.deltas earlier.late tag kept one two three) head) e
+    choose tag after false false true five other another is further kept head e =
+        pair_taken form earlier left after item next 1 refl (subst (λ k. Takes left (k ∷ []) after) (eqb-true tag 3 is) head) e
+    choose tag after false false false true other another further is kept head e =
+        pair_taken form earlier left after item next 2 refl (subst (λ k. Takes left (k ∷ []) after) (eqb-true tag 5 is) head) e
+    choose tag after false false false false one two three five kept head e =
+        gone_taken form earlier left after item next (subst (λ k. Takes left (k ∷ []) after) (tag_gone form.deltas earlier.late tag kept one two three five) head) e
 
 -- ---- bodies
 

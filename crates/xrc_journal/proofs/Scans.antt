@@ -1,5 +1,5 @@
 -- Going over the items of a body in search of a track's image.
-use Rattle.std.proofs.Common.{◌≡◌, ◌≢◌, ℕ, ◌+◌, ◌-◌, ◌≤◌, Bool, true, false, ◌||◌, List, [], ◌∷◌, ◌++◌, length, take, drop, slice_index, Result, Ok, Err, refl, sym, ap, ◌∙◌, append_assoc, append-nil, arith, length-append, length-drop}
+use Rattle.std.proofs.Common.{◌≡◌, ◌≢◌, ◌⊎◌, inl, inr, cond, nat_eq, ℕ, ◌+◌, ◌-◌, ◌≤◌, Bool, true, false, ◌||◌, List, [], ◌∷◌, ◌++◌, length, take, drop, slice_index, Result, Ok, Err, refl, sym, ap, ◌∙◌, append_assoc, append-nil, arith, length-append, length-drop}
 use Rattle.std.specs.Int.{w16, w32, to_be_bytes}
 use Rattle.std.proofs.lemmas.List.{drop_at, take_all}
 use Rattle.ckd_track.specs.declared.rec.Rec.{Rec}
@@ -7,7 +7,7 @@ use Rattle.ckd_track.specs.declared.fault.ImageError.{ImageError}
 use Rattle.ckd_track.specs.Images.{image, image_at, longest_image}
 use Rattle.ckd_track.proofs.ImageLaws.{image_again}
 use Rattle.ckd_track.proofs.Parts.{length-image}
-use Rattle.xrc_journal.specs.Items.{Item, Earlier, none_earlier, earlier_after, earlier_after_all, anywhere, is_drawn, is_item, are_items_after, item_spelling, body_spelling}
+use Rattle.xrc_journal.specs.Items.{Item, Earlier, none_earlier, earlier_after, earlier_after_all, anywhere, is_drawn, is_item, are_items_after, item_spelling, body_spelling, pair_tag}
 use Rattle.xrc_journal.specs.Items.Item.{Image, Delta, Pair, Gone}
 use Rattle.xrc_journal.specs.Bodies.{items_of, have_image, IsBody, BeginsWith, BeginsWithItem, draws}
 use Rattle.xrc_journal.proofs.Fields.{both_true}
@@ -19,14 +19,29 @@ use Rattle.xrc_journal.proofs.ItemsAgain.{image_rules, some_bytes}
 abbrev pub tag_of : Item → ℕ
 tag_of (Image device track recs) = 1
 tag_of (Delta device track kind) = 2
-tag_of (Pair row) = 3
+tag_of (Pair version row) = pair_tag version
 tag_of (Gone device) = 4
 
 pub tag_is : (bytes : List ℕ) (item : Item) → BeginsWith bytes item → slice_index bytes 0 ≡ tag_of item
 tag_is bytes (Image device track recs) b = ap (λ (l : List ℕ). slice_index l 0) b.parts
 tag_is bytes (Delta device track kind) b = ap (λ (l : List ℕ). slice_index l 0) b.parts
-tag_is bytes (Pair row) b = ap (λ (l : List ℕ). slice_index l 0) b.parts
+tag_is bytes (Pair version row) b = ap (λ (l : List ℕ). slice_index l 0) b.parts
 tag_is bytes (Gone device) b = ap (λ (l : List ℕ). slice_index l 0) b.parts
+
+-- A pair has one of two tags.
+pub tag_split : (version : ℕ) → (pair_tag version ≡ 3) ⊎ (pair_tag version ≡ 5)
+tag_split version = by (nat_eq version 1)
+  where
+    by : (narrow : Bool) → (let tag : ℕ = cond narrow 3 5 in (tag ≡ 3) ⊎ (tag ≡ 5))
+    by true = inl refl
+    by false = inr refl
+
+-- Those of images and changes are below them.
+pub tag_high : (version : ℕ) → 3 ≤ pair_tag version
+tag_high version = elim (tag_split version) [
+  | inl three ↦ omega (arith, three)
+  | inr five ↦ omega (arith, five)
+]
 
 -- an image's item at the front
 pub record ImageFirst (bytes : List ℕ) (item : Item) : Type 0 where
@@ -51,7 +66,7 @@ image_first bytes (Image device track recs) tag b =
       short = length-image recs rules.are;
     }
 image_first bytes (Delta device track kind) tag b = absurd (omega (arith, tag, tag_is bytes (Delta device track kind) b))
-image_first bytes (Pair row) tag b = absurd (omega (arith, tag, tag_is bytes (Pair row) b))
+image_first bytes (Pair version row) tag b = absurd (omega (arith, tag, tag_is bytes (Pair version row) b, tag_high version))
 image_first bytes (Gone device) tag b = absurd (omega (arith, tag, tag_is bytes (Gone device) b))
 
 read_is : (a b : List Rec × List ℕ) → (let x : Result (List Rec × List ℕ) ImageError = Ok a in let y : Result (List Rec × List ℕ) ImageError = Ok b in x ≡ y) → a ≡ b
@@ -78,7 +93,7 @@ after_push (i ∷ items) item earlier = after_push items item (earlier_after i e
 drawn_by : (item : Item) (earlier : Earlier) (device track : ℕ) → is_drawn (earlier_after item earlier).drawn device track ≡ (draws device track item || is_drawn earlier.drawn device track)
 drawn_by (Image d x recs) earlier device track = refl
 drawn_by (Delta d x kind) earlier device track = refl
-drawn_by (Pair row) earlier device track = refl
+drawn_by (Pair version row) earlier device track = refl
 drawn_by (Gone d) earlier device track = refl
 
 or_true : (a b : Bool) → b ≡ true → (a || b) ≡ true

@@ -81,7 +81,7 @@ pub record BeginsWith (bytes : List ℕ) (item : Item) : Type 0 where
 abbrev pub draws : (device track : ℕ) → Item → Bool
 draws device track (Image d x recs) = d == device && x == track
 draws device track (Delta d x kind) = false
-draws device track (Pair row) = false
+draws device track (Pair version row) = false
 draws device track (Gone d) = false
 
 -- what the items of a body say to those after them

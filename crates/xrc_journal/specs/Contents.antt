@@ -10,7 +10,7 @@ use Rattle.xrc_journal.specs.Items.Item.{Image, Delta, Pair, Gone}
 abbrev pub is_of_track : (device track : ℕ) → Item → Bool
 is_of_track device track (Image d x recs) = d == device && x == track
 is_of_track device track (Delta d x kind) = d == device && x == track
-is_of_track device track (Pair row) = false
+is_of_track device track (Pair version row) = false
 is_of_track device track (Gone d) = false
 
 -- Some item is of this track of the device.
@@ -21,7 +21,7 @@ HasItem device track items = IsTrue (list_any (is_of_track device track) items)
 abbrev pub content_by : (device track : ℕ) → Option (List Rec) → Item → Option (List Rec)
 content_by device track old (Image d x recs) = if d == device && x == track then Some recs else old
 content_by device track old (Delta d x kind) = if d == device && x == track then Some (apply (unwrap_or old []) kind) else old
-content_by device track old (Pair row) = old
+content_by device track old (Pair version row) = old
 content_by device track old (Gone d) = old
 
 -- what items in turn leave of it

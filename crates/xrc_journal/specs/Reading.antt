@@ -1,13 +1,12 @@
 -- Reading the items of a group one after another, up to the first that breaks its rules.
 use Rattle.std.specs.Prelude.{ℕ, zero, suc, ◌==◌, ◌&&◌, ◌||◌, not, List, [], ◌∷◌, length, Bool, Option, Some, None, Result, Ok, Err, if◌then◌else◌}
-use Rattle.pair_table.specs.declared.limits.TheConstants.{ROW_LENGTH}
 use Rattle.std.specs.Int.{w8, w16, w32}
 use Rattle.tod_stamp.specs.Fields.{◌>>=◌, Left, Bad, bytes_at, number_at, any}
 use Rattle.tod_stamp.specs.Fields.Bad.{Broken}
 use Rattle.ckd_track.specs.declared.rec.Rec.{Rec}
 use Rattle.ckd_track.specs.Images.{image_at}
 use Rattle.pair_table.specs.declared.row.PairRow.{PairRow}
-use Rattle.pair_table.specs.Rows.{row_at}
+use Rattle.pair_table.specs.Rows.{row_by, row_length}
 use Rattle.xrc_journal.specs.Items.{Item, Form, Earlier, none_earlier, earlier_after, may_draw}
 use Rattle.xrc_journal.specs.Deltas.{as_body_field, change_at}
 use Rattle.xrc_journal.specs.Items.Item.{Image, Delta, Pair, Gone}
@@ -42,27 +41,28 @@ delta_item_at form left = do
   kind ← change_at at.1
   Ok (Delta at.0.0 at.0.1 kind.0, kind.1)
 
-unfoldable pub pair_item_at : Left → Result (Item × Left) Bad
-pair_item_at left = do
-  text ← bytes_at ROW_LENGTH any left
-  row ← row_or left (row_at text.0)
-  Ok (Pair row, text.1)
+unfoldable pub pair_item_at : (version : ℕ) → Left → Result (Item × Left) Bad
+pair_item_at version left = do
+  text ← bytes_at (row_length version) any left
+  row ← row_or left (row_by version text.0)
+  Ok (Pair version row, text.1)
 
 unfoldable pub gone_item_at : Left → Result (Item × Left) Bad
 gone_item_at left = do
   device ← number_at w16 any left
   Ok (Gone device.0, device.1)
 
--- 1 is the tag of an image, 2 that of a change, 3 that of a pair and 4 that of a device whose row goes.
+-- 1 is the tag of an image, 2 that of a change, 3 and 5 those of a pair in version 1 and in version 2, and 4 that of a device whose row goes.
 abbrev pub is_tag : (deltas late : Bool) → ℕ → Bool
-is_tag deltas late tag = (tag == 1 && not late) || (tag == 2 && (deltas && not late)) || tag == 3 || tag == 4
+is_tag deltas late tag = (tag == 1 && not late) || (tag == 2 && (deltas && not late)) || tag == 3 || tag == 4 || tag == 5
 
 unfoldable pub item_at : Form → Earlier → Left → Result (Item × Left) Bad
 item_at form earlier left = do
   tag ← number_at w8 (is_tag form.deltas earlier.late) left
   if tag.0 == 1 then image_item_at form earlier tag.1
       else if tag.0 == 2 then delta_item_at form tag.1
-      else if tag.0 == 3 then pair_item_at tag.1
+      else if tag.0 == 3 then pair_item_at 1 tag.1
+      else if tag.0 == 5 then pair_item_at 2 tag.1
       else gone_item_at tag.1
 
 -- ---- the items of a body

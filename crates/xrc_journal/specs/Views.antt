@@ -5,11 +5,11 @@ use Rattle.xrc_journal.specs.declared.reading.BodyItem.TheVariants.{Image as Ima
 use Rattle.xrc_journal.specs.Items.{Item, Earlier, anywhere, are_items_after, item_spelling, body_spelling}
 use Rattle.xrc_journal.specs.Items.Item.{Image, Delta, Pair, Gone}
 
--- What is told of an item. A change, which no body has yet, would be told as its track.
+-- What is told of an item. A row is told alike in both versions. A change, which no body has yet, would be told as its track.
 abbrev pub told : Item → BodyItem
 told (Image device track recs) = ImageTold device track
 told (Delta device track kind) = ImageTold device track
-told (Pair row) = PairTold row
+told (Pair version row) = PairTold row
 told (Gone device) = GoneTold device
 
 -- The bytes are items that keep the rules, whatever items stand before them.

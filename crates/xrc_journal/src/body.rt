@@ -122,13 +122,13 @@ impl Body {
         self.put(&image_front(device, track), slot.bytes());
     }
 
-    /// Puts a pair's row.
+    /// Puts a pair's row, in version 2.
     pub fn put_row(&mut self, row: &PairRow)
-        requires fits { FitsInRoom self.old (Pair row.now) }
+        requires fits { FitsInRoom self.old (Pair 2 row.now) }
         requires rules { IsTrue (keeps_row_rules row.now) }
-        ensures { self.new ≡ with_item (Pair row.now) self.old }
+        ensures { self.new ≡ with_item (Pair 2 row.now) self.old }
     {
-        self.put(&[3], &encode_row(row));
+        self.put(&[5], &encode_row(row));
     }
 
     /// Puts that a device's row goes.

@@ -5,7 +5,7 @@ ghost use Rattle.xrc_journal.specs.Items.{Item, item_spelling};
 ghost use Rattle.xrc_journal.specs.Bodies.{BeginsWith, BeginsWithItem, IsBody, draws, earlier_of, have_image, items_of};
 ghost use Rattle.xrc_journal.specs.Drawn.{AreDrawn};
 
-use crate::layout::{IMAGE_FRONT, ROW_ITEM};
+use crate::layout::{IMAGE_FRONT, NARROW_ROW_ITEM, ROW_ITEM};
 use byteorder::{BigEndian, ByteOrder};
 use std::alloc::Global;
 use std::collections::BTreeSet;
@@ -28,7 +28,8 @@ fn first_length(bytes: &[u8]) -> usize
             Ok(length) => IMAGE_FRONT + length,
             Err(_) => unreachable!(),
         },
-        3 => ROW_ITEM,
+        3 => NARROW_ROW_ITEM,
+        5 => ROW_ITEM,
         _ => 3,
     }
 }

@@ -2,6 +2,7 @@
 
 ghost use Rattle.std.specs.Prelude.{◌≡◌, ◌≤◌, ◌+◌, ◌∷◌, ℕ, length, IfSome, IsTrue};
 ghost use Rattle.crash_plant.specs.Calls.{NoneLent};
+ghost use Rattle.pair_table.specs.Rows.{row_length};
 ghost use Rattle.xrc_journal.specs.Items.{Item, earlier_after, form_of, is_within, may_draw};
 ghost use Rattle.xrc_journal.specs.Reading.{gone_item_at, image_item_at, item_at, pair_item_at};
 ghost use Rattle.xrc_journal.specs.Bodies.{BeginsWith, GoodFront, IsBody, are_late, earlier_of, items_of};
@@ -9,11 +10,11 @@ ghost use Rattle.xrc_journal.specs.Drawn.{AreDrawn, device_and_track};
 ghost use Rattle.xrc_journal.specs.Answers.{length_of};
 
 use crate::drawn::DrawnTracks;
-use crate::layout::{IMAGE_FRONT, ROW_ITEM, TRACK};
+use crate::layout::{IMAGE_FRONT, NARROW_ROW_ITEM, ROW_ITEM, TRACK};
 use byteorder::{BigEndian, ByteOrder};
 use ckd_track::{SLOT_LENGTH, slot_place};
 use crash_plant::{Device, Plant};
-use pair_table::{ROW_LENGTH, decode_row};
+use pair_table::{decode_row_of, row_length};
 use std::alloc::Global;
 
 /// Whether a device of that length has the whole slot of a track.
@@ -31,17 +32,27 @@ pub(crate) fn has_slot<P: Plant>(plant: &P, device: u16, track: u32) -> bool
     device < plant.volumes() && is_within(plant.length(Device::Volume(device)), track)
 }
 
-/// The length of a pair's item with these fields after its tag.
-pub(crate) fn pair_length(fields: &[u8]) -> Option<usize>
-    ensures { (place : ℕ) → result ≡ length_of (pair_item_at (record { place = place; bytes = fields.now })) }
+/// The bytes of an item of a row of a version.
+pub(crate) fn row_item(version: u8) -> usize
+    ensures { result ≡ 1 + row_length version }
 {
-    if fields.len() < ROW_LENGTH {
+    if version == 1 {
+        NARROW_ROW_ITEM
+    } else {
+        ROW_ITEM
+    }
+}
+
+/// The length of a pair's item of a version with these fields after its tag.
+pub(crate) fn pair_length(version: u8, fields: &[u8]) -> Option<usize>
+    ensures { (place : ℕ) → result ≡ length_of (pair_item_at version (record { place = place; bytes = fields.now })) }
+{
+    let length = row_length(version);
+    if fields.len() < length {
         return None;
     }
-    let mut bytes = [0; ROW_LENGTH];
-    bytes.copy_from_slice(&fields[..ROW_LENGTH]);
-    match decode_row(&bytes) {
-        Some(_) => Some(ROW_ITEM),
+    match decode_row_of(version, &fields[..length]) {
+        Some(_) => Some(row_item(version)),
         None => None,
     }
 }
@@ -118,8 +129,9 @@ pub(crate) fn item_length<P: Plant>(
     match tag[0] {
         1 if late => None,
         1 => image_length(plant, drawn, body, fields),
-        3 => pair_length(fields),
+        3 => pair_length(1, fields),
         4 => gone_length(fields),
+        5 => pair_length(2, fields),
         _ => None,
     }
 }

@@ -2,7 +2,7 @@
 
 use ckd_track::BLOCKS_OF_QUEUE;
 use crash_plant::{FRONT, HEADER, SWITCH};
-use pair_table::ROW_LENGTH;
+use pair_table::{NARROW_ROW_LENGTH, ROW_LENGTH};
 use xrc_edge::{BLOCK, MOST_CONTROLS};
 
 /// The bytes of a device and a track of it.
@@ -13,6 +13,9 @@ pub const IMAGE_FRONT: usize = 1 + TRACK;
 
 /// The bytes of a row's item.
 pub const ROW_ITEM: usize = 1 + ROW_LENGTH;
+
+/// The bytes of an item of a row of version 1.
+pub const NARROW_ROW_ITEM: usize = 1 + NARROW_ROW_LENGTH;
 
 /// The bytes of a gate and a header, and the room that is kept after a group for a switch.
 pub const AROUND: u64 = FRONT + SWITCH;

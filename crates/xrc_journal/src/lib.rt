@@ -22,7 +22,9 @@ pub use journal::{AppendError, Journal};
 pub use laws::{
     groups_are_walked, walks_are_one, walks_enter_sets_in_turn, walks_grow_at_their_end,
 };
-pub use layout::{AROUND, BESIDE_CONTROLS, IMAGE_FRONT, MOST_BODY, OF_CONTROL, ROW_ITEM};
+pub use layout::{
+    AROUND, BESIDE_CONTROLS, IMAGE_FRONT, MOST_BODY, NARROW_ROW_ITEM, OF_CONTROL, ROW_ITEM,
+};
 pub use lengths::journal_length;
 pub use reading::{BodyItem, first_item};
 pub use spot::{WalkError, Walked, walk};

@@ -1,23 +1,25 @@
 //! The items of a body one after another, for those who go over them.
 
 ghost use Rattle.std.specs.Prelude.{◌≡◌, ◌≢◌, ℕ, List, length, slice_index, IsTrue};
-ghost use Rattle.xrc_journal.specs.Items.{Item, Earlier, anywhere, are_items_after, item_spelling, body_spelling};
+ghost use Rattle.tod_stamp.specs.Fields.{is_version};
+ghost use Rattle.xrc_journal.specs.Items.{Item, Earlier, anywhere, are_items_after, item_spelling, body_spelling, pair_tag};
 ghost use Rattle.pair_table.specs.declared.row.PairRow.{PairRow as RowValue};
 ghost use Rattle.xrc_journal.specs.Items.Item.{Gone, Pair};
 ghost use Rattle.xrc_journal.specs.Bodies.{BeginsWith, BeginsWithItem};
 ghost use Rattle.xrc_journal.specs.Views.{AreItemBytes, told, first_told};
 
-use crate::layout::{IMAGE_FRONT, ROW_ITEM};
+use crate::item::row_item;
+use crate::layout::{IMAGE_FRONT, NARROW_ROW_ITEM, ROW_ITEM};
 use byteorder::{BigEndian, ByteOrder};
 use ckd_track::image_length;
-use pair_table::{PairRow, ROW_LENGTH, decode_row};
+use pair_table::{PairRow, decode_row_of};
 
 /// An item of a body. The image of a track stands in the bytes after `IMAGE_FRONT`, up to the item's end.
 #[derive(Clone, Copy, Debug, PartialEq, Eq)]
 pub enum BodyItem {
     /// A whole track of a device.
     Image { device: u16, track: u32 },
-    /// A pair's row.
+    /// A pair's row, in either version.
     Pair(PairRow),
     /// A device whose row goes.
     Gone { device: u16 },
@@ -37,15 +39,14 @@ fn image(bytes: &[u8]) -> (BodyItem, usize)
     }
 }
 
-/// The pair that the bytes begin with.
-fn pair(bytes: &[u8]) -> PairRow
+/// The pair of a version that the bytes begin with.
+fn pair(version: u8, bytes: &[u8]) -> PairRow
     requires item { BeginsWithItem bytes.now }
-    requires tag { slice_index bytes.now 0 ≡ 3 }
-    ensures { (row : RowValue) → BeginsWith bytes.now (Pair row) → result ≡ row }
+    requires version { IsTrue (is_version version) }
+    requires tag { slice_index bytes.now 0 ≡ pair_tag version }
+    ensures { (row : RowValue) → BeginsWith bytes.now (Pair version row) → result ≡ row }
 {
-    let mut row = [0; ROW_LENGTH];
-    row.copy_from_slice(&bytes[1..ROW_ITEM]);
-    match decode_row(&row) {
+    match decode_row_of(version, &bytes[1..row_item(version)]) {
         Some(row) => row,
         None => unreachable!(),
     }
@@ -55,7 +56,8 @@ fn pair(bytes: &[u8]) -> PairRow
 fn gone(bytes: &[u8]) -> u16
     requires item { BeginsWithItem bytes.now }
     requires image { slice_index bytes.now 0 ≢ 1 }
-    requires pair { slice_index bytes.now 0 ≢ 3 }
+    requires narrow { slice_index bytes.now 0 ≢ 3 }
+    requires pair { slice_index bytes.now 0 ≢ 5 }
     ensures { (device : ℕ) → BeginsWith bytes.now (Gone device) → result ≡ device }
 {
     BigEndian::read_u16(&bytes[1..3])
@@ -71,7 +73,8 @@ pub fn first_item(bytes: &[u8]) -> Option<(BodyItem, usize)>
     }
     match bytes[0] {
         1 => Some(image(bytes)),
-        3 => Some((BodyItem::Pair(pair(bytes)), ROW_ITEM)),
+        3 => Some((BodyItem::Pair(pair(1, bytes)), NARROW_ROW_ITEM)),
+        5 => Some((BodyItem::Pair(pair(2, bytes)), ROW_ITEM)),
         _ => Some((
             BodyItem::Gone {
                 device: gone(bytes),

@@ -1,5 +1,5 @@
 -- The ends of a copy: at a site of other numbers, at an error, where a pair lacks a target, and with its report.
-use Rattle.std.proofs.Common.{◌≡◌, ◌≢◌, ◌≤◌, ◌+◌, ◌*◌, ◌++◌, ◌∷◌, [], inl, inr, ℕ, suc, Bool, true, false, not, cond, List, Some, Result, Ok, Err, OnOk, refl, sym, ◌∙◌, ap, subst, arith}
+use Rattle.std.proofs.Common.{◌≡◌, ◌≢◌, ◌⊎◌, ◌≤◌, ◌+◌, ◌*◌, ◌++◌, ◌∷◌, [], inl, inr, ℕ, suc, Bool, true, false, not, cond, List, Some, Result, Ok, Err, OnOk, refl, sym, ◌∙◌, ap, subst, arith}
 use Rattle.std.specs.Prelude.{IfOk, IsErrOf, filter, map, slice_get}
 use Rattle.std.proofs.lemmas.Bool.{cases_lt}
 use Rattle.xrc_edge.specs.Causes.{Rose}
@@ -14,10 +14,11 @@ use Rattle.site_means.specs.declared.means.Means.{Means}
 use Rattle.site_means.specs.declared.site_error.SiteError.TheVariants.{Fault, TooSmall as TooSmallError}
 use Rattle.site_means.specs.Answers.{IsStore, first_short, need}
 use Rattle.site_means.specs.Sight.{meant_by, walked}
+use Rattle.site_means.proofs.ReadAll.{reads_none}
 use Rattle.third_copy.specs.declared.copy_error.CopyError.{CopyError}
 use Rattle.third_copy.specs.declared.copy_error.CopyError.TheVariants.{NoTarget as NoTargetError, Recover}
 use Rattle.third_copy.specs.declared.outcome.CopyOutcome.{CopyOutcome}
-use Rattle.third_copy.specs.Answers.{AreFaultyPairs, ArePairsCopied, CopiesSite, CountsPairs, IsCopyCalledFor, IsEarlyCopy, KeepsCopied, SeesSameRows, TellsCopyLasting}
+use Rattle.third_copy.specs.Answers.{AreFaultyPairs, ArePairsCopied, CopiesSite, CountsPairs, IsCopyCalledFor, IsEarlyCopy, IsRedoneOrFailed, KeepsCopied, SeesSameRows, TellsCopyLasting}
 use Rattle.copy_progress.specs.Copies.{done}
 use Rattle.third_copy.specs.Pairs.{claim_of, IsCopied, IsPair, NeedsNone, NoneIsWithout, HasCountRisen}
 use Rattle.third_copy.specs.Targets.{IsWithoutTarget, target_of}
@@ -29,7 +30,9 @@ use Rattle.xrecover.specs.declared.labelling.Labelling.TheVariants.{AsItIs}
 use Rattle.xrecover.specs.declared.recover_error.RecoverError.{RecoverError}
 use Rattle.xrecover.specs.declared.recover_error.RecoverError.TheVariants.{Site}
 use Rattle.xrecover.specs.Answers.{IsRecoverable, TellsFaults}
+use Rattle.xrecover.specs.Labels.{KeepsLabels}
 use Rattle.xrecover.specs.Pairs.{duplex_devices}
+use Rattle.xrecover.proofs.Labels.{treats_read}
 use Rattle.xrecover.specs.RedoneVolumes.{IsRedone, meant_rows}
 use Rattle.xrecover.specs.Sights.{MeansAsRead}
 use Rattle.xrecover.specs.Works.{Nothing, Works}
@@ -43,7 +46,7 @@ use Rattle.xrc_recovery.specs.Recoveries.{StopLasts}
 use Rattle.xrc_recovery.specs.Reports.{Changes}
 use Rattle.xrc_recovery.specs.Stops.{CallsFor, HasFailure, HasLines, HasRisen, IsSite, StopsEarly, stop_of}
 use Rattle.xrc_recovery.specs.Texts.{copied_text}
-use Rattle.xrc_recovery.proofs.Changing.{changes_of, changes_then, follow_then, nothing_here, now_then, says_after}
+use Rattle.xrc_recovery.proofs.Changing.{changes_of, changes_then, follow_then, nothing_here, now_then, says_after, treats_console}
 use Rattle.xrc_recovery.proofs.Ending.{error_lasts, last_of_lines, late_lines, lines_of_site}
 use Rattle.xrc_recovery.proofs.Stopping.{calls_for, has_risen, is_early, not_console, not_site, not_volume, only_memory}
 
@@ -79,7 +82,11 @@ counts_then rows shift before now after same counts = record {
 
 needs_then : (rows : List PairRow) (shift : ℕ) (a b c : PlantState) (r : PairRow) → ((d : Device) → c.faults d ≡ b.faults d) → NeedsNone a b rows shift r → NeedsNone a c rows shift r
 needs_then rows shift a b c r same (inl some) = inl some
-needs_then rows shift a b c r same (inr risen) = inr (subst (λ (n : ℕ). HasCountRisen (a.faults (Volume (target_of shift r))) n) (sym (same (Volume (target_of shift r)))) risen)
+needs_then rows shift a b c r same (inr unread) = inr (record {
+  there = unread.there;
+  free = unread.free;
+  risen = subst (λ (n : ℕ). HasCountRisen (a.faults (Volume (target_of shift r))) n) (sym (same (Volume (target_of shift r)))) unread.risen;
+})
 
 pub none_then : (rows : List PairRow) (shift : ℕ) (a b c : PlantState) → ((d : Device) → c.faults d ≡ b.faults d) → NoneIsWithout a b rows shift → NoneIsWithout a c rows shift
 none_then rows shift a b c same none n r at duplex = needs_then rows shift a b c r same (none n r at duplex)
@@ -100,6 +107,17 @@ lacks_then a b c session shift device same lacks =
         before = λ n r before at duplex. needs_then lacks.means.table.rows shift a b c r same (f.before n r before at duplex);
       };
     }
+
+-- A volume that is redone, or failed, is so later, too.
+pub redone_then : (tells : Type 0) (told : tells) (a b c : PlantState) (r : PairRow) → Stays (on b (Volume r.device)) (on c (Volume r.device)) → b.clock ≤ c.clock → ((d : Device) → c.faults d ≡ b.faults d) → IsRedoneOrFailed a b r → IsRedoneOrFailed a c r
+redone_then tells told a b c r stays later same (inl is) = inl (redone_still tells told AsItIs r (walked a a.bytes) a b c stays.bytes (λ z left. stays.images c.clock later (omega arith) z left) is)
+redone_then tells told a b c r stays later same (inr rose) = inr (subst (λ (n : ℕ). Rose (a.faults (Volume r.device)) n) (sym (same (Volume r.device))) rose)
+
+-- From a later moment on a crash leaves of it what reads give in the end.
+pub lasting_then : (a b c : PlantState) (r : PairRow) → Stays (on b (Volume r.device)) (on c (Volume r.device)) → ((d : Device) → c.faults d ≡ b.faults d) → IsRedoneOrFailed a b r
+    → (t : ℕ) → b.clock ≤ t → t ≤ c.clock → ((z : List ℕ) → c.images t (Volume r.device) z → z ≡ c.bytes (Volume r.device)) ⊎ Rose (a.faults (Volume r.device)) (c.faults (Volume r.device))
+lasting_then a b c r stays same (inl is) t late to = inl (λ z left. let start = stays.images t late to z left in start.2 ∙ is.durable start.0 start.1 ∙ sym stays.bytes)
+lasting_then a b c r stays same (inr rose) t late to = inr (subst (λ (n : ℕ). Rose (a.faults (Volume r.device)) n) (sym (same (Volume r.device))) rose)
 
 -- All that is done is copied, at every moment.
 pub keeps_changes : (tells : Type 0) (told : tells) (shift : ℕ) (a b : PlantState) → Changes tells (CopiesSite a shift) a b → KeepsCopied shift a b
@@ -169,6 +187,7 @@ copy_at_site tells session shift a other =
       console_once = omega arith;
       volumes = λ told. still_counts (meant_rows a a.bytes) shift a.faults a.faults (λ v. refl);
       changes = changes;
+      labels = λ told. treats_read tells told AsItIs (meant_rows a a.bytes) (walked a a.bytes) a a (reads_none tells a);
       progress = λ told. keeps_changes tells told shift a a changes;
       moments = λ told. unwritten_moments tells told a a (nothing_here tells a);
       lasts = λ told. tt;
@@ -185,6 +204,7 @@ pub record CopyGave (tells : Type 0) (session : List ℕ) (shift : ℕ) (a b : P
   pub counts : tells → CountsPairs (meant_rows a a.bytes) shift a.faults b.faults
   pub copied : tells → IfOk r (λ o. ArePairsCopied shift a b o)
   pub works : Works tells (CopiesSite a shift) a b
+  pub labels : tells → KeepsLabels a b
   pub moments : tells → AllFollow (SeesSameRows a) a b
   pub lasts : tells → TellsCopyLasting tells a b r
   pub unwritten : (e : CopyError) → IsErrOf r e → IsEarlyCopy e → Works tells Nothing a b
@@ -213,6 +233,7 @@ module _ (tells : Type 0) (session : List ℕ) (shift : ℕ) (a b : PlantState) 
         console_once = omega (arith, k.works.console_faults);
         volumes = k.counts;
         changes = changes;
+        labels = k.labels;
         progress = λ told. keeps_changes tells told shift a b changes;
         moments = k.moments;
         lasts = λ told. subst (λ (s : Stop). StopLasts tells a b s) (sym is) (error_lasts CopyOutcome tells a b e (λ volume. not_volume {X = CopyOutcome} a session good e (k.ok told) volume) (k.lasts told));
@@ -240,6 +261,7 @@ copy_at_target tells session shift a b device site k =
       console_once = omega (arith, k.works.console_faults);
       volumes = k.counts;
       changes = changes;
+      labels = k.labels;
       progress = λ told. keeps_changes tells told shift a b changes;
       moments = k.moments;
       lasts = k.lasts;
@@ -262,9 +284,11 @@ pub record CopyTold (tells : Type 0) (session : List ℕ) (shift : ℕ) (a b c :
   pub targets : tells → NoneIsWithout a b means.table.rows shift
   pub faulty : AreFaultyPairs means.table.rows shift a.faults b.faults copied failed
   pub are_copied : tells → (r : PairRow) → IsPair means.table.rows r → is_among r.device copied ≡ true → IsCopied means shift b r × IsRedone AsItIs r (walked a a.bytes) a b
+  pub redone : tells → (r : PairRow) → IsPair means.table.rows r → IsRedoneOrFailed a b r
   pub counts : (d : Device) → IsStore d → b.faults d ≡ a.faults d
   pub volumes : tells → CountsPairs (meant_rows a a.bytes) shift a.faults b.faults
   pub works : Works tells (CopiesSite a shift) a b
+  pub labels : tells → KeepsLabels a b
   pub moments : tells → AllFollow (SeesSameRows a) a b
   pub lasts : tells → AtNow (MeansAsRead a) b
   pub ok : OnOk r (failed ≡ [])
@@ -307,6 +331,11 @@ module _ (tells : Type 0) (session : List ℕ) (shift : ℕ) (a b c : PlantState
               let start = (devices v).images t late to z left in
               start.2 ∙ (k.are_copied told p pair is).0.durable start.0 start.1 ∙ sym (devices v).bytes
         ];
+        redone = λ p pair. redone_then tells told a b c p (devices (Volume p.device)) later o.faults (k.redone told p pair);
+        redone_before = λ t from to differs p pair. elim (cases_lt t b.clock) [
+          | inl early ↦ absurd (differs ((o.elapses told).said t (omega (arith, early)) (omega (arith, early)) ∙ (k.works.silent told).said t from (omega (arith, early))))
+          | inr late ↦ lasting_then a b c p (devices (Volume p.device)) o.faults (k.redone told p pair) t late to
+        ];
       }
 
   says_copies : (r : Result (Unit {0}) CopyStop) → CopyTold tells session shift a b c means copied failed r → tells → SaysCopies session shift failed a c
@@ -342,6 +371,7 @@ module _ (tells : Type 0) (session : List ℕ) (shift : ℕ) (a b c : PlantState
     console_once = omega (arith, k.by_one, k.works.console_faults);
     volumes = λ told. counts_then (meant_rows a a.bytes) shift a.faults b.faults c.faults k.front.only.faults (k.volumes told);
     changes = changes (Ok v) k;
+    labels = λ told. treats_console AsItIs tells (meant_rows a a.bytes) (walked a a.bytes) a b c told ((k.works.elapses told).kept Control).later (k.labels told) k.front.only;
     progress = λ told. keeps_changes tells told shift a c (changes (Ok v) k);
     moments = λ told. follow_then (SeesSameRows a) tells a b c told ((k.works.elapses told).kept Control).later (k.moments told) k.front.only;
     lasts = λ told. now_then (MeansAsRead a) tells b c told (k.lasts told) k.front.only;
@@ -374,6 +404,7 @@ module _ (tells : Type 0) (session : List ℕ) (shift : ℕ) (a b c : PlantState
       console_once = omega (arith, k.by_one, k.works.console_faults);
       volumes = λ told. counts_then (meant_rows a a.bytes) shift a.faults b.faults c.faults k.front.only.faults (k.volumes told);
       changes = changes (Err (Stopped stop)) k;
+      labels = λ told. treats_console AsItIs tells (meant_rows a a.bytes) (walked a a.bytes) a b c told ((k.works.elapses told).kept Control).later (k.labels told) k.front.only;
       progress = λ told. keeps_changes tells told shift a c (changes (Err (Stopped stop)) k);
       moments = λ told. follow_then (SeesSameRows a) tells a b c told ((k.works.elapses told).kept Control).later (k.moments told) k.front.only;
       lasts = λ told. last_of_lines tells a c stop s.lines (now_then (MeansAsRead a) tells b c told (k.lasts told) k.front.only);

@@ -13,6 +13,7 @@ use Rattle.xrecover.specs.declared.labelling.Labelling.TheVariants.{AsItIs}
 use Rattle.xrecover.specs.RedoneVolumes.{meant_rows}
 use Rattle.xrecover.specs.Sights.{ChoosesAsRead, MeansAsRead}
 use Rattle.xrecover.specs.Works.{Nothing}
+use Rattle.xrc_edge.specs.Causes.{Rose}
 use Rattle.xrc_status.specs.declared.stop.Stop.{Stop}
 use Rattle.xrc_status.specs.declared.stop.Stop.TheVariants.{NoMemory, BadWords, ConsoleFault, BadLine, JournalFault, ControlFault, StateFault, BadHeader, HeaderFault, NoSession, OtherSession, Damaged, VolumeFault, TooSmall, BadSite, Spent}
 use Rattle.xrc_status.specs.Saying.{SaysLast}
@@ -23,8 +24,8 @@ use Rattle.xrc_recovery.specs.Copies.{CopiesPairs, CopiesSession, EndsCopy, Says
 use Rattle.xrc_recovery.specs.Statuses.{EndsSo, ends_recovery, tells_meaning}
 use Rattle.xrc_recovery.specs.Stops.{fault_of}
 use Rattle.xrc_recovery.specs.Texts.{no_target_line, no_target_status}
-use Rattle.xrc_recovery.proofs.Changing.{changes_more, changes_of, follow_then, now_then}
-use Rattle.xrc_recovery.proofs.CopyEnds.{copied_stays, counts_then, faulty_pairs_then, keeps_changes, lacks_then, none_then}
+use Rattle.xrc_recovery.proofs.Changing.{changes_more, changes_of, follow_then, now_then, treats_console}
+use Rattle.xrc_recovery.proofs.CopyEnds.{copied_stays, counts_then, faulty_pairs_then, keeps_changes, lacks_then, lasting_then, none_then, redone_then}
 use Rattle.xrc_recovery.proofs.Lasting.{console_calls, is_console, is_early_stop, is_known, is_site, is_volume, late_lasts, meaning_lasts, none_before, not_done, other_lasts, risen_still, says_last_alone, says_then_last, small_lasts}
 
 -- ---- statuses
@@ -88,6 +89,16 @@ module _ (tells : Type 0) (session : List ℕ) (shift : ℕ) (line : List ℕ) (
                   let start = (devices v).images t late to z left in
                   start.2 ∙ (pairs.are_copied r pair is).0.durable start.0 start.1 ∙ sym (devices v).bytes
             ];
+        redone = λ r pair. redone_then tells told a b c r (devices (Volume r.device)) later o.faults (pairs.redone r pair);
+        redone_before = λ t from to differs r pair.
+            let v = Volume r.device in
+            elim (cases_lt t b.clock) [
+              | inl early ↦ elim (pairs.redone_before t from (omega (arith, early)) (λ same. differs (past.said t (omega (arith, early)) (omega (arith, early)) ∙ same)) r pair) [
+                | inl is ↦ inl (λ z left. is z ((past.kept v).same t (omega (arith, early)) (omega (arith, early)) z left) ∙ sym (devices v).bytes)
+                | inr rose ↦ inr (subst (λ (n : ℕ). Rose (a.faults v) n) (sym (o.faults v)) rose)
+              ]
+              | inr late ↦ lasting_then a b c r (devices v) o.faults (pairs.redone r pair) t late to
+            ];
       }
 
   pub copies_then : (failed : List ℕ) → a.clock ≤ b.clock → a.console_faults ≤ b.console_faults → SaysCopiesWhole session shift failed a b → SaysCopiesThen session shift failed line a c
@@ -117,6 +128,7 @@ copy_done tells session shift a b v e = record {
   console_once = e.console_once;
   volumes = e.volumes;
   changes = e.changes;
+  labels = e.labels;
   progress = e.progress;
   moments = e.moments;
   lasts = λ told is. e.lasts told;
@@ -169,6 +181,7 @@ module _ (tells : Type 0) (session : List ℕ) (shift : ℕ) (a b c : PlantState
         console_once = console_calls a b c stop last.console_once (λ no. e.console_count (λ is. no (let same : stop ≡ ConsoleFault = cc in same))) e.console_once (λ is. ap (λ (s : PlantState). s.console_faults) (quiet is));
         volumes = λ told. counts_then (meant_rows a a.bytes) shift a.faults b.faults c.faults o.faults (e.volumes told);
         changes = changes;
+        labels = λ told. treats_console AsItIs tells (meant_rows a a.bytes) (walked a a.bytes) a b c told ((e.changes.elapses told).kept Control).later (e.labels told) o;
         progress = λ told. keeps_changes tells told shift a c changes;
         moments = λ told. follow_then (SeesSameRows a) tells a b c told ((e.changes.elapses told).kept Control).later (e.moments told) o;
         lasts = λ told is. now_then (MeansAsRead a) tells b c told (meaning_lasts tells a b stop (e.lasts told) (only_left (tells_meaning (status_of stop)) (status_of stop == no_target_status) (ne_eqb (status_of stop) no_target_status (not_target stop)) is)) o;
@@ -208,6 +221,7 @@ copy_without tells session shift a b c device e last =
       console_once = omega (arith, last.console_once, e.console_count (λ is. cc));
       volumes = λ told. counts_then (meant_rows a a.bytes) shift a.faults b.faults c.faults o.faults (e.volumes told);
       changes = changes;
+      labels = λ told. treats_console AsItIs tells (meant_rows a a.bytes) (walked a a.bytes) a b c told ((e.changes.elapses told).kept Control).later (e.labels told) o;
       progress = λ told. keeps_changes tells told shift a c changes;
       moments = λ told. follow_then (SeesSameRows a) tells a b c told ((e.changes.elapses told).kept Control).later (e.moments told) o;
       lasts = λ told is. now_then (MeansAsRead a) tells b c told (e.lasts told) o;

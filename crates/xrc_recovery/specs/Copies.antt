@@ -12,14 +12,16 @@ use Rattle.site_means.specs.Answers.{IsStore, first_short, need}
 use Rattle.site_means.specs.Sight.{walked}
 use Rattle.third_copy.specs.declared.copy_error.CopyError.{CopyError}
 use Rattle.third_copy.specs.declared.copy_error.CopyError.TheVariants.{NoTarget as NoTargetError, Recover}
-use Rattle.third_copy.specs.Answers.{AreFaultyPairs, CopiesSite, CountsPairs, KeepsCopied, SeesSameRows}
+use Rattle.third_copy.specs.Answers.{AreFaultyPairs, CopiesSite, CountsPairs, IsRedoneOrFailed, KeepsCopied, SeesSameRows}
 use Rattle.third_copy.specs.Pairs.{IsCopied, IsFirstWithout, IsPair, NoneIsWithout}
 use Rattle.third_copy.specs.Targets.{IsWithoutTarget, target_of}
 use Rattle.xrecover.specs.declared.labelling.Labelling.TheVariants.{AsItIs}
 use Rattle.xrecover.specs.Answers.{IsRecoverable}
+use Rattle.xrecover.specs.Labels.{KeepsLabels}
 use Rattle.xrecover.specs.RedoneVolumes.{IsRedone, meant_rows}
 use Rattle.xrecover.specs.Sights.{ChoosesAsRead, MeansAsRead}
 use Rattle.xrecover.specs.Works.{Nothing, Works}
+use Rattle.xrc_edge.specs.Causes.{Rose}
 use Rattle.xrc_status.specs.declared.stop.Stop.TheVariants.{BadSite, ConsoleFault, NoMemory, TooSmall, VolumeFault}
 use Rattle.xrc_status.specs.Saying.{SaidWhole}
 use Rattle.xrc_status.specs.Stops.{last_line, status_of}
@@ -51,8 +53,14 @@ abbrev pub IsCopiedBefore : List PairRow → (shift : ℕ) → (copied : List �
 IsCopiedBefore rows shift copied old new = (t : ℕ) → old.clock ≤ t → t ≤ new.clock → new.said t ≢ old.said old.clock
     → (r : PairRow) → IsPair rows r → is_among r.device copied ≡ true → (c : List ℕ) → new.images t (Volume (target_of shift r)) c → c ≡ new.bytes (Volume (target_of shift r))
 
+-- From that moment on a crash leaves of each pair's volume, too, what reads give at the end, but where the volume's own count rose.
+abbrev pub IsRedoneBefore : List PairRow → (old new : PlantState) → Type 0
+IsRedoneBefore rows old new = (t : ℕ) → old.clock ≤ t → t ≤ new.clock → new.said t ≢ old.said old.clock
+    → (r : PairRow) → IsPair rows r → ((c : List ℕ) → new.images t (Volume r.device) c → c ≡ new.bytes (Volume r.device)) ⊎ Rose (old.faults (Volume r.device)) (new.faults (Volume r.device))
+
 -- The duplex pairs were copied but those of these devices, of which the volume or the target failed, by its count, before anything was said. No pair
--- lacks a target. A pair that is copied has all its tracks on its target, in every image, and its volume is redone.
+-- lacks a target. A pair that is copied has all its tracks on its target, in every image, and its volume is redone. Of each other pair the volume is
+-- redone, too, or its own count rose.
 pub record CopiesPairs (session : List ℕ) (shift : ℕ) (failed : List ℕ) (old new : PlantState) : Type 0 where
   pub means : Means
   pub is_meant : IsRecoverable old session means
@@ -61,6 +69,8 @@ pub record CopiesPairs (session : List ℕ) (shift : ℕ) (failed : List ℕ) (o
   pub faulty : AreFaultyPairs means.table.rows shift old.faults new.faults copied failed
   pub are_copied : (r : PairRow) → IsPair means.table.rows r → is_among r.device copied ≡ true → IsCopied means shift new r × IsRedone AsItIs r (walked old old.bytes) old new
   pub copied_before : IsCopiedBefore means.table.rows shift copied old new
+  pub redone : (r : PairRow) → IsPair means.table.rows r → IsRedoneOrFailed old new r
+  pub redone_before : IsRedoneBefore means.table.rows old new
 
 -- what is to be said of it
 abbrev pub copies_of : (session : List ℕ) (shift : ℕ) (failed : List ℕ) {old new : PlantState} → CopiesPairs session shift failed old new → List ℕ
@@ -135,6 +145,7 @@ pub record CopiesSession (tells : Type 0) (session : List ℕ) (shift : ℕ) (ol
   pub console_once : new.console_faults ≤ old.console_faults + 1
   pub volumes : tells → CountsPairs (meant_rows old old.bytes) shift old.faults new.faults
   pub changes : Changes tells (CopiesSite old shift) old new
+  pub labels : tells → KeepsLabels old new
   pub progress : tells → KeepsCopied shift old new
   pub moments : tells → AllFollow (SeesSameRows old) old new
   pub lasts : tells → CopyLasts tells old new result
@@ -176,9 +187,10 @@ pub record EndsCopy (tells : Type 0) (session : List ℕ) (shift : ℕ) (old new
   pub console_once : new.console_faults ≤ old.console_faults + 1
   -- A volume is left at its first fault. No other volume is called than those of duplex pairs and their targets.
   pub volumes : tells → CountsPairs (meant_rows old old.bytes) shift old.faults new.faults
-  -- At every moment only what a redo may change of the pairs' volumes, and a copy of targets, differs. All that is done on a target begins with the
+  -- At every moment only what a redo may change of the pairs' volumes, and a copy of targets, differs, and each label stays. All that is done on a target begins with the
   -- images of the pair's content, if it did in each image when the copy began. A crash leaves what means the same, with the same tracks of rows.
   pub changes : Changes tells (CopiesSite old shift) old new
+  pub labels : tells → KeepsLabels old new
   pub progress : tells → KeepsCopied shift old new
   pub moments : tells → AllFollow (SeesSameRows old) old new
   -- What a status tells of the devices is so of whatever a crash leaves now, so that a later copy tells the same. At a journal's fault nothing was

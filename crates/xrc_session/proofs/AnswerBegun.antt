@@ -20,12 +20,11 @@ use Rattle.pair_table.specs.declared.command.Refusal.TheVariants.{ControlBroken,
 use Rattle.pair_table.specs.declared.names.NamedDevice.{NamedDevice}
 use Rattle.pair_table.specs.declared.names.NamedVolume.{NamedVolume}
 use Rattle.pair_table.specs.declared.row.PairRow.{PairRow}
-use Rattle.pair_table.specs.declared.row.PairState.TheVariants.{Pending}
 use Rattle.pair_table.specs.Commands.{PrimariesAreNamed, add_to, added, change_of, has_named_primary, is_volume_of, new_row, new_row_for, rows_after}
 use Rattle.pair_table.specs.Naming.{Naming, are_alike, is_broken, labelled_device, none_alike, primary_of}
 use Rattle.pair_table.specs.Refusals.{is_of_primary, refuses_command, refuses_found, refuses_label, refuses_new, refuses_primary, row_of_primary}
-use Rattle.pair_table.specs.Tables.{are_below, changed_row, in_state, is_of, none_clash, row_of}
-use Rattle.pair_table.proofs.StateLaws.{state_of_primary}
+use Rattle.pair_table.specs.Tables.{are_below, is_of, none_clash, resumed_in, row_changed, row_of}
+use Rattle.pair_table.proofs.StateLaws.{changed_of_primary}
 use Rattle.group_state.specs.Groups.{Group}
 use Rattle.consistency.specs.Stages.{primaries_named, tracks_of_row, volumes_named}
 use Rattle.mover.proofs.Pairs.{Among, among_of, contains_of}
@@ -97,26 +96,26 @@ module _ (names : Naming) (apart : none_alike names.primaries ≡ true) where
     unbroken_of : (p : List ℕ) (v : NamedVolume) → primary_of p names ≡ Some v → is_broken v.control names ≡ false → (r : PairRow) → r.primary ≡ p → has_named_primary names r ≡ true → is_broken r.control names ≡ false
     unbroken_of p v found whole r of named = ap (λ (k : ℕ). is_broken k names) (control_named p v r found of named) ∙ whole
 
-    module _ (p s : List ℕ) (v : NamedVolume) (found : primary_of p names ≡ Some v) (whole : is_broken v.control names ≡ false) where
-      resumed_whole : (x : PairRow) → row_of_primary p rows ≡ Some x → Unbroken (Resumed x.device) (map (λ o. cond (is_of_primary x.primary o) (in_state Pending o) o) rows)
+    module _ (p s : List ℕ) (group : Option (List ℕ)) (v : NamedVolume) (found : primary_of p names ≡ Some v) (whole : is_broken v.control names ≡ false) where
+      resumed_whole : (x : PairRow) → row_of_primary p rows ≡ Some x → Unbroken (Resumed x.device) (map (λ o. cond (is_of_primary x.primary o) (resumed_in group o) o) rows)
       resumed_whole x is r there begun named =
           let there_x = found_in (is_of_primary p) rows x is in
-          let back = map_back (changed_row x.device Pending) r rows (subst (Among r) (sym (state_of_primary p Pending rows x clear is)) there) in
+          let back = map_back (row_changed x.device (resumed_in group)) r rows (subst (Among r) (sym (changed_of_primary p (resumed_in group) rows x clear is)) there) in
           let device : x.device ≡ back.0.device = eqb-true x.device r.device begun ∙ ap (λ (o : PairRow). o.device) (sym back.2) ∙ by_device (is_of x.device back.0) back.0 in
           let same : x ≡ back.0 = one_of_device x back.0 rows clear there_x back.1 device in
           let primary : r.primary ≡ x.primary = ap (λ (o : PairRow). o.primary) (sym back.2) ∙ by_primary (is_of x.device back.0) back.0 ∙ ap (λ (o : PairRow). o.primary) (sym same) in
           unbroken_of p v found whole r (primary ∙ same_bytes x.primary p (passes_when_found (is_of_primary p) x rows is)) named
         where
-          by_device : (b : Bool) (o : PairRow) → (let y : PairRow = cond b (in_state Pending o) o in y.device) ≡ o.device
+          by_device : (b : Bool) (o : PairRow) → (let y : PairRow = cond b (resumed_in group o) o in y.device) ≡ o.device
           by_device true o = refl
           by_device false o = refl
 
-          by_primary : (b : Bool) (o : PairRow) → (let y : PairRow = cond b (in_state Pending o) o in y.primary) ≡ o.primary
+          by_primary : (b : Bool) (o : PairRow) → (let y : PairRow = cond b (resumed_in group o) o in y.primary) ≡ o.primary
           by_primary true o = refl
           by_primary false o = refl
 
-      added_whole : (l : NamedDevice) → refuses_new rows v l ≡ None → Unbroken (Added l.device) (rows ++ new_row s v l ∷ [])
-      added_whole l own r there begun named = elim (among_either r (new_row s v l) rows there) [
+      added_whole : (l : NamedDevice) → refuses_new rows v l ≡ None → Unbroken (Added l.device) (rows ++ new_row s group v l ∷ [])
+      added_whole l own r there begun named = elim (among_either r (new_row s group v l) rows there) [
         | inl before ↦ absurd (true≢false (sym (any_of (is_of l.device) r rows (contains_of r rows before) begun) ∙ unused (list_any (is_of l.device) rows) own))
         | inr same ↦ unbroken_of p v found whole r (ap (λ (o : PairRow). o.primary) (sym same) ∙ same_bytes v.serial p (passes_when_found (λ w. bytes_eq w.serial p) v names.primaries found)) named
       ]
@@ -125,16 +124,16 @@ module _ (names : Naming) (apart : none_alike names.primaries ≡ true) where
           unused true own = absurd cc
           unused false own = refl
 
-    pair_whole : (p s : List ℕ) → refuses_primary p s names rows (primary_of p names) ≡ None → Unbroken (change_of names (AddPair p s) rows) (rows_after names time (AddPair p s) rows)
-    pair_whole p s own = by_volume (primary_of p names) refl own
+    pair_whole : (p s : List ℕ) (group : Option (List ℕ)) → refuses_primary p s names rows (primary_of p names) ≡ None → Unbroken (change_of names (AddPair p s group) rows) (rows_after names time (AddPair p s group) rows)
+    pair_whole p s group own = by_volume (primary_of p names) refl own
       where
         RowsBy : Option PairRow → Option NamedVolume → Option NamedDevice → Type 0
-        RowsBy o v l = Unbroken (added o l) (add_to rows o (new_row_for s v l))
+        RowsBy o v l = Unbroken (added o l) (add_to group rows o (new_row_for s group v l))
 
         by_found : (v : NamedVolume) → primary_of p names ≡ Some v → is_broken v.control names ≡ false → (o : Option PairRow) → row_of_primary p rows ≡ o → (l : Option NamedDevice) → refuses_label p s rows v l ≡ None → RowsBy o (Some v) l
         by_found v found whole None none None own = absurd cc
-        by_found v found whole None none (Some l) own = added_whole p s v found whole l (ap (refuses_found s rows v l) (sym none) ∙ own)
-        by_found v found whole (Some x) is l own = resumed_whole p s v found whole x is
+        by_found v found whole None none (Some l) own = added_whole p s group v found whole l (ap (refuses_found s rows v l) (sym none) ∙ own)
+        by_found v found whole (Some x) is l own = resumed_whole p s group v found whole x is
 
         by_broken : (v : NamedVolume) → primary_of p names ≡ Some v → (b : Bool) → is_broken v.control names ≡ b → cond b (Some (ControlBroken v.control)) (refuses_label p s rows v (labelled_device s names)) ≡ None
             → RowsBy (row_of_primary p rows) (Some v) (labelled_device s names)
@@ -147,7 +146,7 @@ module _ (names : Naming) (apart : none_alike names.primaries ≡ true) where
 
     whole_by : (command : Command) → refuses_command names rows command ≡ None → Unbroken (change_of names command rows) (rows_after names time command rows)
     whole_by (Start level) own r there begun named = absurd (true≢false (sym begun))
-    whole_by (AddPair p s) own r there begun named = pair_whole p s own r there begun named
+    whole_by (AddPair p s group) own r there begun named = pair_whole p s group own r there begun named
     whole_by (DelPair choice) own r there begun named = absurd (true≢false (sym begun))
     whole_by (Suspend choice) own r there begun named = absurd (true≢false (sym begun))
     whole_by Query own r there begun named = absurd (true≢false (sym begun))

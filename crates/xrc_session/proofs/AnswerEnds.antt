@@ -38,7 +38,7 @@ use Rattle.xrc_session.proofs.AnswerWorks.{suspends_then}
 
 change_ends : (names : Naming) (command : Command) (rows : List PairRow) → is_end_accepted (Ok (change_of names command rows)) ≡ is_end command
 change_ends names (Start level) rows = refl
-change_ends names (AddPair primary secondary) rows = by_rows (row_of_primary primary rows) (labelled_device secondary names)
+change_ends names (AddPair primary secondary group) rows = by_rows (row_of_primary primary rows) (labelled_device secondary names)
   where
     by_rows : (o : Option PairRow) (l : Option NamedDevice) → is_end_accepted (Ok (added o l)) ≡ false
     by_rows (Some r) l = refl
@@ -91,7 +91,7 @@ module _ (names : Naming) (table : Table) (session : List ℕ) (command : Comman
     where
       by_command : (c : Command) → is_end_accepted (answer names table session c) ≡ true → is_query c ≡ true → ⊥
       by_command (Start level) ends query = true≢false (sym query)
-      by_command (AddPair primary secondary) ends query = true≢false (sym query)
+      by_command (AddPair primary secondary group) ends query = true≢false (sym query)
       by_command (DelPair choice) ends query = true≢false (sym query)
       by_command (Suspend choice) ends query = true≢false (sym query)
       by_command End ends query = true≢false (sym query)

@@ -162,8 +162,8 @@ module _ (tells : Type 0) (run : ScriptRun) (stage : Stage) (asked : LinesAsked)
   own_rows = own_of names was.table line.session line.command h.from.started of_answer.accepts
 
   -- A pair that is added again is suspended.
-  pair_taken : (primary secondary : List ℕ) (r : PairRow) → line.command ≡ AddPair primary secondary → row_of_primary primary was.told ≡ Some r → is_suspended r.state ≡ true
-  pair_taken primary secondary r is there =
+  pair_taken : (primary secondary : List ℕ) (group : Option (List ℕ)) (r : PairRow) → line.command ≡ AddPair primary secondary group → row_of_primary primary was.told ≡ Some r → is_suspended r.state ≡ true
+  pair_taken primary secondary group r is there =
       row_taken names was.told primary secondary r (primary_of primary names)
       (subst (λ (command : Command). refuses_command names was.told command ≡ None) is (ap (λ (rows : List PairRow). refuses_command names rows line.command) h.from.same ∙ own_rows.own)) there
 

@@ -383,7 +383,7 @@ module _ (tells : Type 0) (run : ScriptRun) (stage : Stage) (asked : LinesAsked)
       where
         by_command : (command : Command) → is_query command ≡ true → changed_items (change_of names command was.told) site.table.rows ≡ []
         by_command (Start level) query = absurd cc
-        by_command (AddPair primary secondary) query = absurd cc
+        by_command (AddPair primary secondary group) query = absurd cc
         by_command (DelPair choice) query = absurd cc
         by_command (Suspend choice) query = absurd cc
         by_command Query query = refl

@@ -14,15 +14,15 @@ use Rattle.pair_table.specs.declared.command.Refusal.TheVariants.{ControlBroken}
 use Rattle.pair_table.specs.declared.names.NamedDevice.{NamedDevice}
 use Rattle.pair_table.specs.declared.names.NamedVolume.{NamedVolume}
 use Rattle.pair_table.specs.declared.row.PairRow.{PairRow}
-use Rattle.pair_table.specs.declared.row.PairState.TheVariants.{Pending, Suspended}
+use Rattle.pair_table.specs.declared.row.PairState.TheVariants.{Suspended}
 use Rattle.pair_table.specs.declared.row.SuspendCause.TheVariants.{Command as ByCommand}
 use Rattle.pair_table.specs.Commands.{add_to, added, change_of, devices_of, is_chosen, is_to_suspend, new_row, new_row_for, rows_after, suspended_since}
 use Rattle.pair_table.specs.Devices.{is_among}
 use Rattle.pair_table.specs.Naming.{Naming, is_broken, labelled_device, primary_of}
 use Rattle.pair_table.specs.Refusals.{is_of_primary, is_start, refuses_command, refuses_label, refuses_primary, row_of_primary}
 use Rattle.pair_table.specs.Rows.{is_suspended}
-use Rattle.pair_table.specs.Tables.{changed_row, in_state, is_of, none_clash, row_of}
-use Rattle.pair_table.proofs.StateLaws.{state_of_primary}
+use Rattle.pair_table.specs.Tables.{in_state, is_of, none_clash, resumed_in, row_changed, row_of}
+use Rattle.pair_table.proofs.StateLaws.{changed_of_primary}
 use Rattle.pair_table.proofs.TableLaws.{not_true}
 use Rattle.record_rows.specs.Hits.{hit_now, is_down, is_hit_now}
 use Rattle.pair_table.specs.States.{is_device_suspended}
@@ -87,18 +87,18 @@ module _ (names : Naming) (time : ℕ) (rows : List PairRow) (apart : none_clash
   stays : (change : Change) (r : PairRow) → Among r rows → CameFrom change rows r
   stays change r there = inr (r, there, refl, refl, λ on. refl)
 
-  resumed_from : (primary : List ℕ) (found : PairRow) (r : PairRow) → row_of_primary primary rows ≡ Some found → Among r (map (λ x. cond (is_of_primary found.primary x) (in_state Pending x) x) rows) → CameFrom (Resumed found.device) rows r
-  resumed_from primary found r is there =
-      let back = map_back (changed_row found.device Pending) r rows (subst (Among r) (sym (state_of_primary primary Pending rows found apart is)) there) in
+  resumed_from : (primary : List ℕ) (group : Option (List ℕ)) (found : PairRow) (r : PairRow) → row_of_primary primary rows ≡ Some found → Among r (map (λ x. cond (is_of_primary found.primary x) (resumed_in group x) x) rows) → CameFrom (Resumed found.device) rows r
+  resumed_from primary group found r is there =
+      let back = map_back (row_changed found.device (resumed_in group)) r rows (subst (Among r) (sym (changed_of_primary primary (resumed_in group) rows found apart is)) there) in
       by_device (is_of found.device back.0) back.0 back.1 refl back.2
     where
-      by_device : (b : Bool) (x : PairRow) → Among x rows → is_of found.device x ≡ b → cond b (in_state Pending x) x ≡ r → CameFrom (Resumed found.device) rows r
+      by_device : (b : Bool) (x : PairRow) → Among x rows → is_of found.device x ≡ b → cond b (resumed_in group x) x ≡ r → CameFrom (Resumed found.device) rows r
       by_device true x among is same =
           inl (ap (λ (s : PairRow). is_of found.device s) (sym same) ∙ is, ap (λ (s : PairRow). is_device_suspended s.state) (sym same))
       by_device false x among is same = inr (x, among, ap (λ (s : PairRow). s.device) same, ap (λ (s : PairRow). is_device_suspended s.state) (sym same), λ on. ap (λ (s : PairRow). s.state) same)
 
-  added_from : (secondary : List ℕ) (v : NamedVolume) (l : NamedDevice) (r : PairRow) → Among r (rows ++ new_row secondary v l ∷ []) → CameFrom (Added l.device) rows r
-  added_from secondary v l r there = elim (among_either r (new_row secondary v l) rows there) [
+  added_from : (secondary : List ℕ) (group : Option (List ℕ)) (v : NamedVolume) (l : NamedDevice) (r : PairRow) → Among r (rows ++ new_row secondary group v l ∷ []) → CameFrom (Added l.device) rows r
+  added_from secondary group v l r there = elim (among_either r (new_row secondary group v l) rows there) [
     | inl before ↦ stays (Added l.device) r before
     | inr same ↦ inl (ap (λ (s : PairRow). l.device == s.device) (sym same) ∙ eq-eqb l.device l.device refl, ap (λ (s : PairRow). is_device_suspended s.state) (sym same))
   ]
@@ -116,11 +116,11 @@ module _ (names : Naming) (time : ℕ) (rows : List PairRow) (apart : none_clash
 
   pub came_from : (command : Command) → is_start command ≡ false → (r : PairRow) → Among r (rows_after names time command rows) → CameFrom (change_of names command rows) rows r
   came_from (Start level) starts r there = absurd (true≢false starts)
-  came_from (AddPair p s) starts r there = by_names (row_of_primary p rows) refl (primary_of p names) (labelled_device s names) there
+  came_from (AddPair p s group) starts r there = by_names (row_of_primary p rows) refl (primary_of p names) (labelled_device s names) there
     where
-      by_names : (o : Option PairRow) → row_of_primary p rows ≡ o → (v : Option NamedVolume) (l : Option NamedDevice) → Among r (add_to rows o (new_row_for s v l)) → CameFrom (added o l) rows r
-      by_names (Some found) is v l there = resumed_from p found r is there
-      by_names None is (Some v) (Some l) there = added_from s v l r there
+      by_names : (o : Option PairRow) → row_of_primary p rows ≡ o → (v : Option NamedVolume) (l : Option NamedDevice) → Among r (add_to group rows o (new_row_for s group v l)) → CameFrom (added o l) rows r
+      by_names (Some found) is v l there = resumed_from p group found r is there
+      by_names None is (Some v) (Some l) there = added_from s group v l r there
       by_names None is (Some v) None there = stays (added None None) r there
       by_names None is None l there = stays (added None l) r there
   came_from (DelPair choice) starts r there = stays (change_of names (DelPair choice) rows) r (among_kept (λ x. not (is_chosen choice x)) r rows there).0
@@ -190,37 +190,37 @@ module _ (names : Naming) (time : ℕ) (rows : List PairRow) (apart : none_clash
   abbrev Differ : Change → List PairRow → Type 0
   Differ change next = changed_items change next ≢ [] → next ≡ rows → ⊥
 
-  resumed_differ : (primary : List ℕ) (found : PairRow) → row_of_primary primary rows ≡ Some found → is_suspended found.state ≡ true → Differ (Resumed found.device) (map (λ x. cond (is_of_primary found.primary x) (in_state Pending x) x) rows)
-  resumed_differ primary found is suspended some same =
+  resumed_differ : (primary : List ℕ) (group : Option (List ℕ)) (found : PairRow) → row_of_primary primary rows ≡ Some found → is_suspended found.state ≡ true → Differ (Resumed found.device) (map (λ x. cond (is_of_primary found.primary x) (resumed_in group x) x) rows)
+  resumed_differ primary group found is suspended some same =
       let there = found_in (is_of_primary primary) rows found is in
-      let fixed = unchanged (changed_row found.device Pending) found rows (state_of_primary primary Pending rows found apart is ∙ same) there in
-      let pending : in_state Pending found ≡ found = ap (λ (b : Bool). cond b (in_state Pending found) found) (sym (eq-eqb found.device found.device refl)) ∙ fixed in
+      let fixed = unchanged (row_changed found.device (resumed_in group)) found rows (changed_of_primary primary (resumed_in group) rows found apart is ∙ same) there in
+      let pending : resumed_in group found ≡ found = ap (λ (b : Bool). cond b (resumed_in group found) found) (sym (eq-eqb found.device found.device refl)) ∙ fixed in
       true≢false (sym suspended ∙ ap (λ (s : PairRow). is_suspended s.state) (sym pending))
 
   added_differ : (r : PairRow) (change : Change) → Differ change (rows ++ r ∷ [])
   added_differ r change some same = let long = length_push rows r in let equal = ap (λ (l : List PairRow). length l) same in omega (arith, long, equal)
 
-  abbrev PairsDiffer : (secondary : List ℕ) → Option PairRow → Option NamedVolume → Option NamedDevice → Type 0
-  PairsDiffer secondary o v l = Differ (added o l) (add_to rows o (new_row_for secondary v l))
+  abbrev PairsDiffer : (secondary : List ℕ) → (group : Option (List ℕ)) → Option PairRow → Option NamedVolume → Option NamedDevice → Type 0
+  PairsDiffer secondary group o v l = Differ (added o l) (add_to group rows o (new_row_for secondary group v l))
 
-  pair_differs : (p s : List ℕ) → refuses_primary p s names rows (primary_of p names) ≡ None → Differ (change_of names (AddPair p s) rows) (rows_after names time (AddPair p s) rows)
-  pair_differs p s own = by_row (row_of_primary p rows) refl
+  pair_differs : (p s : List ℕ) (group : Option (List ℕ)) → refuses_primary p s names rows (primary_of p names) ≡ None → Differ (change_of names (AddPair p s group) rows) (rows_after names time (AddPair p s group) rows)
+  pair_differs p s group own = by_row (row_of_primary p rows) refl
     where
-      by_label : (v : NamedVolume) (l : Option NamedDevice) → refuses_label p s rows v l ≡ None → PairsDiffer s None (Some v) l
+      by_label : (v : NamedVolume) (l : Option NamedDevice) → refuses_label p s rows v l ≡ None → PairsDiffer s group None (Some v) l
       by_label v None own = absurd cc
-      by_label v (Some l) own = added_differ (new_row s v l) (Added l.device)
+      by_label v (Some l) own = added_differ (new_row s group v l) (Added l.device)
 
-      by_broken : (v : NamedVolume) (b : Bool) → cond b (Some (ControlBroken v.control)) (refuses_label p s rows v (labelled_device s names)) ≡ None → PairsDiffer s None (Some v) (labelled_device s names)
+      by_broken : (v : NamedVolume) (b : Bool) → cond b (Some (ControlBroken v.control)) (refuses_label p s rows v (labelled_device s names)) ≡ None → PairsDiffer s group None (Some v) (labelled_device s names)
       by_broken v true own = absurd cc
       by_broken v false own = by_label v (labelled_device s names) own
 
-      by_volume : (v : Option NamedVolume) → refuses_primary p s names rows v ≡ None → PairsDiffer s None v (labelled_device s names)
+      by_volume : (v : Option NamedVolume) → refuses_primary p s names rows v ≡ None → PairsDiffer s group None v (labelled_device s names)
       by_volume None own = absurd cc
       by_volume (Some v) own = by_broken v (is_broken v.control names) own
 
-      by_row : (o : Option PairRow) → row_of_primary p rows ≡ o → PairsDiffer s o (primary_of p names) (labelled_device s names)
+      by_row : (o : Option PairRow) → row_of_primary p rows ≡ o → PairsDiffer s group o (primary_of p names) (labelled_device s names)
       by_row None is = by_volume (primary_of p names) own
-      by_row (Some r) is = resumed_differ p r is (row_taken names rows p s r (primary_of p names) own is)
+      by_row (Some r) is = resumed_differ p group r is (row_taken names rows p s r (primary_of p names) own is)
 
   gone_differ : (choice : Choice) → Differ (change_of names (DelPair choice) rows) (rows_after names time (DelPair choice) rows)
   gone_differ choice some same = some (ap (λ (l : List PairRow). gone_of (devices_of l)) (all_stay (is_chosen choice) rows same))
@@ -237,7 +237,7 @@ module _ (names : Naming) (time : ℕ) (rows : List PairRow) (apart : none_clash
   -- A change with items leaves other rows.
   pub rows_differ : (command : Command) → refuses_command names rows command ≡ None → Differ (change_of names command rows) (rows_after names time command rows)
   rows_differ (Start level) own some same = some refl
-  rows_differ (AddPair p s) own some same = pair_differs p s own some same
+  rows_differ (AddPair p s group) own some same = pair_differs p s group own some same
   rows_differ (DelPair choice) own some same = gone_differ choice some same
   rows_differ (Suspend choice) own some same = suspended_differ choice some same
   rows_differ Query own some same = some refl

@@ -78,7 +78,7 @@ accepted_end run table line is accepted = by_flag (is_end line.command) is
 -- A refusal says no tracks.
 refused_tracks : (command : Command) (why : Refusal) (a b : ℕ) → said_tracks command (Err why) a ≡ said_tracks command (Err why) b
 refused_tracks (Start level) why a b = refl
-refused_tracks (AddPair primary secondary) why a b = refl
+refused_tracks (AddPair primary secondary group) why a b = refl
 refused_tracks (DelPair choice) why a b = refl
 refused_tracks (Suspend choice) why a b = refl
 refused_tracks Query why a b = refl
@@ -153,15 +153,15 @@ module _ (row : PairRow) (rows : List PairRow) (among : Among row rows) (apart :
 
 -- So a command asks for as many tracks, if the row of its primary is suspended.
 pub asked_still : (run : ScriptRun) (first : Point) (points more : List PassedPoint) (rows : List PairRow) (time : ℕ) (command : Command) → none_clash rows ≡ true → All (λ n. n.point.rows ≡ rows) more
-    → ((primary secondary : List ℕ) (r : PairRow) → command ≡ AddPair primary secondary → row_of_primary primary rows ≡ Some r → is_suspended r.state ≡ true)
+    → ((primary secondary : List ℕ) (group : Option (List ℕ)) (r : PairRow) → command ≡ AddPair primary secondary group → row_of_primary primary rows ≡ Some r → is_suspended r.state ≡ true)
     → tracks_of_command run first (points ++ more) rows time command ≡ tracks_of_command run first points rows time command
 asked_still run first points more rows time (Start level) apart same taken = refl
-asked_still run first points more rows time (AddPair primary secondary) apart same taken = by_row (row_of_primary primary rows) refl
+asked_still run first points more rows time (AddPair primary secondary group) apart same taken = by_row (row_of_primary primary rows) refl
   where
     by_row : (o : Option PairRow) → row_of_primary primary rows ≡ o → tracks_asked run first (points ++ more) rows primary time ≡ tracks_asked run first points rows primary time
     by_row None is = rw (is, tracks_asked) refl
     by_row (Some r) is =
-        rw (is, tracks_asked) (λ i. count_by (λ x. owes_still r rows (found_in (is_of_primary primary) rows r is) apart (taken primary secondary r refl is) run first points more time x same i) (range_with_len 0 (tracks_of_row r)))
+        rw (is, tracks_asked) (λ i. count_by (λ x. owes_still r rows (found_in (is_of_primary primary) rows r is) apart (taken primary secondary group r refl is) run first points more time x same i) (range_with_len 0 (tracks_of_row r)))
 asked_still run first points more rows time (DelPair choice) apart same taken = refl
 asked_still run first points more rows time (Suspend choice) apart same taken = refl
 asked_still run first points more rows time Query apart same taken = refl

@@ -64,7 +64,7 @@ ended_accepts_none run table (Some line) ended = by_command line.command
 
     by_command : (command : Command) → accepts_end run table (Some (record line { command = command })) ≡ false
     by_command (Start level) = refl
-    by_command (AddPair primary secondary) = refl
+    by_command (AddPair primary secondary group) = refl
     by_command (DelPair choice) = refl
     by_command (Suspend choice) = refl
     by_command Query = refl

@@ -110,7 +110,7 @@ module _ (run : ScriptRun) (names : Naming) (first : Point) (points : List Passe
       size_by (owes_track run first points r time) (tracks_of_row r) (volume_of r.volume (control_at g r.control).volumes) (kept.each r has).own.sized
       (λ x low. on.maps r has suspended counted x low ∙ ap (λ (t : ℕ). owes_track run first points r t x) at)
 
-  module _ (primary secondary : List ℕ) (own : refuses_command names was.told (AddPair primary secondary) ≡ None) where
+  module _ (primary secondary : List ℕ) (group : Option (List ℕ)) (own : refuses_command names was.told (AddPair primary secondary group) ≡ None) where
     -- A primary without a row is named, and the secondary's device is in no row.
     abbrev Labelled : Option NamedVolume → Option NamedDevice → Type 0
     Labelled v l = (w : NamedVolume) × (d : NamedDevice) × (v ≡ Some w) × (l ≡ Some d) × (list_any (is_of d.device) was.told ≡ false)
@@ -139,7 +139,7 @@ module _ (run : ScriptRun) (names : Naming) (first : Point) (points : List Passe
 
     -- A command asks for the tracks that its row owes, or for all of a new one.
     by_row : (o : Option PairRow) → row_of_primary primary was.told ≡ o → (change : Change) → added o (labelled_device secondary names) ≡ change → MayTake g change was.told after
-        → after ≡ rows_with_hits level cut failed (add_to was.told o (new_row_for secondary (primary_of primary names) (labelled_device secondary names))) → tracks_asked run first points was.told primary time ≡ tracks_to_copy change g was.told after
+        → after ≡ rows_with_hits level cut failed (add_to group was.told o (new_row_for secondary group (primary_of primary names) (labelled_device secondary names))) → tracks_asked run first points was.told primary time ≡ tracks_to_copy change g was.told after
     by_row (Some r) is change made take rows =
         rw (is, tracks_asked)
         (sym (resumed_tracks r among begun.0 begun.1) ∙ ap (tracks_owed_to g) (sym found) ∙ ap (λ (c : Change). tracks_to_copy c g was.told after) made)
@@ -171,13 +171,13 @@ module _ (run : ScriptRun) (names : Naming) (first : Point) (points : List Passe
         begun : IsSomeAnd (row_of own_label.1.device after) (λ r. (r.control < length g.controls) × IsTrue (counts (control_at g r.control).phase))
         begun = (subst (λ (c : Change). MayTake g c was.told after) (sym change_is) take).begun
 
-        rows_are : after ≡ rows_with_hits level cut failed (was.told ++ new_row secondary own_label.0 own_label.1 ∷ [])
-        rows_are = rows ∙ (λ i. rows_with_hits level cut failed (add_to was.told None (new_row_for secondary (own_label.2 i) (own_label.3 i))))
+        rows_are : after ≡ rows_with_hits level cut failed (was.told ++ new_row secondary group own_label.0 own_label.1 ∷ [])
+        rows_are = rows ∙ (λ i. rows_with_hits level cut failed (add_to group was.told None (new_row_for secondary group (own_label.2 i) (own_label.3 i))))
 
-        tracks : tracks_of_added (row_of own_label.1.device after) ≡ tracks_of_row (new_row secondary own_label.0 own_label.1)
-        tracks = added_tracks level cut failed was.told after (new_row secondary own_label.0 own_label.1) own_label.4 rows_are (row_of own_label.1.device after) refl (λ r. (r.control < length g.controls) × IsTrue (counts (control_at g r.control).phase)) begun
+        tracks : tracks_of_added (row_of own_label.1.device after) ≡ tracks_of_row (new_row secondary group own_label.0 own_label.1)
+        tracks = added_tracks level cut failed was.told after (new_row secondary group own_label.0 own_label.1) own_label.4 rows_are (row_of own_label.1.device after) refl (λ r. (r.control < length g.controls) × IsTrue (counts (control_at g r.control).phase)) begun
 
-    add_asks : (change : Change) → change_of names (AddPair primary secondary) was.told ≡ change → MayTake g change was.told after → after ≡ rows_with_hits level cut failed (rows_after names time (AddPair primary secondary) was.told)
+    add_asks : (change : Change) → change_of names (AddPair primary secondary group) was.told ≡ change → MayTake g change was.told after → after ≡ rows_with_hits level cut failed (rows_after names time (AddPair primary secondary group) was.told)
         → tracks_asked run first points was.told primary time ≡ tracks_to_copy change g was.told after
     add_asks change made take rows = by_row (row_of_primary primary was.told) refl change made take rows
 
@@ -185,7 +185,7 @@ module _ (run : ScriptRun) (names : Naming) (first : Point) (points : List Passe
   pub tracks_are_owed : (command : Command) (change : Change) → refuses_command names was.told command ≡ None → change_of names command was.told ≡ change → MayTake g change was.told after → after ≡ rows_with_hits level cut failed (rows_after names time command was.told)
       → said_tracks command (Ok change) (tracks_of_command run first points was.told time command) ≡ said_tracks command (Ok change) (tracks_to_copy change g was.told after)
   tracks_are_owed (Start start_level) change own made take rows = refl
-  tracks_are_owed (AddPair primary secondary) change own made take rows = ap (λ (n : ℕ). let o : Option ℕ = Some n in o) (add_asks primary secondary own change made take rows)
+  tracks_are_owed (AddPair primary secondary group) change own made take rows = ap (λ (n : ℕ). let o : Option ℕ = Some n in o) (add_asks primary secondary group own change made take rows)
   tracks_are_owed (DelPair choice) change own made take rows = refl
   tracks_are_owed (Suspend choice) change own made take rows = refl
   tracks_are_owed Query change own made take rows = refl

@@ -7,7 +7,7 @@ use Rattle.crash_plant.specs.Choices.{Choice}
 use Rattle.crash_plant.specs.Moments.{PlantState}
 use Rattle.pair_table.specs.declared.row.PairRow.{PairRow}
 use Rattle.pair_table.specs.declared.row.PairState.{PairState}
-use Rattle.pair_table.specs.Tables.{changed_row, in_state, is_of, none_clash, row_of, with_state, without_row}
+use Rattle.pair_table.specs.Tables.{is_of, none_clash, row_changed, row_of, without_row}
 use Rattle.image_former.specs.Entries.{row_device}
 use Rattle.site_means.specs.Sight.{content_of}
 use Rattle.fed_logs.specs.Moves.{HasRowIn}
@@ -48,24 +48,28 @@ pub record OthersSame (k v : ℕ) (rows next : List PairRow) : Type 1 where
   pub forth : (j w : ℕ) → IsOther k v j w → HasRowIn IsAny j w rows → HasRowIn IsAny j w next
   pub held : (plant : PlantState) (c : Choice) (j w x : ℕ) → IsOther k v j w → held_by_choice plant c next j w x ≡ held_by_choice plant c rows j w x
 
--- ---- a row in another state
+-- ---- a row that is changed, but for its pair
 
-module _ (r : PairRow) (state : PairState) (rows : List PairRow) (apart : none_clash rows ≡ true) (there : Among r rows) where
+-- A change of a row leaves its pair.
+abbrev pub LeavesPair : (PairRow → PairRow) → Type 0
+LeavesPair to = (s : PairRow) → pair_of (to s) ≡ pair_of s
+
+module _ (r : PairRow) (to : PairRow → PairRow) (leaves : LeavesPair to) (rows : List PairRow) (apart : none_clash rows ≡ true) (there : Among r rows) where
   abbrev change : PairRow → PairRow
-  change s = changed_row r.device state s
+  change s = row_changed r.device to s
 
-  abbrev pub stated : List PairRow
-  stated = with_state r.device state rows
+  abbrev pub changed : List PairRow
+  changed = map (row_changed r.device to) rows
 
   state_pair : (s : PairRow) → pair_of (change s) ≡ pair_of s
   state_pair s = choose (is_of r.device s)
     where
-      choose : (t : Bool) → pair_of (cond t (in_state state s) s) ≡ pair_of s
-      choose true = refl
+      choose : (t : Bool) → pair_of (cond t (to s) s) ≡ pair_of s
+      choose true = leaves s
       choose false = refl
 
-  pub stated_pairs : pairs_of stated ≡ pairs_of rows
-  stated_pairs = all rows
+  pub changed_pairs : pairs_of changed ≡ pairs_of rows
+  changed_pairs = all rows
     where
       all : (rows : List PairRow) → pairs_of (map change rows) ≡ pairs_of rows
       all [] = refl
@@ -76,17 +80,17 @@ module _ (r : PairRow) (state : PairState) (rows : List PairRow) (apart : none_c
   among_changed s _ (Later t some there) = Later (change t) (map change some) (among_changed s some there)
 
   -- the row itself, changed
-  changed_itself : change r ≡ in_state state r
-  changed_itself = ap (λ (t : Bool). cond t (in_state state r) r) (eq-eqb r.device r.device refl)
+  changed_itself : change r ≡ to r
+  changed_itself = ap (λ (t : Bool). cond t (to r) r) (eq-eqb r.device r.device refl)
 
-  state_back : (is : PairState → Type 0) (j w : ℕ) → IsOther r.control r.volume j w → (has : HasRowIn is j w stated) → WasThere is j w rows has.row
+  state_back : (is : PairState → Type 0) (j w : ℕ) → IsOther r.control r.volume j w → (has : HasRowIn is j w changed) → WasThere is j w rows has.row
   state_back is j w other has =
-      let m = among_map change has.row rows (among_of stated has.row has.among) in
+      let m = among_map change has.row rows (among_of changed has.row has.among) in
       choose m.row m.among m.is (is_of r.device m.row) refl
     where
       choose : (s : PairRow) → Among s rows → change s ≡ has.row → (t : Bool) → is_of r.device s ≡ t → WasThere is j w rows has.row
       choose s among is false at =
-          let same : s ≡ has.row = sym (ap (λ (t : Bool). cond t (in_state state s) s) at) ∙ is in
+          let same : s ≡ has.row = sym (ap (λ (t : Bool). cond t (to s) s) at) ∙ is in
           record {
             was = record { row = has.row; among = contains_of has.row rows (subst (λ (x : PairRow). Among x rows) same among); control = has.control; volume = has.volume; state = has.state };
             same = refl;
@@ -98,8 +102,8 @@ module _ (r : PairRow) (state : PairState) (rows : List PairRow) (apart : none_c
           let volume : r.volume ≡ w = ap (λ (x : PairRow). x.volume) itself ∙ ap (λ (x : PairRow). x.volume) pair ∙ has.volume in
           absurd (not_itself r.control r.volume j w other control volume)
 
-  held_pairs : (plant : PlantState) (c : Choice) (j w x : ℕ) → held_by_choice plant c stated j w x ≡ held_by_choice plant c rows j w x
-  held_pairs plant c j w x = by_device (find (is_row_of_volume j w) stated) (find (is_row_of_volume j w) rows) (device_still (is_row_of_volume j w) (λ s. refl) rows stated stated_pairs)
+  held_pairs : (plant : PlantState) (c : Choice) (j w x : ℕ) → held_by_choice plant c changed j w x ≡ held_by_choice plant c rows j w x
+  held_pairs plant c j w x = by_device (find (is_row_of_volume j w) changed) (find (is_row_of_volume j w) rows) (device_still (is_row_of_volume j w) (λ s. refl) rows changed changed_pairs)
     where
       device_content : Option ℕ → Option (List Rec)
       device_content (Some d) = content_of plant c d x
@@ -112,12 +116,12 @@ module _ (r : PairRow) (state : PairState) (rows : List PairRow) (apart : none_c
       by_device : (o p : Option PairRow) → row_device o ≡ row_device p → held_of_row plant c x o ≡ held_of_row plant c x p
       by_device o p same = of_device o ∙ ap device_content same ∙ sym (of_device p)
 
-  pub stated_others : OthersSame r.control r.volume rows stated
-  stated_others = record {
+  pub changed_others : OthersSame r.control r.volume rows changed
+  changed_others = record {
     back = state_back;
     forth = λ j w other has. record {
       row = change has.row;
-      among = contains_of (change has.row) stated (among_changed has.row rows (among_of rows has.row has.among));
+      among = contains_of (change has.row) changed (among_changed has.row rows (among_of rows has.row has.among));
       control = ap (λ (s : PairRow). s.control) (state_pair has.row) ∙ has.control;
       volume = ap (λ (s : PairRow). s.volume) (state_pair has.row) ∙ has.volume;
       state = tt;
@@ -125,22 +129,28 @@ module _ (r : PairRow) (state : PairState) (rows : List PairRow) (apart : none_c
     held = λ plant c j w x other. held_pairs plant c j w x;
   }
 
-  pub stated_held : (plant : PlantState) (c : Choice) (x : ℕ) → held_by_choice plant c stated r.control r.volume x ≡ held_by_choice plant c rows r.control r.volume x
-  stated_held plant c x = held_pairs plant c r.control r.volume x
+  pub changed_held : (plant : PlantState) (c : Choice) (x : ℕ) → held_by_choice plant c changed r.control r.volume x ≡ held_by_choice plant c rows r.control r.volume x
+  changed_held plant c x = held_pairs plant c r.control r.volume x
 
-  -- The row of the volume is this row in the state.
-  pub stated_own : (is : PairState → Type 0) (has : HasRowIn is r.control r.volume stated) → has.row ≡ in_state state r
-  stated_own is has =
-      let m = among_map change has.row rows (among_of stated has.row has.among) in
+  -- The row of the volume is this row, changed.
+  pub changed_own : (is : PairState → Type 0) (has : HasRowIn is r.control r.volume changed) → has.row ≡ to r
+  changed_own is has =
+      let m = among_map change has.row rows (among_of changed has.row has.among) in
       let pair : pair_of m.row ≡ pair_of has.row = sym (state_pair m.row) ∙ ap pair_of m.is in
       let itself : m.row ≡ r = one_of_volume r.control r.volume m.row r rows apart m.among there (ap (λ (s : PairRow). s.control) pair ∙ has.control) (ap (λ (s : PairRow). s.volume) pair ∙ has.volume) refl refl in
       sym m.is ∙ ap change itself ∙ changed_itself
 
-  pub stated_among : Among (in_state state r) stated
-  stated_among = subst (λ (s : PairRow). Among s stated) changed_itself (among_changed r rows there)
+  pub itself_among : Among (to r) changed
+  itself_among = subst (λ (s : PairRow). Among s changed) changed_itself (among_changed r rows there)
 
-  pub stated_there : HasRowIn IsAny r.control r.volume stated
-  stated_there = record { row = in_state state r; among = contains_of (in_state state r) stated stated_among; control = refl; volume = refl; state = tt }
+  pub itself_there : HasRowIn IsAny r.control r.volume changed
+  itself_there = record {
+    row = to r;
+    among = contains_of (to r) changed itself_among;
+    control = ap (λ (s : PairRow). s.control) (leaves r);
+    volume = ap (λ (s : PairRow). s.volume) (leaves r);
+    state = tt;
+  }
 
 -- ---- a row that is taken out
 

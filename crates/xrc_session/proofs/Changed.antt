@@ -44,7 +44,7 @@ kept_steps : Steps Kept FitsAny
 kept_steps = record {
   kept = λ s rows done j. j;
   drop = λ s rows done r state all j among suspends device known. kept_dropped_row s rows r j among state all suspends;
-  resume = λ s rows done r j among suspended counted. kept_resumed_row s rows r j among suspended counted;
+  resume = λ s rows done r group j among suspended counted. kept_resumed_row s rows r j among group suspended counted;
   forget = λ s rows done r j among suspended. kept_forgotten_row s rows r j among suspended;
   add = λ s rows done r j low counted pending apart fit. kept_added_row s rows r j low counted pending apart;
 }
@@ -153,9 +153,9 @@ module _ (start : PlantState) (b : Between) where
       kept_dropped_row s rows r j.0 among state all suspends,
       dropped_stands s rows done r state all j among suspends device known,
     );
-    resume = λ s rows done r j among suspended counted. (
-      kept_resumed_row s rows r j.0 among suspended counted,
-      resumed_rows_stand start (at s rows done) r j.1 (record { among = among; counted = counted; may = ((j.0.each r among).low, (j.0.each r among).own.dropped suspended) }),
+    resume = λ s rows done r group j among suspended counted. (
+      kept_resumed_row s rows r j.0 among group suspended counted,
+      resumed_rows_stand start (at s rows done) r group j.1 (record { among = among; counted = counted; may = ((j.0.each r among).low, (j.0.each r among).own.dropped suspended) }),
     );
     forget = λ s rows done r j among suspended. (
       kept_forgotten_row s rows r j.0 among suspended,

@@ -24,9 +24,9 @@ use Rattle.pair_table.specs.Devices.{is_among}
 use Rattle.pair_table.specs.Naming.{Naming, is_broken, labelled_device, primary_of}
 use Rattle.pair_table.specs.Refusals.{is_of_primary, is_start, refusal, refuses_command, refuses_found, refuses_label, refuses_primary, row_of_primary}
 use Rattle.pair_table.specs.Rows.{cause_number, is_suspended}
-use Rattle.pair_table.specs.Tables.{Table, changed_row, in_state, is_of, none_clash, row_of, with_state}
+use Rattle.pair_table.specs.Tables.{Table, in_state, is_of, none_clash, resumed_in, row_changed, row_of, with_resumed}
 use Rattle.pair_table.proofs.Causes.{same_causes}
-use Rattle.pair_table.proofs.StateLaws.{state_of_primary}
+use Rattle.pair_table.proofs.StateLaws.{changed_of_primary}
 use Rattle.pair_table.proofs.PutLaws.{number_sym}
 use Rattle.pair_table.proofs.TableLaws.{either_false, not_true}
 use Rattle.group_state.specs.Controls.{counts}
@@ -39,10 +39,10 @@ use Rattle.record_rows.specs.Records.{rows_with_hits}
 use Rattle.record_rows.specs.ToldRows.{InPlaces}
 use Rattle.record_rows.proofs.Devices.{apart_first, apart_in_map, apart_of, devices_apart, found_in_map, none_at, row_at_place}
 use Rattle.record_rows.proofs.HitRows.{among_hit, held, told_row, told_rows}
-use Rattle.mover.proofs.Pairs.{Among, among_of, contains_of, found_of_device}
+use Rattle.mover.proofs.Pairs.{Among, among_of, apart_still, contains_of, found_of_device}
 use Rattle.xrc_session.specs.CarriedLaws.{BegunControlsCount, CommandsMayBeTaken}
-use Rattle.xrc_session.specs.Taking.{IsSuspendedSince, MayBeBegun, MayTake, as_pending, is_suspended_as, rows_by_command, stands_again}
-use Rattle.xrc_session.proofs.CarriedRows.{among_last, one_of_device, stated_among}
+use Rattle.xrc_session.specs.Taking.{IsSuspendedSince, MayBeBegun, MayTake, as_pending, pair_group_after, group_of_row, regrouped_row, is_suspended_as, rows_by_command, stands_again, regrouped_rows}
+use Rattle.xrc_session.proofs.CarriedRows.{among_last, changed_pairs, itself_among, one_of_device}
 use Rattle.xrc_session.proofs.Walking.{found_in}
 
 -- ---- hits
@@ -64,9 +64,13 @@ failed_drops (Suspended cause since) fresh e = again (is_by_device cause) fresh 
     again true fresh e = true≢false fresh
     again false fresh e = absurd cc
 
+-- Hits that are told change a row's state alone.
+told_state : (reach : FaultReach) (time : ℕ) (hit : List ℕ) (r : PairRow) → told_row reach time [] hit r ≡ in_state (told_row reach time [] hit r).state r
+told_state reach time [] r = refl
+told_state reach time (d ∷ hit) r = reached_state reach (d ∷ hit) time (hit_row (d ∷ hit) time r) ∙ ap (in_state (told_row reach time [] (d ∷ hit) r).state) (hit_state (d ∷ hit) time r)
+
 told_device : (reach : FaultReach) (time : ℕ) (hit : List ℕ) (r : PairRow) → (told_row reach time [] hit r).device ≡ r.device
-told_device reach time [] r = refl
-told_device reach time (d ∷ hit) r = ap (λ (x : PairRow). x.device) (reached_state reach (d ∷ hit) time (hit_row (d ∷ hit) time r) ∙ ap (in_state (told_row reach time [] (d ∷ hit) r).state) (hit_state (d ∷ hit) time r))
+told_device reach time hit r = ap (λ (x : PairRow). x.device) (told_state reach time hit r)
 
 -- A row of which hits are told is suspended by them, or stays.
 told_follows : (reach : FaultReach) (time : ℕ) (hit : List ℕ) (r : PairRow) → (is_among r.device hit ≡ true → is_device_suspended r.state ≡ false) → IsSuspendedSince r (told_row reach time [] hit r)
@@ -92,9 +96,9 @@ in_places_before is g [] (t ∷ next) before h = absurd h
 in_places_before is g (r ∷ rows) [] before h = absurd h
 in_places_before is g (r ∷ rows) (t ∷ next) before h = (before r t h.0, in_places_before is g rows next before h.1)
 
-in_places_through : (is : PairRow → PairRow → Type 0) (g f : PairRow → PairRow) (rows : List PairRow) → ((i : ℕ) (x : PairRow) → slice_get rows i ≡ Some x → is x (f (g x))) → InPlaces is rows (map f (map g rows))
-in_places_through is g f [] each = tt
-in_places_through is g f (r ∷ rows) each = (each 0 r refl, in_places_through is g f rows (λ i x at. each (suc i) x at))
+in_places_both : (is : PairRow → PairRow → Type 0) (h g f : PairRow → PairRow) (rows : List PairRow) → ((i : ℕ) (x : PairRow) → slice_get rows i ≡ Some x → is (h x) (f (g x))) → InPlaces is (map h rows) (map f (map g rows))
+in_places_both is h g f [] each = tt
+in_places_both is h g f (r ∷ rows) each = (each 0 r refl, in_places_both is h g f rows (λ i x at. each (suc i) x at))
 
 -- ---- a row that is suspended as it was
 
@@ -243,9 +247,9 @@ module _ (names : Naming) (rows : List PairRow) (at : ℕ) (level : Level) (cut 
   abbrev Counts : PairRow → Type 0
   Counts r = (r.control < length s.controls) × (counts (control_at s r.control).phase ≡ true)
 
-  module _ (secondary : List ℕ) (v : NamedVolume) (l : NamedDevice) (clear : none_clash (rows ++ new_row secondary v l ∷ []) ≡ true) where
+  module _ (secondary : List ℕ) (group : Option (List ℕ)) (v : NamedVolume) (l : NamedDevice) (clear : none_clash (rows ++ new_row secondary group v l ∷ []) ≡ true) where
     abbrev new : PairRow
-    new = new_row secondary v l
+    new = new_row secondary group v l
 
     abbrev next : List PairRow
     next = rows ++ new ∷ []
@@ -263,25 +267,29 @@ module _ (names : Naming) (rows : List PairRow) (at : ℕ) (level : Level) (cut 
     new_begins : BegunControlsCount s (Added l.device) next → MayBeBegun s (Added l.device) rows (hits next)
     new_begins counted = subst (λ (o : Option PairRow). IsSomeAnd o Counts) (sym found) (subst Counts (sym pending) (counted new (contains_of new next (among_last new rows)) (eq-eqb l.device l.device refl)))
 
-  takes_new : (secondary : List ℕ) (v : NamedVolume) (l : NamedDevice) → Takes (Added l.device) (rows ++ new_row secondary v l ∷ [])
-  takes_new secondary v l = takes_by (Added l.device) (rows ++ new_row secondary v l ∷ []) (new_there secondary v l) (new_begins secondary v l)
+  takes_new : (secondary : List ℕ) (group : Option (List ℕ)) (v : NamedVolume) (l : NamedDevice) → Takes (Added l.device) (rows ++ new_row secondary group v l ∷ [])
+  takes_new secondary group v l = takes_by (Added l.device) (rows ++ new_row secondary group v l ∷ []) (new_there secondary group v l) (new_begins secondary group v l)
 
-  abbrev RowsBy : (secondary : List ℕ) → Option PairRow → Option NamedVolume → Option NamedDevice → Type 0
-  RowsBy secondary o v l = Takes (added o l) (add_to rows o (new_row_for secondary v l))
+  abbrev RowsBy : (secondary : List ℕ) → (group : Option (List ℕ)) → Option PairRow → Option NamedVolume → Option NamedDevice → Type 0
+  RowsBy secondary group o v l = Takes (added o l) (add_to group rows o (new_row_for secondary group v l))
 
   -- A row that is resumed.
-  takes_again : (primary : List ℕ) (r : PairRow) → row_of_primary primary rows ≡ Some r → is_suspended r.state ≡ true → Takes (Resumed r.device) (map (λ x. cond (is_of_primary r.primary x) (in_state Pending x) x) rows)
-  takes_again primary r is suspended = λ clear counted. record {
+  takes_again : (primary : List ℕ) (group : Option (List ℕ)) (r : PairRow) → row_of_primary primary rows ≡ Some r → is_suspended r.state ≡ true → Takes (Resumed r.device) (map (λ x. cond (is_of_primary r.primary x) (resumed_in group x) x) rows)
+  takes_again primary group r is suspended = λ clear counted. record {
     begun = subst (λ (o : Option PairRow). IfSome o (λ x. (is_suspended x.state ≡ true) × (counts (control_at s x.control).phase ≡ true))) (sym found) (suspended, (begins counted).1);
-    apart = stands_apart (stands_again (row_of r.device rows) (row_of r.device (hits next))) clear;
-    follow = stands_follow (stands_again (row_of r.device rows) (row_of r.device (hits next))) refl clear;
+    apart = stands_apart (stands_again (row_of r.device rows) (row_of r.device (hits next)));
+    follow = subst (λ (g : Option (List ℕ)). InPlaces IsSuspendedSince (rows_again (stands_again (row_of r.device rows) (row_of r.device (hits next))) g) (hits next)) (sym (behind clear))
+        (stands_follow (stands_again (row_of r.device rows) (row_of r.device (hits next))) refl clear);
   }
     where
       next : List PairRow
-      next = map (λ x. cond (is_of_primary r.primary x) (in_state Pending x) x) rows
+      next = map (λ x. cond (is_of_primary r.primary x) (resumed_in group x) x) rows
 
-      again : with_state r.device Pending rows ≡ next
-      again = state_of_primary primary Pending rows r apart is
+      resumed : PairRow
+      resumed = resumed_in group r
+
+      again : with_resumed r.device group rows ≡ next
+      again = changed_of_primary primary (resumed_in group) rows r apart is
 
       among : Among r rows
       among = found_in (is_of_primary primary) rows r is
@@ -289,69 +297,83 @@ module _ (names : Naming) (rows : List PairRow) (at : ℕ) (level : Level) (cut 
       found : row_of r.device rows ≡ Some r
       found = found_of_device r rows apart among
 
-      there : Contains next (in_state Pending r)
-      there = subst (λ (all : List PairRow). Contains all (in_state Pending r)) again (contains_of (in_state Pending r) (with_state r.device Pending rows) (stated_among r Pending rows apart among))
+      there : Contains next resumed
+      there = subst (λ (all : List PairRow). Contains all resumed) again (contains_of resumed (with_resumed r.device group rows) (itself_among r (resumed_in group) (λ x. refl) rows apart among))
 
-      begins : BegunControlsCount s (Resumed r.device) next → Counts (in_state Pending r)
-      begins counted = counted (in_state Pending r) there (eq-eqb r.device r.device refl)
+      begins : BegunControlsCount s (Resumed r.device) next → Counts resumed
+      begins counted = counted resumed there (eq-eqb r.device r.device refl)
 
-      stands_apart : (b : Bool) → none_clash next ≡ true → none_clash (cond b rows (with_state r.device Pending rows)) ≡ true
-      stands_apart true clear = apart
-      stands_apart false clear = ap none_clash again ∙ clear
+      -- the rows that the command leaves, with the row in a group
+      rows_again : Bool → Option (List ℕ) → List PairRow
+      rows_again b g = cond b (regrouped_rows r.device g rows) (with_resumed r.device g rows)
+
+      stands_apart : (b : Bool) → none_clash (rows_again b (pair_group_after r.device (hits next))) ≡ true
+      stands_apart true =
+          let g = pair_group_after r.device (hits next) in
+          apart_still rows (regrouped_rows r.device g rows) (changed_pairs r (regrouped_row g) (λ x. refl) rows apart among) apart
+      stands_apart false =
+          let g = pair_group_after r.device (hits next) in
+          apart_still rows (with_resumed r.device g rows) (changed_pairs r (resumed_in g) (λ x. refl) rows apart among) apart
 
       -- the row after the hits
-      after : none_clash next ≡ true → row_of r.device (hits next) ≡ Some (told_of level cut failed next (in_state Pending r))
+      after : none_clash next ≡ true → row_of r.device (hits next) ≡ Some (told_of level cut failed next resumed)
       after clear = ap (row_of r.device) (hits_told level cut failed next)
-          ∙ found_in_map (told_of level cut failed next) (told_device (reach_of level next) cut (hit_now failed next)) r.device next (in_state Pending r) (found_of_device (in_state Pending r) next clear (among_of next (in_state Pending r) there))
+          ∙ found_in_map (told_of level cut failed next) (told_device (reach_of level next) cut (hit_now failed next)) r.device next resumed (found_of_device resumed next clear (among_of next resumed there))
 
-      -- The resumed row is suspended again as it was, so it stays.
-      stays : stands_again (row_of r.device rows) (row_of r.device (hits next)) ≡ true → none_clash next ≡ true → (x z : PairRow) → Among x rows → IsSuspendedSince (changed_row r.device Pending x) z
-          → (is_of r.device x ≡ true → z ≡ told_of level cut failed next (in_state Pending r)) → IsSuspendedSince x z
+      -- It has the command's group.
+      behind : none_clash next ≡ true → pair_group_after r.device (hits next) ≡ group
+      behind clear = ap group_of_row (after clear) ∙ ap (λ (x : PairRow). x.group) (told_state (reach_of level next) cut (hit_now failed next) resumed)
+
+      -- The resumed row is suspended again as it was, so it stays in its state.
+      stays : stands_again (row_of r.device rows) (row_of r.device (hits next)) ≡ true → none_clash next ≡ true → (x z : PairRow) → Among x rows → IsSuspendedSince (row_changed r.device (resumed_in group) x) z
+          → (is_of r.device x ≡ true → z ≡ told_of level cut failed next resumed) → IsSuspendedSince (row_changed r.device (regrouped_row group) x) z
       stays stands clear x z have h told = choose (is_of r.device x) refl h
         where
-          choose : (b : Bool) → is_of r.device x ≡ b → IsSuspendedSince (cond b (in_state Pending x) x) z → IsSuspendedSince x z
+          choose : (b : Bool) → is_of r.device x ≡ b → IsSuspendedSince (cond b (resumed_in group x) x) z → IsSuspendedSince (cond b (regrouped_row group x) x) z
           choose false other h = h
           choose true own h = record {
             same = h.same;
             stays = λ e.
                 let itself : r ≡ x = one_of_device r x rows apart among have (eqb-true r.device x.device own) in
                 ap (λ (y : PairRow). y.state) (told own)
-                ∙ sym (same_states r.state (let y : PairRow = told_of level cut failed next (in_state Pending r) in y.state) (ap (λ (o : Option PairRow). stands_again o (Some (told_of level cut failed next (in_state Pending r)))) (sym found) ∙ ap (stands_again (row_of r.device rows)) (sym (after clear)) ∙ stands))
+                ∙ sym (same_states r.state (let y : PairRow = told_of level cut failed next resumed in y.state) (ap (λ (o : Option PairRow). stands_again o (Some (told_of level cut failed next resumed))) (sym found) ∙ ap (stands_again (row_of r.device rows)) (sym (after clear)) ∙ stands))
                 ∙ ap (λ (y : PairRow). y.state) itself;
           }
 
-      stands_follow : (b : Bool) → stands_again (row_of r.device rows) (row_of r.device (hits next)) ≡ b → none_clash next ≡ true → InPlaces IsSuspendedSince (cond b rows (with_state r.device Pending rows)) (hits next)
+      stands_follow : (b : Bool) → stands_again (row_of r.device rows) (row_of r.device (hits next)) ≡ b → none_clash next ≡ true → InPlaces IsSuspendedSince (rows_again b group) (hits next)
       stands_follow false stands clear = subst (λ (all : List PairRow). InPlaces IsSuspendedSince all (hits next)) (sym again) (hits_follow level cut failed next (apart_of next clear))
       stands_follow true stands clear =
-          subst (λ (all : List PairRow). InPlaces IsSuspendedSince rows all) (ap (map (told_of level cut failed next)) again ∙ sym (hits_told level cut failed next))
-          (in_places_through IsSuspendedSince (changed_row r.device Pending) (told_of level cut failed next) rows (λ i x at.
+          subst (λ (all : List PairRow). InPlaces IsSuspendedSince (regrouped_rows r.device group rows) all) (ap (map (told_of level cut failed next)) again ∙ sym (hits_told level cut failed next))
+          (in_places_both IsSuspendedSince (row_changed r.device (regrouped_row group)) (row_changed r.device (resumed_in group)) (told_of level cut failed next) rows (λ i x at.
           let have : Among x rows = among_of rows x (i, slice_get_within rows i x at, get_or_from_slice_get rows i x x at) in
-          stays stands clear x (told_of level cut failed next (changed_row r.device Pending x)) have
-          (told_at level cut failed next i (changed_row r.device Pending x) (apart_of next clear) (ap (λ (all : List PairRow). slice_get all i) (sym again) ∙ slice_get-map (changed_row r.device Pending) rows i ∙ ap (option_map (changed_row r.device Pending)) at))
-          (λ own. ap (told_of level cut failed next) (ap (λ (b : Bool). cond b (in_state Pending x) x) own ∙ ap (in_state Pending) (sym (one_of_device r x rows apart among have (eqb-true r.device x.device own)))))))
+          stays stands clear x (told_of level cut failed next (row_changed r.device (resumed_in group) x)) have
+          (told_at level cut failed next i (row_changed r.device (resumed_in group) x) (apart_of next clear)
+          (ap (λ (all : List PairRow). slice_get all i) (sym again) ∙ slice_get-map (row_changed r.device (resumed_in group)) rows i ∙ ap (option_map (row_changed r.device (resumed_in group))) at))
+          (λ own. ap (told_of level cut failed next) (ap (λ (b : Bool). cond b (resumed_in group x) x) own ∙ ap (resumed_in group) (sym (one_of_device r x rows apart among have (eqb-true r.device x.device own)))))))
 
-  takes_pair : (primary secondary : List ℕ) → refuses_primary primary secondary names rows (primary_of primary names) ≡ None → Takes (change_of names (AddPair primary secondary) rows) (rows_after names at (AddPair primary secondary) rows)
-  takes_pair primary secondary own = by_row (row_of_primary primary rows) refl
+  takes_pair : (primary secondary : List ℕ) (group : Option (List ℕ)) → refuses_primary primary secondary names rows (primary_of primary names) ≡ None
+      → Takes (change_of names (AddPair primary secondary group) rows) (rows_after names at (AddPair primary secondary group) rows)
+  takes_pair primary secondary group own = by_row (row_of_primary primary rows) refl
     where
-      by_label : (v : NamedVolume) (l : Option NamedDevice) → refuses_label primary secondary rows v l ≡ None → RowsBy secondary None (Some v) l
+      by_label : (v : NamedVolume) (l : Option NamedDevice) → refuses_label primary secondary rows v l ≡ None → RowsBy secondary group None (Some v) l
       by_label v None own = absurd cc
-      by_label v (Some l) own = takes_new secondary v l
+      by_label v (Some l) own = takes_new secondary group v l
 
-      by_broken : (v : NamedVolume) (b : Bool) → cond b (Some (ControlBroken v.control)) (refuses_label primary secondary rows v (labelled_device secondary names)) ≡ None → RowsBy secondary None (Some v) (labelled_device secondary names)
+      by_broken : (v : NamedVolume) (b : Bool) → cond b (Some (ControlBroken v.control)) (refuses_label primary secondary rows v (labelled_device secondary names)) ≡ None → RowsBy secondary group None (Some v) (labelled_device secondary names)
       by_broken v true own = absurd cc
       by_broken v false own = by_label v (labelled_device secondary names) own
 
-      by_volume : (v : Option NamedVolume) → refuses_primary primary secondary names rows v ≡ None → RowsBy secondary None v (labelled_device secondary names)
+      by_volume : (v : Option NamedVolume) → refuses_primary primary secondary names rows v ≡ None → RowsBy secondary group None v (labelled_device secondary names)
       by_volume None own = absurd cc
       by_volume (Some v) own = by_broken v (is_broken v.control names) own
 
-      by_row : (o : Option PairRow) → row_of_primary primary rows ≡ o → RowsBy secondary o (primary_of primary names) (labelled_device secondary names)
+      by_row : (o : Option PairRow) → row_of_primary primary rows ≡ o → RowsBy secondary group o (primary_of primary names) (labelled_device secondary names)
       by_row None is = by_volume (primary_of primary names) own
-      by_row (Some r) is = takes_again primary r is (row_taken names rows primary secondary r (primary_of primary names) own is)
+      by_row (Some r) is = takes_again primary group r is (row_taken names rows primary secondary r (primary_of primary names) own is)
 
   takes_command : (command : Command) → is_start command ≡ false → refuses_command names rows command ≡ None → Takes (change_of names command rows) (rows_after names at command rows)
   takes_command (Start level) start own = absurd (true≢false start)
-  takes_command (AddPair primary secondary) start own = takes_pair primary secondary own
+  takes_command (AddPair primary secondary group) start own = takes_pair primary secondary group own
   takes_command (DelPair choice) start own = takes_by (Gone (devices_of (filter (is_chosen choice) rows))) (filter (λ r. not (is_chosen choice r)) rows) (λ clear. gone_rows (is_chosen choice) rows (apart_of rows apart)) (λ clear counted. tt)
   takes_command (Suspend choice) start own = λ clear counted. record { begun = tt; apart = apart; follow = suspends_follow level cut failed choice at rows (apart_of rows apart) }
   takes_command Query start own = takes_by (change_of names Query rows) rows (λ clear. refl) (λ clear counted. tt)

@@ -21,9 +21,9 @@ use Rattle.pair_table.specs.Devices.{is_among}
 use Rattle.pair_table.specs.Naming.{Naming, labelled_device, primary_of}
 use Rattle.pair_table.specs.Refusals.{is_of_primary, row_of_primary}
 use Rattle.pair_table.specs.Rows.{is_suspended}
-use Rattle.pair_table.specs.Tables.{changed_row, in_state, is_of, none_clash, row_of}
+use Rattle.pair_table.specs.Tables.{in_state, is_of, none_clash, resumed_in, row_changed, row_of}
 use Rattle.pair_table.proofs.FindLaws.{found_passes}
-use Rattle.pair_table.proofs.StateLaws.{state_of_primary}
+use Rattle.pair_table.proofs.StateLaws.{changed_of_primary}
 use Rattle.group_state.specs.Controls.{counts}
 use Rattle.group_state.specs.Groups.{Group, control_at}
 use Rattle.row_changes.specs.Changes.{FaultReach, hit_row, reach_of, reached_row, since}
@@ -94,12 +94,12 @@ module _ (names : Naming) (time : ℕ) (s : Group) (rows after : List PairRow) (
   begins : (change : Change) (y : PairRow) → y.state ≡ Pending → Rests change y
   begins change y pending cause from is = absurd (not_pending y.state cause from is pending)
 
-  resumed : (primary : List ℕ) (found : PairRow) (y : PairRow) → row_of_primary primary rows ≡ Some found → Among y (map (λ x. cond (is_of_primary found.primary x) (in_state Pending x) x) rows) → Rests (Resumed found.device) y
-  resumed primary found y is there =
-      let back = map_back (changed_row found.device Pending) y rows (subst (Among y) (sym (state_of_primary primary Pending rows found apart is)) there) in
+  resumed : (primary : List ℕ) (group : Option (List ℕ)) (found : PairRow) (y : PairRow) → row_of_primary primary rows ≡ Some found → Among y (map (λ x. cond (is_of_primary found.primary x) (resumed_in group x) x) rows) → Rests (Resumed found.device) y
+  resumed primary group found y is there =
+      let back = map_back (row_changed found.device (resumed_in group)) y rows (subst (Among y) (sym (changed_of_primary primary (resumed_in group) rows found apart is)) there) in
       by_device (is_of found.device back.0) back.0 back.1 refl back.2
     where
-      by_device : (b : Bool) (x : PairRow) → Among x rows → is_of found.device x ≡ b → cond b (in_state Pending x) x ≡ y → Rests (Resumed found.device) y
+      by_device : (b : Bool) (x : PairRow) → Among x rows → is_of found.device x ≡ b → cond b (resumed_in group x) x ≡ y → Rests (Resumed found.device) y
       by_device true x among is same = begins (Resumed found.device) y (ap (λ (r : PairRow). r.state) (sym same))
       by_device false x among is same = subst (Rests (Resumed found.device)) same (stays (Resumed found.device) x among is)
 
@@ -118,15 +118,15 @@ module _ (names : Naming) (time : ℕ) (s : Group) (rows after : List PairRow) (
       by_flag false is = refl
       by_flag true is = absurd (other (row_of device after) refl may.begun may.apart is)
 
-  pair_rests : (secondary : List ℕ) (o : Option PairRow) (v : Option NamedVolume) (l : Option NamedDevice) (primary : List ℕ) → row_of_primary primary rows ≡ o → MayTake s (added o l) rows after → (y : PairRow) → Among y (add_to rows o (new_row_for secondary v l)) → Rests (added o l) y
-  pair_rests secondary (Some found) v l primary is may y there = resumed primary found y is there
-  pair_rests secondary None (Some v) (Some l) primary is may y there = elim (among_either y (new_row secondary v l) rows there) [
+  pair_rests : (secondary : List ℕ) (group : Option (List ℕ)) (o : Option PairRow) (v : Option NamedVolume) (l : Option NamedDevice) (primary : List ℕ) → row_of_primary primary rows ≡ o → MayTake s (added o l) rows after → (y : PairRow) → Among y (add_to group rows o (new_row_for secondary group v l)) → Rests (added o l) y
+  pair_rests secondary group (Some found) v l primary is may y there = resumed primary group found y is there
+  pair_rests secondary group None (Some v) (Some l) primary is may y there = elim (among_either y (new_row secondary group v l) rows there) [
     | inl before ↦ stays (Added l.device) y before (not_added l.device y may before)
     | inr same ↦ begins (Added l.device) y (ap (λ (r : PairRow). r.state) (sym same))
   ]
-  pair_rests secondary None None (Some l) primary is may y there = stays (Added l.device) y there (not_added l.device y may there)
-  pair_rests secondary None (Some v) None primary is may y there = stays Nothing y there refl
-  pair_rests secondary None None None primary is may y there = stays Nothing y there refl
+  pair_rests secondary group None None (Some l) primary is may y there = stays (Added l.device) y there (not_added l.device y may there)
+  pair_rests secondary group None (Some v) None primary is may y there = stays Nothing y there refl
+  pair_rests secondary group None None None primary is may y there = stays Nothing y there refl
 
   suspended : (choice : Choice) (change : Change) (y : PairRow) → Among y (map (suspended_since choice time) rows) → ((x : PairRow) → is_begun change x.device ≡ false) → Rests change y
   suspended choice change y there none =
@@ -139,7 +139,7 @@ module _ (names : Naming) (time : ℕ) (s : Group) (rows after : List PairRow) (
 
   rests : (command : Command) → MayTake s (change_of names command rows) rows after → (y : PairRow) → Among y (rows_after names time command rows) → Rests (change_of names command rows) y
   rests (Start level) may y there = absurd (among_cases y [] there)
-  rests (AddPair primary secondary) may y there = pair_rests secondary (row_of_primary primary rows) (primary_of primary names) (labelled_device secondary names) primary refl may y there
+  rests (AddPair primary secondary group) may y there = pair_rests secondary group (row_of_primary primary rows) (primary_of primary names) (labelled_device secondary names) primary refl may y there
   rests (DelPair choice) may y there = stays (change_of names (DelPair choice) rows) y (among_kept (λ r. not (is_chosen choice r)) y rows there).0 refl
   rests (Suspend choice) may y there = suspended choice (change_of names (Suspend choice) rows) y there (λ x. refl)
   rests Query may y there = stays (change_of names Query rows) y there refl

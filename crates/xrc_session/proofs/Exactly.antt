@@ -34,7 +34,7 @@ use Rattle.xrc_session.proofs.Asked.{later_points}
 -- It tells tracks of an added pair alone.
 pub part_told : (c : Command) (r : Result Change Refusal) (a b : ℕ) → said_tracks c r a ≡ said_tracks c r b → answer_part c r a ≡ answer_part c r b
 part_told c (Err why) a b same = refl
-part_told (AddPair primary secondary) (Ok change) a b same = ap (λ (n : ℕ). answer_part (AddPair primary secondary) (Ok change) n) (same_some a b same)
+part_told (AddPair primary secondary group) (Ok change) a b same = ap (λ (n : ℕ). answer_part (AddPair primary secondary group) (Ok change) n) (same_some a b same)
 part_told (Start level) (Ok change) a b same = refl
 part_told (DelPair choice) (Ok change) a b same = refl
 part_told (Suspend choice) (Ok change) a b same = refl
@@ -50,9 +50,9 @@ own_line_told line x y answers times tracks =
 -- ---- before the start
 
 -- No pair is added before the start.
-pub refuses_unstarted : (names : Naming) (table : Table) (session primary secondary : List ℕ) → table.is_started ≡ false → (why : Refusal) × (refusal names table session (AddPair primary secondary) ≡ Some why)
-refuses_unstarted names table session primary secondary is =
-    subst (λ (b : Bool). (why : Refusal) × (refusal names (record table { is_started = b }) session (AddPair primary secondary) ≡ Some why)) (sym is) (by_both table.is_ended (bytes_eq session table.session) (refuses_command names table.rows (AddPair primary secondary)))
+pub refuses_unstarted : (names : Naming) (table : Table) (session primary secondary : List ℕ) (group : Option (List ℕ)) → table.is_started ≡ false → (why : Refusal) × (refusal names table session (AddPair primary secondary group) ≡ Some why)
+refuses_unstarted names table session primary secondary group is =
+    subst (λ (b : Bool). (why : Refusal) × (refusal names (record table { is_started = b }) session (AddPair primary secondary group) ≡ Some why)) (sym is) (by_both table.is_ended (bytes_eq session table.session) (refuses_command names table.rows (AddPair primary secondary group)))
   where
     by_both : (e b : Bool) (rest : Option Refusal) → (why : Refusal) × ((if e then Some Ended else if not b || (not false && not false) then Some NoSession else if false && false then Some NoSession else rest) ≡ Some why)
     by_both true b rest = (Ended, refl)
@@ -65,10 +65,10 @@ unstarted_told names table session (DelPair choice) is a b = refl
 unstarted_told names table session (Suspend choice) is a b = refl
 unstarted_told names table session Query is a b = refl
 unstarted_told names table session End is a b = refl
-unstarted_told names table session (AddPair primary secondary) is a b =
-    let why = refuses_unstarted names table session primary secondary is in
-    ap (λ (o : Option Refusal). said_tracks (AddPair primary secondary) (answer_by o (change_of names (AddPair primary secondary) table.rows)) a) why.1
-    ∙ sym (ap (λ (o : Option Refusal). said_tracks (AddPair primary secondary) (answer_by o (change_of names (AddPair primary secondary) table.rows)) b) why.1)
+unstarted_told names table session (AddPair primary secondary group) is a b =
+    let why = refuses_unstarted names table session primary secondary group is in
+    ap (λ (o : Option Refusal). said_tracks (AddPair primary secondary group) (answer_by o (change_of names (AddPair primary secondary group) table.rows)) a) why.1
+    ∙ sym (ap (λ (o : Option Refusal). said_tracks (AddPair primary secondary group) (answer_by o (change_of names (AddPair primary secondary group) table.rows)) b) why.1)
 
 -- A reply before the start looks at no points.
 pub exact_any : (run : ScriptRun) (s : Stage) (first other : Point) (points more : List PassedPoint) (n m : ℕ) (a : Answered) → s.table.is_started ≡ false → IsExact run s first points n a → IsExact run s other more m a

@@ -65,7 +65,7 @@ start_is session line level starts = by_command line.command starts
             let levels : l ≡ level = cc in
             (λ i. record { time = line.time; session = name i; command = Start (levels i) })
         by_name false named same = absurd cc
-    by_command (AddPair primary secondary) is = absurd cc
+    by_command (AddPair primary secondary group) is = absurd cc
     by_command (DelPair choice) is = absurd cc
     by_command (Suspend choice) is = absurd cc
     by_command Query is = absurd cc

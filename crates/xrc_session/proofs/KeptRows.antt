@@ -12,7 +12,7 @@ use Rattle.pair_table.specs.declared.row.PairRow.{PairRow}
 use Rattle.pair_table.specs.declared.row.PairState.{PairState}
 use Rattle.pair_table.specs.declared.row.PairState.TheVariants.{Duplex, Pending}
 use Rattle.pair_table.specs.Rows.{is_suspended}
-use Rattle.pair_table.specs.Tables.{in_state, is_of, none_clash, with_state, without_row}
+use Rattle.pair_table.specs.Tables.{in_state, is_of, none_clash, resumed_in, with_resumed, with_state, without_row}
 use Rattle.pair_table.proofs.TableLaws.{apart-filter, first_apart}
 use Rattle.pending_queue.specs.Entries.{entry_tracks}
 use Rattle.group_state.specs.declared.volume.Volume.{Volume}
@@ -38,7 +38,7 @@ use Rattle.xrc_session.specs.Taking.{IsSoundForRow, IsSoundForRows}
 use Rattle.xrc_session.proofs.Calls.{KeepsOther, begin_itself, begin_other, drop_itself, drop_other, forget_itself, forget_other, kept_other, keeps_begin, keeps_drop, keeps_forget, keeps_resume, other_at, own_is, plan_other, resume_itself, resume_other}
 use Rattle.xrc_session.proofs.Knowing.{base, never_both, passes_map}
 use Rattle.pair_table.specs.States.{is_duplex}
-use Rattle.xrc_session.proofs.CarriedRows.{IsOther, OthersSame, added_others, added_own, added_there, among_last, not_itself, stated_others, stated_own, stated_pairs, stated_there, without_others, without_own}
+use Rattle.xrc_session.proofs.CarriedRows.{IsOther, OthersSame, added_others, added_own, added_there, among_last, changed_others, changed_own, changed_pairs, itself_there, not_itself, without_others, without_own}
 use Rattle.xrc_session.proofs.Standing.{at_volume}
 
 -- ---- volumes
@@ -133,9 +133,9 @@ module _ (s : Group) (rows : List PairRow) (r : PairRow) (kept : IsSoundForRows 
   -- The row is suspended, and its volume dropped.
   pub kept_dropped_row : (state : PairState) (all : Bool) → is_suspended state ≡ true → IsSoundForRows (group_after s (Drop r.control r.volume all)) (with_state r.device state rows)
   kept_dropped_row state all suspends =
-      kept_after s r.control r.volume (dropped r.volume all) rows (with_state r.device state rows) (stated_others r state rows kept.apart there) (λ u apart. drop_other r.volume u all c apart) (λ d. refl) kept own.low
-      (apart_still rows (with_state r.device state rows) (stated_pairs r state rows kept.apart there) kept.apart) (keeps_drop s r.control r.volume all own.low kept.keeps)
-      (λ has. subst (IsSoundForRow (end_dropped all)) (sym (stated_own r state rows kept.apart there IsAny has)) itself) (λ is. stated_there r state rows kept.apart there)
+      kept_after s r.control r.volume (dropped r.volume all) rows (with_state r.device state rows) (changed_others r (in_state state) (λ t. refl) rows kept.apart there) (λ u apart. drop_other r.volume u all c apart) (λ d. refl) kept own.low
+      (apart_still rows (with_state r.device state rows) (changed_pairs r (in_state state) (λ t. refl) rows kept.apart there) kept.apart) (keeps_drop s r.control r.volume all own.low kept.keeps)
+      (λ has. subst (IsSoundForRow (end_dropped all)) (sym (changed_own r (in_state state) (λ t. refl) rows kept.apart there IsAny has)) itself) (λ is. itself_there r (in_state state) (λ t. refl) rows kept.apart there)
     where
       found : volume_of r.volume (control_at (end_dropped all) r.control).volumes ≡ option_map (dropped_volume all (entry_tracks r.volume c.queue.waiting)) (volume_of r.volume c.volumes)
       found = ap (λ (d : ControlState). volume_of r.volume d.volumes) (own_is s r.control (dropped r.volume all) own.low) ∙ drop_itself r.volume all c
@@ -155,16 +155,16 @@ module _ (s : Group) (rows : List PairRow) (r : PairRow) (kept : IsSoundForRows 
       }
 
   -- The row is pending again, and its volume is carried again.
-  pub kept_resumed_row : is_suspended r.state ≡ true → counts c.phase ≡ true → IsSoundForRows (group_after s (Resume r.control r.volume)) (with_state r.device Pending rows)
-  kept_resumed_row suspended counted =
-      kept_after s r.control r.volume (resumed r.volume) rows (with_state r.device Pending rows) (stated_others r Pending rows kept.apart there) (λ u apart. resume_other r.volume u c apart) (λ d. refl) kept own.low
-      (apart_still rows (with_state r.device Pending rows) (stated_pairs r Pending rows kept.apart there) kept.apart) (keeps_resume s r.control r.volume own.low (own.own.dropped suspended) kept.keeps)
-      (λ has. subst (IsSoundForRow end_resumed) (sym (stated_own r Pending rows kept.apart there IsAny has)) itself) (λ is. stated_there r Pending rows kept.apart there)
+  pub kept_resumed_row : (group : Option (List ℕ)) → is_suspended r.state ≡ true → counts c.phase ≡ true → IsSoundForRows (group_after s (Resume r.control r.volume)) (with_resumed r.device group rows)
+  kept_resumed_row group suspended counted =
+      kept_after s r.control r.volume (resumed r.volume) rows (with_resumed r.device group rows) (changed_others r (resumed_in group) (λ t. refl) rows kept.apart there) (λ u apart. resume_other r.volume u c apart) (λ d. refl) kept own.low
+      (apart_still rows (with_resumed r.device group rows) (changed_pairs r (resumed_in group) (λ t. refl) rows kept.apart there) kept.apart) (keeps_resume s r.control r.volume own.low (own.own.dropped suspended) kept.keeps)
+      (λ has. subst (IsSoundForRow end_resumed) (sym (changed_own r (resumed_in group) (λ t. refl) rows kept.apart there IsAny has)) itself) (λ is. itself_there r (resumed_in group) (λ t. refl) rows kept.apart there)
     where
       found : volume_of r.volume (control_at end_resumed r.control).volumes ≡ option_map resumed_volume (volume_of r.volume c.volumes)
       found = ap (λ (d : ControlState). volume_of r.volume d.volumes) (own_is s r.control (resumed r.volume) own.low) ∙ resume_itself r.volume c
 
-      itself : IsSoundForRow end_resumed (in_state Pending r)
+      itself : IsSoundForRow end_resumed (resumed_in group r)
       itself = record {
         low = (let low = own.low in omega (arith, low, same_count s r.control (resumed r.volume)));
         own = record {
@@ -173,7 +173,7 @@ module _ (s : Group) (rows : List PairRow) (r : PairRow) (kept : IsSoundForRows 
           carried = λ live. ap (passes (λ u. u.carried)) found ∙ passes_map (λ u. u.carried) resumed_volume (volume_of r.volume c.volumes) ∙ sized_there (tracks_of_row r) (volume_of r.volume c.volumes) own.own.sized;
           dropped = λ is. absurd (true≢false (sym is));
         };
-        counted = λ live. counted_still s r.control r.volume (resumed r.volume) rows (with_state r.device Pending rows) (stated_others r Pending rows kept.apart there) (λ u apart. resume_other r.volume u c apart) (λ d. refl) kept own.low counted;
+        counted = λ live. counted_still s r.control r.volume (resumed r.volume) rows (with_resumed r.device group rows) (changed_others r (resumed_in group) (λ t. refl) rows kept.apart there) (λ u apart. resume_other r.volume u c apart) (λ d. refl) kept own.low counted;
         done = λ is. absurd (true≢false (sym (ap is_duplex is)));
       }
 

@@ -1,5 +1,5 @@
 -- What is known of a volume and its row between epochs.
-use Rattle.std.proofs.Common.{◌≡◌, ℕ, ◌<◌, ◌≤◌, Bool, true, false, not, nat_eq, ◌&&◌, ◌||◌, List, length, Option, Some, None, refl, sym, ap, subst, ◌∙◌, arith, true≢false}
+use Rattle.std.proofs.Common.{◌≡◌, ℕ, ◌<◌, ◌≤◌, Bool, true, false, not, nat_eq, ◌&&◌, ◌||◌, List, map, length, Option, Some, None, refl, sym, ap, subst, ◌∙◌, arith, true≢false}
 use Rattle.std.specs.List.{Contains}
 use Rattle.std.specs.Option.{option_map}
 use Rattle.std.proofs.lemmas.Bool.{eqb-true}
@@ -8,7 +8,7 @@ use Rattle.change_map.specs.Sets.{has_track}
 use Rattle.crash_plant.specs.Moments.{PlantState}
 use Rattle.pair_table.specs.declared.row.PairRow.{PairRow}
 use Rattle.pair_table.specs.declared.row.PairState.{PairState}
-use Rattle.pair_table.specs.Tables.{are_below, in_state, with_state}
+use Rattle.pair_table.specs.Tables.{are_below, row_changed}
 use Rattle.group_state.specs.declared.volume.Volume.{Volume}
 use Rattle.group_state.specs.Volumes.{passes, resumed_volume, volume_of, wants}
 use Rattle.group_state.specs.Groups.{control_at}
@@ -21,7 +21,7 @@ use Rattle.mover.specs.OwedTracks.{held_by_choice, is_mapped, is_owed, is_volume
 use Rattle.mover.proofs.Ending.{below_pairs}
 use Rattle.mover.proofs.Pairs.{among_of, contains_of, pair_before, pairs_of}
 use Rattle.xrc_session.specs.EpochPauses.{Between, StandsBetween}
-use Rattle.xrc_session.proofs.CarriedRows.{IsOther, stated_own, stated_pairs}
+use Rattle.xrc_session.proofs.CarriedRows.{IsOther, LeavesPair, changed_own, changed_pairs}
 
 -- ---- flags
 
@@ -87,25 +87,25 @@ module _ (start : PlantState) (b : Between) (st : StandsBetween start b) where
       choose false is = st.rows.owed r.control r.volume (record { row = r; among = among; control = refl; volume = refl; state = is }) kept x low (e is)
       choose true is = st.rows.failed r.control r.volume (record { row = r; among = among; control = refl; volume = refl; state = is }) kept x low
 
-  -- rows with one in another state
-  module _ (r : PairRow) (state : PairState) (among : Contains b.point.rows r) where
+  -- rows with one that is changed, but for its pair
+  module _ (r : PairRow) (to : PairRow → PairRow) (leaves : LeavesPair to) (among : Contains b.point.rows r) where
     abbrev next : List PairRow
-    next = with_state r.device state b.point.rows
+    next = map (row_changed r.device to) b.point.rows
 
     pub same : pairs_of next ≡ pairs_of b.point.rows
-    same = stated_pairs r state b.point.rows st.rows.apart (among_of b.point.rows r among)
+    same = changed_pairs r to leaves b.point.rows st.rows.apart (among_of b.point.rows r among)
 
-    pub below_stated : are_below start.volumes next ≡ true
-    below_stated = sym (below_pairs start.volumes next) ∙ ap (are_below start.volumes) same ∙ below_pairs start.volumes b.point.rows ∙ st.rows.below
+    pub below_changed : are_below start.volumes next ≡ true
+    below_changed = sym (below_pairs start.volumes next) ∙ ap (are_below start.volumes) same ∙ below_pairs start.volumes b.point.rows ∙ st.rows.below
 
-    pub sized_stated : (s : PairRow) → Contains next s → tracks_of_row s ≤ b.size s.control s.volume
-    sized_stated s there =
+    pub sized_changed : (s : PairRow) → Contains next s → tracks_of_row s ≤ b.size s.control s.volume
+    sized_changed s there =
         let before = pair_before s b.point.rows next same (among_of next s there) in
         let m = st.rows.sized before.row (contains_of before.row b.point.rows before.among) in
         let tracks : tracks_of_row before.row ≡ tracks_of_row s = ap tracks_of_row before.pair in
         let at : b.size before.row.control before.row.volume ≡ b.size s.control s.volume = ap (λ (t : PairRow). b.size t.control t.volume) before.pair in
         omega (arith, m, tracks, at)
 
-    -- the row of the volume is the row in its other state
-    pub own_state : (is : PairState → Type 0) (has : HasRowIn is r.control r.volume next) → has.row ≡ in_state state r
-    own_state is has = stated_own r state b.point.rows st.rows.apart (among_of b.point.rows r among) is has
+    -- the row of the volume is the row, changed
+    pub own_row : (is : PairState → Type 0) (has : HasRowIn is r.control r.volume next) → has.row ≡ to r
+    own_row is has = changed_own r to leaves b.point.rows st.rows.apart (among_of b.point.rows r among) is has

@@ -75,7 +75,7 @@ started_command session line level is = by_command line.command is
         by_name : (b : Bool) → (if b then Some l else None) ≡ Some level → Start l ≡ Start level
         by_name true levels = let level_is : l ≡ level = cc in ap (λ (x : Level). Start x) level_is
         by_name false levels = absurd cc
-    by_command (AddPair primary secondary) same = absurd cc
+    by_command (AddPair primary secondary group) same = absurd cc
     by_command (DelPair choice) same = absurd cc
     by_command (Suspend choice) same = absurd cc
     by_command Query same = absurd cc

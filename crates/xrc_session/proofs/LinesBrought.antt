@@ -55,7 +55,7 @@ not_end_added None (Some l) = refl
 not_end_added None None = refl
 
 end_by_change : (names : Naming) (c : Command) (rows : List PairRow) → is_end_accepted (Ok (change_of names c rows)) ≡ is_end c
-end_by_change names (AddPair primary secondary) rows = not_end_added (row_of_primary primary rows) (labelled_device secondary names)
+end_by_change names (AddPair primary secondary group) rows = not_end_added (row_of_primary primary rows) (labelled_device secondary names)
 end_by_change names (DelPair choice) rows = refl
 end_by_change names (Suspend choice) rows = refl
 end_by_change names (Start level) rows = refl

@@ -61,7 +61,7 @@ answers_unstarted names name session (Start level) = by_name (bytes_eq session n
     by_name : (b : Bool) → bytes_eq session name ≡ b → AnswersUnstarted names name session (Start level)
     by_name true is = Starts level is (ap (λ (b : Bool). if not b || (true && not true) then Some NoSession else None) is)
     by_name false is = Refuses (Start level) NoSession (ap (λ (b : Bool). if not b || (true && not true) then Some NoSession else None) is) (λ l same. is)
-answers_unstarted names name session (AddPair primary secondary) = Refuses (AddPair primary secondary) NoSession (by_name (bytes_eq session name) (refuses_command names [] (AddPair primary secondary))) (λ l same. absurd cc)
+answers_unstarted names name session (AddPair primary secondary group) = Refuses (AddPair primary secondary group) NoSession (by_name (bytes_eq session name) (refuses_command names [] (AddPair primary secondary group))) (λ l same. absurd cc)
   where
     by_name : (b : Bool) (rest : Option Refusal) → (if not b || true then Some NoSession else rest) ≡ Some NoSession
     by_name true rest = refl
@@ -89,7 +89,7 @@ answers_unstarted names name session End = Refuses End NoSession (by_name (bytes
 
 err_level : (c : Command) (why : Refusal) → level_in (Err why) c ≡ None
 err_level (Start level) why = refl
-err_level (AddPair primary secondary) why = refl
+err_level (AddPair primary secondary group) why = refl
 err_level (DelPair choice) why = refl
 err_level (Suspend choice) why = refl
 err_level Query why = refl
@@ -101,7 +101,7 @@ level_is_started names name line = by_answer line.command (answers_unstarted nam
   where
     none_started : (c : Command) → ((level : Level) → c ≡ Start level → bytes_eq line.session name ≡ false) → None ≡ level_started name (record line { command = c })
     none_started (Start level) other = sym (ap (λ (b : Bool). if b then Some level else None) (other level refl))
-    none_started (AddPair primary secondary) other = refl
+    none_started (AddPair primary secondary group) other = refl
     none_started (DelPair choice) other = refl
     none_started (Suspend choice) other = refl
     none_started Query other = refl

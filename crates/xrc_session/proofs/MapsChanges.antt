@@ -16,7 +16,7 @@ use Rattle.pair_table.specs.declared.row.PairState.{PairState}
 use Rattle.pair_table.specs.declared.row.PairState.TheVariants.{Pending, Copy, Duplex, Suspended}
 use Rattle.pair_table.specs.declared.row.SuspendCause.{SuspendCause}
 use Rattle.pair_table.specs.Rows.{is_suspended}
-use Rattle.pair_table.specs.Tables.{in_state, is_of, none_clash, row_of, with_state}
+use Rattle.pair_table.specs.Tables.{in_state, is_of, none_clash, row_of, with_resumed}
 use Rattle.pair_table.proofs.FindLaws.{found_passes}
 use Rattle.group_state.specs.declared.volume.Volume.{Volume}
 use Rattle.group_state.specs.Controls.{ControlState, counts, resumed}
@@ -39,11 +39,11 @@ use Rattle.mover.proofs.Pairs.{Among, among_of, apart_still, contains_of, found_
 use Rattle.xrc_session.specs.Maps.{RestsAtCut, maps_track}
 use Rattle.xrc_session.specs.MapsOwed.{MapsOwed, MapsRest, SuspendedUpTo}
 use Rattle.xrc_session.specs.MapsTaken.{MapsOwedAfterChanges, PassesBy, SuspendsAt}
-use Rattle.xrc_session.specs.Taking.{AllMay, IsSoundForRow, IsSoundForRows, MayTake, after_calls, as_pending, calls_of_change, command_calls, drop_call, drop_calls, is_begun, is_suspended_as, owes_again}
-use Rattle.xrc_session.specs.Taking.{resume_calls, rows_by_command, stands_again, state_by_command, state_or_pending, tracks_owed_to}
+use Rattle.xrc_session.specs.Taking.{AllMay, IsSoundForRow, IsSoundForRows, MayTake, after_calls, as_pending, calls_of_change, command_calls, drop_call, drop_calls, pair_group_after, regrouped_row, is_begun, is_suspended_as, owes_again}
+use Rattle.xrc_session.specs.Taking.{resume_calls, rows_by_command, stands_again, state_by_command, state_or_pending, tracks_owed_to, regrouped_rows}
 use Rattle.xrc_session.proofs.CallRuns.{after_both, first_may, second_may}
 use Rattle.xrc_session.proofs.Calls.{own_is, resume_itself}
-use Rattle.xrc_session.proofs.CarriedRows.{one_of_device}
+use Rattle.xrc_session.proofs.CarriedRows.{changed_pairs, itself_among, one_of_device}
 use Rattle.xrc_session.proofs.Changed.{Kept, no_plans, taken}
 use Rattle.xrc_session.proofs.Commanded.{same_states}
 use Rattle.xrc_session.proofs.JoinsLanes.{Each, changes_stay, each_of_both}
@@ -404,17 +404,26 @@ module _ (run : ScriptRun) (first : Point) (points more : List PassedPoint) (p q
         stood : (before_row after_row : Option PairRow) → row_of z.device before ≡ before_row → row_of z.device after ≡ after_row → stands_again (row_of z.device before) (row_of z.device after) ≡ stands_again before_row after_row
         stood o n e f = λ i. stands_again (e i) (f i)
 
-        among_from : Among from.row before
+        -- the group that it has now
+        abbrev group : Option (List ℕ)
+        group = pair_group_after z.device after
+
+        among_from : Among from.row (regrouped_rows z.device group before)
         among_from =
             subst (Among from.row)
-            (ap (λ (c : Change). rows_by_command c before after) resumes ∙ ap (λ (b : Bool). cond b before (with_state z.device Pending before)) (stood (Some r) (Some z) found found_after ∙ as_was))
+            (ap (λ (c : Change). rows_by_command c before after) resumes
+            ∙ ap (λ (b : Bool). cond b (regrouped_rows z.device group before) (with_resumed z.device group before)) (stood (Some r) (Some z) found found_after ∙ as_was))
             from.among
 
-        from_is : from.row ≡ r
-        from_is = one_of_device from.row r before kept.apart among_from among (device ∙ eqb-true z.device r.device same_device)
+        from_is : from.row ≡ regrouped_row group r
+        from_is =
+            let own : z.device ≡ r.device = eqb-true z.device r.device same_device in
+            let clear_grouped = apart_still before (regrouped_rows r.device group before) (changed_pairs r (regrouped_row group) (λ y. refl) before kept.apart among) kept.apart in
+            one_of_device from.row (regrouped_row group r) (regrouped_rows r.device group before) clear_grouped (subst (λ (d : ℕ). Among from.row (regrouped_rows d group before)) own among_from)
+            (itself_among r (regrouped_row group) (λ y. refl) before kept.apart among) (device ∙ own)
 
-        z_is : z ≡ r
-        z_is = from.goes.same ∙ ap (in_state z.state) from_is ∙ ap (λ (x : PairState). in_state x r) (sym same)
+        z_is : z ≡ regrouped_row group r
+        z_is = from.goes.same ∙ ap (in_state z.state) from_is ∙ ap (λ (x : PairState). in_state x (regrouped_row group r)) (sym same)
 
         abbrev k : ℕ
         k = z.control
@@ -485,14 +494,18 @@ module _ (run : ScriptRun) (first : Point) (points more : List PassedPoint) (p q
             clears None = refl
             clears (Some u) = has_none (length u.map) x
 
-        among_z : Among z before
-        among_z = subst (λ (y : PairRow). Among y before) (sym z_is) among
+        -- what was so of the row, whatever its group, is so of it
+        abbrev Owed : PairRow → Type 0
+        Owed u = is_suspended u.state ≡ true → counts (control_at s u.control).phase ≡ true → (y : ℕ) → y < tracks_of_row u → maps_track u.volume y (control_at s u.control) ≡ owes_track run first points u p.time y
+
+        owed_z : Owed z
+        owed_z = subst Owed (sym z_is) (owed r (contains_of r before among))
 
         was_owed : (y : ℕ) → y < tracks_of_row z → maps_track v y (control_at s k) ≡ (is_by_device cause || not (was_duplex z first points) || is_changed run z.control z.volume at.0 p.time y)
-        was_owed y under = owed z (contains_of z before among_z) suspends counted_was y under ∙ ap (λ (state : PairState). owes_in run (was_duplex z first points) z state p.time y) is
+        was_owed y under = owed_z suspends counted_was y under ∙ ap (λ (state : PairState). owes_in run (was_duplex z first points) z state p.time y) is
 
         sized : passes (is_of_size (tracks_of_row z)) (volume_of v (control_at s k).volumes) ≡ true
-        sized = (kept.each z (contains_of z before among_z)).own.sized
+        sized = subst (λ (u : PairRow). passes (is_of_size (tracks_of_row u)) (volume_of u.volume (control_at s u.control).volumes) ≡ true) (sym z_is) ((kept.each r (contains_of r before among)).own.sized)
 
         whole_is : whole ≡ (is_by_device cause || not (nat_eq (tracks_owed_to s (Some z)) 0))
         whole_is = ap (λ (b : Bool). b || not (nat_eq (tracks_owed_to s (Some z)) 0)) (ap is_device_suspended is)

@@ -9,7 +9,7 @@ use Rattle.pair_table.specs.declared.command.Change.TheVariants.{Nothing, Starte
 use Rattle.pair_table.specs.declared.row.PairRow.{PairRow}
 use Rattle.pair_table.specs.declared.row.PairState.TheVariants.{Pending}
 use Rattle.pair_table.specs.Devices.{is_among}
-use Rattle.pair_table.specs.Tables.{changed_row, in_state, is_of, none_clash, row_of, with_state}
+use Rattle.pair_table.specs.Tables.{in_state, is_of, none_clash, resumed_in, row_changed, row_of, with_resumed}
 use Rattle.pair_table.proofs.FindLaws.{found_passes}
 use Rattle.pair_table.proofs.PutLaws.{number_sym}
 use Rattle.pair_table.proofs.TableLaws.{first_apart, not_true}
@@ -22,7 +22,7 @@ use Rattle.mover.proofs.Failing.{among_map}
 use Rattle.mover.proofs.Pairs.{Among, among_cases, apart_among}
 use Rattle.mover.proofs.Pairs.Among.{Here, Later}
 use Rattle.pair_table.specs.States.{owes}
-use Rattle.xrc_session.specs.Taking.{IsSuspendedSince, MayBeBegun, as_pending, carry_calls, command_calls, drop_call, drop_calls, forget_calls, is_begun, owes_again, resume_calls, rows_by_command, stands_again, state_by_command, tracks_owed_to}
+use Rattle.xrc_session.specs.Taking.{IsSuspendedSince, MayBeBegun, as_pending, carry_calls, command_calls, drop_call, drop_calls, forget_calls, pair_group_after, regrouped_row, is_begun, owes_again, resume_calls, rows_by_command, stands_again, state_by_command, tracks_owed_to, regrouped_rows}
 use Rattle.xrc_session.proofs.CarriedRows.{IsOther, among_either, among_kept, one_of_volume}
 use Rattle.xrc_session.proofs.JoinsLanes.{Each, each_of_both}
 use Rattle.xrc_session.proofs.MapsOff.{IsOff}
@@ -89,14 +89,19 @@ was_there s (Added device) before after r begun there other = choose (row_of dev
     ]
 was_there s (Resumed device) before after r begun there other = choose (stands_again (row_of device before) (row_of device after)) there
   where
-    changed : (w : PairRow) → Among w before → changed_row device Pending w ≡ r → (b : Bool) → nat_eq device w.device ≡ b → WasThere (Resumed device) before r
-    changed w among is true own =
-        absurd (true≢false (sym own ∙ ap (λ (x : PairRow). nat_eq device x.device) (sym (ap (λ (b : Bool). cond b (in_state Pending w) w) own)) ∙ ap (λ (x : PairRow). nat_eq device x.device) is ∙ other))
-    changed w among is false own = record { among = subst (λ (x : PairRow). Among x before) (sym (ap (λ (b : Bool). cond b (in_state Pending w) w) own) ∙ is) among; stays = tt }
+    group : Option (List ℕ)
+    group = pair_group_after device after
 
-    choose : (b : Bool) → Among r (cond b before (with_state device Pending before)) → WasThere (Resumed device) before r
-    choose true there = record { among = there; stays = tt }
-    choose false there = let was = among_map (changed_row device Pending) r before there in changed was.row was.among was.is (nat_eq device was.row.device) refl
+    changed : (to : PairRow → PairRow) → ((w : PairRow) → (to w).device ≡ w.device) → (w : PairRow) → Among w before → row_changed device to w ≡ r → (b : Bool) → nat_eq device w.device ≡ b → WasThere (Resumed device) before r
+    changed to leaves w among is true own =
+        absurd
+        (true≢false
+        (sym own ∙ ap (nat_eq device) (sym (leaves w)) ∙ ap (λ (x : PairRow). nat_eq device x.device) (sym (ap (λ (b : Bool). cond b (to w) w) own)) ∙ ap (λ (x : PairRow). nat_eq device x.device) is ∙ other))
+    changed to leaves w among is false own = record { among = subst (λ (x : PairRow). Among x before) (sym (ap (λ (b : Bool). cond b (to w) w) own) ∙ is) among; stays = tt }
+
+    choose : (b : Bool) → Among r (cond b (regrouped_rows device group before) (with_resumed device group before)) → WasThere (Resumed device) before r
+    choose true there = let was = among_map (row_changed device (regrouped_row group)) r before there in changed (regrouped_row group) (λ w. refl) was.row was.among was.is (nat_eq device was.row.device) refl
+    choose false there = let was = among_map (row_changed device (resumed_in group)) r before there in changed (resumed_in group) (λ w. refl) was.row was.among was.is (nat_eq device was.row.device) refl
 was_there s (Gone devices) before after r begun there other =
     let kept = among_kept (λ x. not (is_among x.device devices)) r before there in
     record { among = kept.0; stays = not_true (is_among r.device devices) kept.1 }

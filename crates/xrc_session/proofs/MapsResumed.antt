@@ -10,7 +10,7 @@ use Rattle.pair_table.specs.declared.row.PairRow.{PairRow}
 use Rattle.pair_table.specs.declared.row.PairState.{PairState}
 use Rattle.pair_table.specs.declared.row.PairState.TheVariants.{Pending, Copy, Duplex, Suspended}
 use Rattle.pair_table.specs.Rows.{is_suspended}
-use Rattle.pair_table.specs.Tables.{in_state, none_clash, row_of, with_state}
+use Rattle.pair_table.specs.Tables.{in_state, none_clash, resumed_in, row_of, with_resumed}
 use Rattle.group_state.specs.declared.volume.Volume.{Volume}
 use Rattle.group_state.specs.Controls.{ControlState, counts, resumed}
 use Rattle.group_state.specs.Groups.{Group, control_at}
@@ -26,9 +26,9 @@ use Rattle.fed_logs.proofs.Standing.{same_count}
 use Rattle.mover.proofs.Pairs.{Among, among_of, apart_still, found_of_device}
 use Rattle.xrc_session.specs.MapsOwed.{MapsOwed}
 use Rattle.pair_table.specs.States.{owes}
-use Rattle.xrc_session.specs.Taking.{AllMay, IsSoundForRows, MayTake, after_calls, calls_of_change, command_calls, drop_call, drop_calls, owes_again, resume_calls, rows_by_command, stands_again, state_by_command, tracks_owed_to}
+use Rattle.xrc_session.specs.Taking.{AllMay, IsSoundForRows, MayTake, after_calls, calls_of_change, command_calls, drop_call, drop_calls, pair_group_after, owes_again, resume_calls, rows_by_command, stands_again, state_by_command, tracks_owed_to, regrouped_rows}
 use Rattle.xrc_session.proofs.Calls.{own_is, resume_itself}
-use Rattle.xrc_session.proofs.CarriedRows.{one_of_device, stated_among}
+use Rattle.xrc_session.proofs.CarriedRows.{itself_among, one_of_device}
 use Rattle.xrc_session.proofs.Changed.{Kept, no_plans, taken}
 use Rattle.xrc_session.proofs.JoinsLanes.{Each}
 use Rattle.xrc_session.proofs.MapsCommands.{all_off, came_from, split_at}
@@ -93,17 +93,20 @@ module _ (run : ScriptRun) (first : Point) (points : List PassedPoint) (p : Poin
       off : (b : Bool) → b ≡ false → stands_again (Some r) (Some z) ≡ false
       off b is = rw (live, stands_again) refl
 
-  rows_are : rows_by_command change before after ≡ with_state r.device Pending before
-  rows_are = ap (λ (b : Bool). cond b before (with_state r.device Pending before)) fresh
+  abbrev group : Option (List ℕ)
+  group = pair_group_after r.device after
 
-  -- It has the pair of the row.
-  is_pair : z ≡ in_state z.state r
+  rows_are : rows_by_command change before after ≡ with_resumed r.device group before
+  rows_are = ap (λ (b : Bool). cond b (regrouped_rows r.device group before) (with_resumed r.device group before)) fresh
+
+  -- It has the pair of the row, in its new group.
+  is_pair : z ≡ in_state z.state (resumed_in group r)
   is_pair =
       let from = came_from (rows_by_command change before after) after z may.follow there in
       let among = subst (Among from.row) rows_are from.among in
       let apart = subst (λ (rows : List PairRow). none_clash rows ≡ true) rows_are may.apart in
       let device : from.row.device ≡ r.device = sym (ap (λ (y : PairRow). y.device) from.goes.same) ∙ same in
-      from.goes.same ∙ ap (in_state z.state) (one_of_device from.row (in_state Pending r) (with_state r.device Pending before) apart among (stated_among r Pending before kept.apart (among_of before r in_before)) device)
+      from.goes.same ∙ ap (in_state z.state) (one_of_device from.row (resumed_in group r) (with_resumed r.device group before) apart among (itself_among r (resumed_in group) (λ y. refl) before kept.apart (among_of before r in_before)) device)
 
   own_are : command_calls change s before after ≡ Resume k v ∷ []
   own_are =

@@ -1,16 +1,17 @@
 -- The volumes of a header are named one after another.
-use Rattle.std.proofs.Common.{◌≡◌, ℕ, zero, suc, ◌+◌, ◌-◌, ◌<◌, ◌≤◌, ◌==◌, ◌&&◌, ◌||◌, not, Bool, true, false, cond, nat_eq, nat_lt, nat_le, List, [], ◌∷◌, ◌++◌, length, map, take, drop, get_or, Some, None, refl, sym, ap, subst, ◌∙◌, append-nil, append_assoc, arith}
+use Rattle.std.proofs.Common.{◌≡◌, ℕ, zero, suc, ◌+◌, ◌-◌, ◌<◌, ◌≤◌, ◌&&◌, ◌||◌, not, Bool, true, false, cond, nat_eq, nat_lt, nat_le, List, [], ◌∷◌, ◌++◌, length, map, take, drop, get_or, Some, None, refl, sym, ap, subst, ◌∙◌, append-nil, append_assoc, arith}
 use Rattle.std.specs.Prelude.{bytes_eq, IsTrue}
 use Rattle.std.specs.List.{list_all, list_any}
 use Rattle.std.proofs.lemmas.Bool.{and_from, and_parts, le-leb, leb-true, lt-ltb, ltb-true, ne_eqb}
 use Rattle.std.proofs.lemmas.List.{at_drop_more, get_or-take, length-take-le, take_all, take_more}
 use Rattle.std.proofs.lemmas.List.Folds.{list_all-append, list_any-append}
 use Rattle.xrc_edge.specs.declared.limits.TheConstants.{MOST_CONTROLS, MOST_CYLINDERS, MOST_CONTROL_VOLUMES}
-use Rattle.tod_stamp.specs.Fields.{within}
+use Rattle.tod_stamp.specs.Fields.{is_version, within}
 use Rattle.tod_stamp.specs.Names.{is_serial}
 use Rattle.write_trace.specs.declared.header.Header.{Header}
 use Rattle.write_trace.specs.declared.header.VolumeHead.{VolumeHead}
-use Rattle.write_trace.specs.Headers.{are_bases, are_volumes, is_header_of}
+use Rattle.write_trace.specs.Headers.{are_bases, are_volumes, is_header, most_cylinders}
+use Rattle.write_trace.proofs.BaseCounts.{most_few}
 use Rattle.pair_table.specs.declared.names.NamedVolume.{NamedVolume}
 use Rattle.pair_table.specs.Naming.{MayName, Naming, are_alike, none_alike, with_primary}
 use Rattle.pair_table.specs.Rows.{are_in_ranges}
@@ -77,14 +78,14 @@ record IsApart (seen : List (List ℕ)) (heads : List VolumeHead) (v : ℕ) (d :
   earlier : (i : ℕ) → i < v → bytes_eq (get_or heads v d).serial (get_or heads i d).serial ≡ false
   few : within 1 MOST_CYLINDERS (get_or heads v d).cylinders ≡ true
 
-apart_at : (seen : List (List ℕ)) (heads : List VolumeHead) (v : ℕ) (d : VolumeHead) → are_volumes 1 seen heads ≡ true → v < length heads → IsApart seen heads v d
+apart_at : (seen : List (List ℕ)) (heads : List VolumeHead) (v : ℕ) (d : VolumeHead) → are_volumes 2 seen heads ≡ true → v < length heads → IsApart seen heads v d
 apart_at seen [] v d are inside = absurd (omega (arith, inside))
 apart_at seen (h ∷ heads) zero d are inside =
-    let three = and_parts (is_serial h.serial && not (list_any (bytes_eq h.serial) seen) && within 1 MOST_CYLINDERS h.cylinders) (are_volumes 1 (h.serial ∷ seen) heads) are in
+    let three = and_parts (is_serial h.serial && not (list_any (bytes_eq h.serial) seen) && within 1 MOST_CYLINDERS h.cylinders) (are_volumes 2 (h.serial ∷ seen) heads) are in
     let two = and_parts (is_serial h.serial && not (list_any (bytes_eq h.serial) seen)) (within 1 MOST_CYLINDERS h.cylinders) three.0 in
     record { unseen = false_of_not (list_any (bytes_eq h.serial) seen) (and_parts (is_serial h.serial) (not (list_any (bytes_eq h.serial) seen)) two.0).1; earlier = λ i less. absurd (omega (arith, less)); few = two.1 }
 apart_at seen (h ∷ heads) (suc v) d are inside =
-    let three = and_parts (is_serial h.serial && not (list_any (bytes_eq h.serial) seen) && within 1 MOST_CYLINDERS h.cylinders) (are_volumes 1 (h.serial ∷ seen) heads) are in
+    let three = and_parts (is_serial h.serial && not (list_any (bytes_eq h.serial) seen) && within 1 MOST_CYLINDERS h.cylinders) (are_volumes 2 (h.serial ∷ seen) heads) are in
     let rest = apart_at (h.serial ∷ seen) heads v d three.1 (omega arith) in
     let new = either_false (bytes_eq (get_or heads v d).serial h.serial) (list_any (bytes_eq (get_or heads v d).serial) seen) rest.unseen in
     record { unseen = new.1; earlier = earlier_of rest new.0; few = rest.few }
@@ -136,7 +137,7 @@ abbrev pub names_after : (control : ℕ) → List VolumeHead → (below : ℕ) �
 names_after control heads v names = record names { primaries = names.primaries ++ volumes_named control 0 (take v heads) }
 
 -- The next volume may be named.
-pub may_name : (control : ℕ) (heads : List VolumeHead) (named : List (List ℕ)) (before names : Naming) (v : ℕ) (head : VolumeHead) → control < 16 → are_volumes 1 [] heads ≡ true → length heads ≤ 32 → NamesApart control heads named before
+pub may_name : (control : ℕ) (heads : List VolumeHead) (named : List (List ℕ)) (before names : Naming) (v : ℕ) (head : VolumeHead) → control < 16 → are_volumes 2 [] heads ≡ true → length heads ≤ 32 → NamesApart control heads named before
     → v < length heads → head ≡ get_or heads v head → names ≡ names_after control heads v before → MayName (volume_named control v head) names
 may_name control heads named before names v head small are few apart inside is after = subst (λ (h : VolumeHead). MayName (volume_named control v h) names) (sym is) (record { ranges = ranges; new = new })
   where
@@ -219,7 +220,7 @@ same_at (x ∷ xs) zero d e inside = refl
 same_at (x ∷ xs) (suc i) d e inside = same_at xs i d e (omega arith)
 
 -- The volumes of a header are named apart from one another and from those before.
-named_apart : (control : ℕ) (heads : List VolumeHead) (named : List (List ℕ)) (before : Naming) (d : VolumeHead) → control < 16 → are_volumes 1 [] heads ≡ true → length heads ≤ 32 → NamesApart control heads named before → (n : ℕ) → n ≤ length heads
+named_apart : (control : ℕ) (heads : List VolumeHead) (named : List (List ℕ)) (before : Naming) (d : VolumeHead) → control < 16 → are_volumes 2 [] heads ≡ true → length heads ≤ 32 → NamesApart control heads named before → (n : ℕ) → n ≤ length heads
     → none_alike (names_after control heads n before).primaries ≡ true
 named_apart control heads named before d small are few apart zero within = ap none_alike (append-nil before.primaries) ∙ apart.are.apart
 named_apart control heads named before d small are few apart (suc n) within =
@@ -234,19 +235,30 @@ named_apart control heads named before d small are few apart (suc n) within =
     let number : n + 1 ≡ suc n = omega arith in
     ap (λ (m : ℕ). none_alike (names_after control heads m before).primaries) (sym number) ∙ ap (λ (x : Naming). none_alike x.primaries) (sym next) ∙ more
 
+-- Volumes of any version have no more cylinders than in version 2.
+wide_volumes : (version : ℕ) (seen : List (List ℕ)) (heads : List VolumeHead) → are_volumes version seen heads ≡ true → are_volumes 2 seen heads ≡ true
+wide_volumes version seen [] are = refl
+wide_volumes version seen (h ∷ heads) are =
+    let front = is_serial h.serial && not (list_any (bytes_eq h.serial) seen) in
+    let three = and_parts (front && within 1 (most_cylinders version) h.cylinders) (are_volumes version (h.serial ∷ seen) heads) are in
+    let two = and_parts front (within 1 (most_cylinders version) h.cylinders) three.0 in
+    let one = and_parts (nat_le 1 h.cylinders) (nat_le h.cylinders (most_cylinders version)) two.1 in
+    let few : nat_le h.cylinders MOST_CYLINDERS ≡ true = le-leb h.cylinders MOST_CYLINDERS (omega (arith, leb-true h.cylinders (most_cylinders version) one.1, most_few version)) in
+    and_from (front && within 1 MOST_CYLINDERS h.cylinders) (are_volumes 2 (h.serial ∷ seen) heads) (and_from front (within 1 MOST_CYLINDERS h.cylinders) two.0 (and_from (nat_le 1 h.cylinders) (nat_le h.cylinders MOST_CYLINDERS) one.0 few)) (wide_volumes version (h.serial ∷ seen) heads three.1)
+
 -- A header that keeps its rules has 1 to 32 volumes, which keep theirs.
 pub record HasGoodVolumes (heads : List VolumeHead) : Type 0 where
   pub some : 1 ≤ length heads
   pub few : length heads ≤ 32
-  pub are : are_volumes 1 [] heads ≡ true
+  pub are : are_volumes 2 [] heads ≡ true
 
-pub volumes_of_header : (h : Header) → is_header_of 1 h ≡ true → HasGoodVolumes h.volumes
+pub volumes_of_header : (h : Header) → is_header h ≡ true → HasGoodVolumes h.volumes
 volumes_of_header h kept =
-    let three = and_parts (h.version == 1 && within 1 MOST_CONTROL_VOLUMES (length h.volumes) && are_volumes 1 [] h.volumes) (are_bases h.volumes (0, 0) h.base) kept in
-    let two = and_parts (h.version == 1 && within 1 MOST_CONTROL_VOLUMES (length h.volumes)) (are_volumes 1 [] h.volumes) three.0 in
-    let count = and_parts (h.version == 1) (within 1 MOST_CONTROL_VOLUMES (length h.volumes)) two.0 in
+    let three = and_parts (is_version h.version && within 1 MOST_CONTROL_VOLUMES (length h.volumes) && are_volumes h.version [] h.volumes) (are_bases h.volumes (0, 0) h.base) kept in
+    let two = and_parts (is_version h.version && within 1 MOST_CONTROL_VOLUMES (length h.volumes)) (are_volumes h.version [] h.volumes) three.0 in
+    let count = and_parts (is_version h.version) (within 1 MOST_CONTROL_VOLUMES (length h.volumes)) two.0 in
     let ends = and_parts (nat_le 1 (length h.volumes)) (nat_le (length h.volumes) MOST_CONTROL_VOLUMES) count.1 in
-    record { some = leb-true 1 (length h.volumes) ends.0; few = leb-true (length h.volumes) MOST_CONTROL_VOLUMES ends.1; are = two.1 }
+    record { some = leb-true 1 (length h.volumes) ends.0; few = leb-true (length h.volumes) MOST_CONTROL_VOLUMES ends.1; are = wide_volumes h.version [] h.volumes two.1 }
 
 -- The serials that were named are those of the names again, now of one controller more.
 pub serials_are_named : (control : ℕ) (heads : List VolumeHead) (old named : List (List ℕ)) (before names : Naming) → control < 16 → HasGoodVolumes heads → NamesApart control heads old before
@@ -264,7 +276,7 @@ serials_are_named control heads old named before names small good apart after = 
 }
 
 -- So it is by a header that was read.
-pub serials_by_header : (control : ℕ) (h : Header) (heads : List VolumeHead) (old named : List (List ℕ)) (before names : Naming) → heads ≡ h.volumes → control < 16 → is_header_of 1 h ≡ true → AreSerialsNamed control old before → first_named_again old 0 h.volumes ≡ None
+pub serials_by_header : (control : ℕ) (h : Header) (heads : List VolumeHead) (old named : List (List ℕ)) (before names : Naming) → heads ≡ h.volumes → control < 16 → is_header h ≡ true → AreSerialsNamed control old before → first_named_again old 0 h.volumes ≡ None
     → (names ≡ record before { primaries = before.primaries ++ volumes_named control 0 heads }) × (named ≡ old ++ serials_in_header heads) → AreSerialsNamed (control + 1) named names
 serials_by_header control h heads old named before names is small kept are fresh =
     serials_are_named control heads old named before names small (subst HasGoodVolumes (sym is) (volumes_of_header h kept)) (record { are = are; new = ap (first_named_again old 0) is ∙ fresh })

@@ -127,9 +127,9 @@ answers_alike names other table session (DelPair choice) idle = refl
 answers_alike names other table session (Suspend choice) idle = refl
 answers_alike names other table session Query idle = refl
 answers_alike names other table session End idle = refl
-answers_alike names other table session (AddPair primary secondary) (inr ended) = rw ended refl
-answers_alike names other table session (AddPair primary secondary) (inl unstarted) =
-    rw unstarted (choose table.is_ended (bytes_eq session table.session) (refusal_by names) (refusal_by other) (change_of names (AddPair primary secondary) table.rows) (change_of other (AddPair primary secondary) table.rows))
+answers_alike names other table session (AddPair primary secondary group) (inr ended) = rw ended refl
+answers_alike names other table session (AddPair primary secondary group) (inl unstarted) =
+    rw unstarted (choose table.is_ended (bytes_eq session table.session) (refusal_by names) (refusal_by other) (change_of names (AddPair primary secondary group) table.rows) (change_of other (AddPair primary secondary group) table.rows))
   where
     refusal_by : Naming → Option Refusal
     refusal_by n = refuses_primary primary secondary n table.rows (primary_of primary n)

@@ -33,20 +33,20 @@ has_risen left faults before now s told rose = told.failed ∙ ap not (ne_eqb (f
 
 -- ---- the trace of what a source gave
 
-read_header : (told : List ℕ) (h : Header) (left : Left) → header_at 1 (whole_trace told) ≡ Ok (h, left) → trace_of 1 false told ≡ Ok (after_header false told h (entries_from (length left.bytes) h.version h.volumes 0 left))
+read_header : (told : List ℕ) (h : Header) (left : Left) → header_at (whole_trace told) ≡ Ok (h, left) → trace_of false told ≡ Ok (after_header false told h (entries_from (length left.bytes) h.version h.volumes 0 left))
 unfolding trace_of
 read_header told h left is = rw (is, trace_of) refl
 
-bad_header : (failed : Bool) (told : List ℕ) (bad : Bad) → header_at 1 (whole_trace told) ≡ Err bad → trace_of 1 failed told ≡ Err (bad_start failed told bad)
+bad_header : (failed : Bool) (told : List ℕ) (bad : Bad) → header_at (whole_trace told) ≡ Err bad → trace_of failed told ≡ Err (bad_start failed told bad)
 unfolding trace_of
 bad_header failed told bad is = rw (is, trace_of) refl
 
 -- what a source gave that didn't fail, and one that did
-pub given_whole : (s : SourceBytes) → s.has_failed ≡ false → trace_given s ≡ trace_of 1 false s.held
-given_whole s quiet = ap (λ (b : Bool). trace_of 1 b (cond b (take (length s.held - length s.rest) s.held) s.held)) quiet
+pub given_whole : (s : SourceBytes) → s.has_failed ≡ false → trace_given s ≡ trace_of false s.held
+given_whole s quiet = ap (λ (b : Bool). trace_of b (cond b (take (length s.held - length s.rest) s.held) s.held)) quiet
 
-pub given_front : (s : SourceBytes) → s.has_failed ≡ true → trace_given s ≡ trace_of 1 true (take (length s.held - length s.rest) s.held)
-given_front s failed = ap (λ (b : Bool). trace_of 1 b (cond b (take (length s.held - length s.rest) s.held) s.held)) failed
+pub given_front : (s : SourceBytes) → s.has_failed ≡ true → trace_given s ≡ trace_of true (take (length s.held - length s.rest) s.held)
+given_front s failed = ap (λ (b : Bool). trace_of b (cond b (take (length s.held - length s.rest) s.held) s.held)) failed
 
 front_of_both : (given left : List ℕ) → take (length (given ++ left) - length left) (given ++ left) ≡ given
 front_of_both given left = let n : length (given ++ left) - length left ≡ length given = omega (arith, length-append given left) in ap (λ (k : ℕ). take k (given ++ left)) n ∙ take-append_seam given left
@@ -75,7 +75,7 @@ module _ {S : Type 0} (left : S → Option (List ℕ)) (faults : S → ℕ) (bef
       let (given, ends) = starts.0 s.held s.rest told.held told.rest in
       let failed = has_risen left faults before now s told starts.1 in
       let front = ap (λ (l : List ℕ). take (length l - length s.rest) l) ends.all ∙ front_of_both given s.rest in
-      inr (given_front s failed ∙ ap (trace_of 1 true) front ∙ bad_header true given (Cut ends.cut.0) ends.cut.1 ∙ ap (λ (b : Bool). Err (cond b header.HeaderFault (header.BadHeader ends.cut.0))) (le-leb (length given) most_bytes ends.within))
+      inr (given_front s failed ∙ ap (trace_of true) front ∙ bad_header true given (Cut ends.cut.0) ends.cut.1 ∙ ap (λ (b : Bool). Err (cond b header.HeaderFault (header.BadHeader ends.cut.0))) (le-leb (length given) most_bytes ends.within))
   trace_refused header.NoMemory starts = inl refl
 
 -- ---- the stop by one header
@@ -84,7 +84,7 @@ pub stop_refused : (k : ℕ) (named : List (List ℕ)) (s : SourceBytes) (source
 stop_refused k named s sources error is = rw (is, stop_of_headers) refl
 
 pub stop_again : (k : ℕ) (named : List (List ℕ)) (s : SourceBytes) (sources : List SourceBytes) (t : Trace) (v : ℕ) → trace_given s ≡ Ok t → first_named_again named 0 t.header.volumes ≡ Some v
-    → stop_of_headers k named (s ∷ sources) ≡ Some (BadHeader k (serial_place v))
+    → stop_of_headers k named (s ∷ sources) ≡ Some (BadHeader k (serial_place t.header.version v))
 stop_again k named s sources t v is again = rw (is, again, stop_of_headers) refl
 
 pub stop_passed : (k : ℕ) (named : List (List ℕ)) (s : SourceBytes) (sources : List SourceBytes) (t : Trace) → trace_given s ≡ Ok t → first_named_again named 0 t.header.volumes ≡ None
@@ -139,11 +139,11 @@ module _ {S T : Type 0} (left : S → Option (List ℕ)) (faults : S → ℕ) (k
 
     module _ (head : Header) (reader : ReaderState) (reads : ReadsHeader (left before.source) (left opened.source) head reader) (quiet : faults opened.source ≡ faults before.source) where
       -- It was read, and a serial is named again.
-      pub lane_again : (result : Result T Stop) (v : ℕ) (stop : Stop) → first_named_again named 0 head.volumes ≡ Some v → stop ≡ BadHeader k (serial_place v) → result ≡ Err stop → StopsByHeaders left faults k named (before ∷ []) (opened ∷ []) result
+      pub lane_again : (result : Result T Stop) (v : ℕ) (stop : Stop) → first_named_again named 0 head.volumes ≡ Some v → stop ≡ BadHeader k (serial_place head.version v) → result ≡ Err stop → StopsByHeaders left faults k named (before ∷ []) (opened ∷ []) result
       lane_again result v stop again same is =
-          stops_exactly (before ∷ []) (opened ∷ []) result (BadHeader k (serial_place v)) (is ∙ ap (λ (e : Stop). Err e) same) (by_source left faults k named before opened (Some (BadHeader k (serial_place v))) (λ s told.
+          stops_exactly (before ∷ []) (opened ∷ []) result (BadHeader k (serial_place head.version v)) (is ∙ ap (λ (e : Stop). Err e) same) (by_source left faults k named before opened (Some (BadHeader k (serial_place head.version v))) (λ s told.
           let (t, its, headed) = trace_read left faults before.source opened.source s told head reader reads quiet in
-          stop_again k named s [] t v its (ap (λ (h : Header). first_named_again named 0 h.volumes) headed ∙ again)))
+          stop_again k named s [] t v its (ap (λ (h : Header). first_named_again named 0 h.volumes) headed ∙ again) ∙ ap (λ (h : Header). Some (BadHeader k (serial_place h.version v))) headed))
 
       -- It was read, and none is.
       pub lane_passes : (x : T) → first_named_again named 0 head.volumes ≡ None → (let result : Result T Stop = Ok x in StopsByHeaders left faults k named (before ∷ []) (opened ∷ []) result)

@@ -89,7 +89,7 @@ query_leaves run table line query accepts_it =
 of_query : (c : Command) → is_query c ≡ true → c ≡ Query
 of_query Query is = refl
 of_query (Start level) is = absurd cc
-of_query (AddPair primary secondary) is = absurd cc
+of_query (AddPair primary secondary group) is = absurd cc
 of_query (DelPair choice) is = absurd cc
 of_query (Suspend choice) is = absurd cc
 of_query End is = absurd cc

@@ -13,7 +13,7 @@ use Rattle.pair_table.specs.declared.row.PairState.TheVariants.{Pending, Duplex}
 use Rattle.pair_table.specs.declared.row.SuspendCause.TheVariants.{Device}
 use Rattle.pair_table.specs.Devices.{is_among}
 use Rattle.pair_table.specs.Rows.{is_suspended}
-use Rattle.pair_table.specs.Tables.{changed_row, in_state, is_of, row_of, with_state}
+use Rattle.pair_table.specs.Tables.{in_state, is_of, none_clash, resumed_in, row_changed, row_of, with_resumed}
 use Rattle.pending_queue.specs.Entries.{WaitingEntry}
 use Rattle.row_changes.specs.Changes.{FaultReach, hit_row, reach_of, reached_row, since}
 use Rattle.record_rows.specs.Deeds.{Deed, entries_by_deed, rows_by_deed}
@@ -25,14 +25,16 @@ use Rattle.record_rows.proofs.Telling.{only_failed}
 use Rattle.site_store.specs.Exceptions.{Exceptions, excepted_after, excepted_by_deed, is_kept, is_whole_on}
 use Rattle.site_store.proofs.Widening.{more_excepted}
 use Rattle.fed_logs.specs.Moves.{HasRowIn}
+use Rattle.consistency.specs.Owing.{is_same_state}
 use Rattle.mover.specs.OwedTracks.{ExceptedAreOwed, IsUnfailed}
 use Rattle.mover.proofs.Excepting.{excepted_before, unfailed_is_kept}
-use Rattle.mover.proofs.Pairs.{Among, among_cases, among_of, contains_of}
+use Rattle.mover.proofs.Pairs.{Among, among_cases, among_of, apart_still, contains_of, found_of_device, pair_of, pairs_of}
 use Rattle.mover.proofs.Pairs.Among.{Here, Later}
 use Rattle.xrc_session.specs.EpochPauses.{Between, StandsBetween}
 use Rattle.xrc_session.specs.CarriedLaws.{IsWithoutEntries, between_taken}
-use Rattle.xrc_session.specs.Taking.{IsSuspendedSince, as_pending, rows_by_command, stands_again}
+use Rattle.xrc_session.specs.Taking.{IsSuspendedSince, as_pending, pair_group_after, regrouped_row, rows_by_command, stands_again, regrouped_rows}
 use Rattle.xrc_session.proofs.Changed.{taken_rows_stand}
+use Rattle.xrc_session.proofs.Commanded.{same_states}
 use Rattle.xrc_session.proofs.KeptRows.{standing_rows_are_kept}
 use Rattle.xrc_session.proofs.Recording.{rows_stand_after_deeds}
 use Rattle.xrc_session.proofs.CarriedRows.{among_either, among_kept}
@@ -277,38 +279,65 @@ places_back is y (r ∷ rows) (s ∷ next) in_places there = elim (among_cases y
   | inr later ↦ let found = places_back is y rows next in_places.1 later in (found.0, Later r rows found.1, found.2)
 ]
 
+grouped_pairs : (device : ℕ) (group : Option (List ℕ)) (rows : List PairRow) → pairs_of (regrouped_rows device group rows) ≡ pairs_of rows
+grouped_pairs device group [] = refl
+grouped_pairs device group (r ∷ rows) = λ i. one (is_of device r) i ∷ grouped_pairs device group rows i
+  where
+    one : (b : Bool) → pair_of (cond b (regrouped_row group r) r) ≡ pair_of r
+    one true = refl
+    one false = refl
+
+-- A row that stands again as it was is suspended.
+again_suspended : (w : PairRow) (p : Option PairRow) → stands_again (Some w) p ≡ true → is_suspended w.state ≡ true
+again_suspended w None again = absurd (true≢false (sym again))
+again_suspended w (Some z) again = ap is_suspended (same_states w.state z.state again) ∙ (and_parts (is_suspended z.state) (is_same_state w.state z.state) again).0
+
 -- A command makes no row duplex.
-command_back : (change : Change) (before after : List PairRow) (x : PairRow) → x.state ≡ Duplex → Among x (rows_by_command change before after) → Among x before
-command_back Nothing before after x duplex there = there
-command_back Started before after x duplex there = there
-command_back (Added device) before after x duplex there = by_row (row_of device after) there
+command_back : (change : Change) (before after : List PairRow) (x : PairRow) → x.state ≡ Duplex → none_clash (rows_by_command change before after) ≡ true → Among x (rows_by_command change before after) → Among x before
+command_back Nothing before after x duplex apart there = there
+command_back Started before after x duplex apart there = there
+command_back (Added device) before after x duplex apart there = by_row (row_of device after) there
   where
     by_row : (o : Option PairRow) → Among x (before ++ as_pending o) → Among x before
     by_row None there = subst (Among x) (append-nil before) there
     by_row (Some r) there = elim (among_either x (in_state Pending r) before there) [ inl there ↦ there | inr same ↦ absurd (pending_not x.state (ap (λ (s : PairRow). s.state) (sym same)) duplex) ]
-command_back (Resumed device) before after x duplex there = by_again (stands_again (row_of device before) (row_of device after)) there
+command_back (Resumed device) before after x duplex apart there = by_again (stands_again (row_of device before) (row_of device after)) refl apart there
   where
-    by_device : (b : Bool) (y : PairRow) → Among y before → cond b (in_state Pending y) y ≡ x → Among x before
+    group : Option (List ℕ)
+    group = pair_group_after device after
+
+    by_device : (b : Bool) (y : PairRow) → Among y before → cond b (resumed_in group y) y ≡ x → Among x before
     by_device true y there same = absurd (pending_not x.state (ap (λ (s : PairRow). s.state) (sym same)) duplex)
     by_device false y there same = subst (λ (s : PairRow). Among s before) same there
 
-    by_again : (b : Bool) → Among x (cond b before (with_state device Pending before)) → Among x before
-    by_again true there = there
-    by_again false there =
-        let found = map_back (changed_row device Pending) x before there in
+    by_group : none_clash before ≡ true → stands_again (row_of device before) (row_of device after) ≡ true → (b : Bool) (y : PairRow) → is_of device y ≡ b → Among y before → cond b (regrouped_row group y) y ≡ x → Among x before
+    by_group clear again true y own there same =
+        let found : row_of device before ≡ Some y = ap (λ (d : ℕ). row_of d before) (eqb-true device y.device own) ∙ found_of_device y before clear there in
+        let suspended : is_suspended y.state ≡ true = again_suspended y (row_of device after) (ap (λ (o : Option PairRow). stands_again o (row_of device after)) (sym found) ∙ again) in
+        absurd (suspended_not x.state (ap (λ (s : PairRow). is_suspended s.state) (sym same) ∙ suspended) duplex)
+    by_group clear again false y own there same = subst (λ (s : PairRow). Among s before) same there
+
+    by_again : (b : Bool) → stands_again (row_of device before) (row_of device after) ≡ b → none_clash (cond b (regrouped_rows device group before) (with_resumed device group before)) ≡ true
+        → Among x (cond b (regrouped_rows device group before) (with_resumed device group before)) → Among x before
+    by_again true again apart there =
+        let found = map_back (row_changed device (regrouped_row group)) x before there in
+        let clear = apart_still (regrouped_rows device group before) before (sym (grouped_pairs device group before)) apart in
+        by_group clear again (is_of device found.0) found.0 refl found.1 found.2
+    by_again false again apart there =
+        let found = map_back (row_changed device (resumed_in group)) x before there in
         by_device (is_of device found.0) found.0 found.1 found.2
-command_back (Gone devices) before after x duplex there = (among_kept (λ r. not (is_among r.device devices)) x before there).0
-command_back (SuspendedRows devices) before after x duplex there = there
-command_back Ended before after x duplex there = there
+command_back (Gone devices) before after x duplex apart there = (among_kept (λ r. not (is_among r.device devices)) x before there).0
+command_back (SuspendedRows devices) before after x duplex apart there = there
+command_back Ended before after x duplex apart there = there
 
 -- Nor do suspensions after it.
-duplex_before : (change : Change) (before after : List PairRow) → InPlaces IsSuspendedSince (rows_by_command change before after) after → (r : PairRow) → Among r after → r.state ≡ Duplex → Among r before
-duplex_before change before after follow r there duplex =
+duplex_before : (change : Change) (before after : List PairRow) → none_clash (rows_by_command change before after) ≡ true → InPlaces IsSuspendedSince (rows_by_command change before after) after → (r : PairRow) → Among r after → r.state ≡ Duplex → Among r before
+duplex_before change before after apart follow r there duplex =
     let found = places_back IsSuspendedSince r (rows_by_command change before after) after follow there in
     let x = found.0 in
     let stays : r.state ≡ x.state = found.2.stays (ap (owes x.state) duplex) in
     let same : r ≡ x = found.2.same ∙ ap (λ (s : PairState). in_state s x) stays in
-    command_back change before after r duplex (subst (λ (s : PairRow). Among s (rows_by_command change before after)) (sym same) found.1)
+    command_back change before after r duplex apart (subst (λ (s : PairRow). Among s (rows_by_command change before after)) (sym same) found.1)
 
 hit_back : (hits : List ℕ) (time : ℕ) (x y : PairRow) → hit_row hits time x ≡ y → y.state ≡ Duplex → x ≡ y
 hit_back hits time x y is duplex = by_hit (is_among x.device hits) is
@@ -358,7 +387,7 @@ module _ (tells : Type 0) (b : Between) (cut : ℕ) (change : Change) (site next
 
   module _ (some : changed_items change site.table.rows ≢ []) where
     back : (r : PairRow) → Among r told_rows → r.state ≡ Duplex → Among r site.told
-    back r there duplex = subst (Among r) (sym of.told) (duplex_before change b.point.rows after of.may.follow r (subst (Among r) (sym (of.logged some)) there) duplex)
+    back r there duplex = subst (Among r) (sym of.told) (duplex_before change b.point.rows after of.may.apart of.may.follow r (subst (Among r) (sym (of.logged some)) there) duplex)
 
     unhit : (r : PairRow) → Among r told_rows → r.state ≡ Duplex → is_among r.device (hit_now next.failed site.told) ≡ false
     unhit r there duplex = elim (cases_Bool (is_among r.device (hit_now next.failed site.told))) [

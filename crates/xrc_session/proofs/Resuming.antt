@@ -4,8 +4,7 @@ use Rattle.std.specs.List.{list_any}
 use Rattle.crash_plant.specs.Moments.{PlantState}
 use Rattle.pair_table.specs.declared.row.PairRow.{PairRow}
 use Rattle.pair_table.specs.declared.row.PairState.{PairState}
-use Rattle.pair_table.specs.declared.row.PairState.TheVariants.{Pending}
-use Rattle.pair_table.specs.Tables.{in_state, with_state}
+use Rattle.pair_table.specs.Tables.{resumed_in, with_resumed}
 use Rattle.group_state.specs.declared.volume.Volume.{Volume}
 use Rattle.group_state.specs.Volumes.{owed, passes, volume_of, wants}
 use Rattle.group_state.specs.Controls.{ControlState, resumed}
@@ -23,12 +22,12 @@ use Rattle.mover.proofs.Pairs.{Among, among_of, apart_still}
 use Rattle.xrc_session.specs.EpochPauses.{Between, MayResume, StandsBetween}
 use Rattle.xrc_session.specs.CarriedLaws.{ResumedRowsStand}
 use Rattle.xrc_session.proofs.Calls.{keeps_resume, resume_itself, resume_other}
-use Rattle.xrc_session.proofs.CarriedRows.{stated_held, stated_others, stated_there}
+use Rattle.xrc_session.proofs.CarriedRows.{changed_held, changed_others, itself_there}
 use Rattle.xrc_session.proofs.Standing.{Changes, stands_there}
 use Rattle.xrc_session.proofs.KeptRows.{dropped_suspended, kept_resumed_row, standing_rows_are_kept}
-use Rattle.xrc_session.proofs.Knowing.{base, below_stated, dropped_kept, is_other, none_known, owed_before, own_state, resumed_owes, resumed_size, same, sized_stated}
+use Rattle.xrc_session.proofs.Knowing.{base, below_changed, dropped_kept, is_other, none_known, owed_before, own_row, resumed_owes, resumed_size, same, sized_changed}
 
-module _ (start : PlantState) (b : Between) (r : PairRow) (st : StandsBetween start b) (may : MayResume b r) where
+module _ (start : PlantState) (b : Between) (r : PairRow) (group : Option (List ℕ)) (st : StandsBetween start b) (may : MayResume b r) where
   abbrev k : ℕ
   k = r.control
 
@@ -42,13 +41,13 @@ module _ (start : PlantState) (b : Between) (r : PairRow) (st : StandsBetween st
   rows = b.point.rows
 
   abbrev again : List PairRow
-  again = with_state r.device Pending rows
+  again = with_resumed r.device group rows
 
   there : Among r rows
   there = among_of rows r may.among
 
-  is_pending : (is : PairState → Type 0) (has : HasRowIn is k v again) → has.row ≡ in_state Pending r
-  is_pending is has = own_state start b st r Pending may.among is has
+  is_pending : (is : PairState → Type 0) (has : HasRowIn is k v again) → has.row ≡ resumed_in group r
+  is_pending is has = own_row start b st r (resumed_in group) (λ s. refl) may.among is has
 
   owed_resumed : (has : HasRowIn IsUnfailed k v again) → is_volume_kept v (resumed v c) ≡ true → (x : ℕ) → x < b.size k v → b.excepted has.row.device x ≡ true → is_owed v x (resumed v c) ≡ true
   owed_resumed has kept x low e =
@@ -59,10 +58,10 @@ module _ (start : PlantState) (b : Between) (r : PairRow) (st : StandsBetween st
   resumes : Changes start b k v (resumed v) again b.done
   resumes = record {
     low = may.may.0;
-    others = stated_others r Pending rows st.rows.apart there;
-    apart = apart_still rows again (same start b st r Pending may.among) st.rows.apart;
-    below = below_stated start b st r Pending may.among;
-    sized_rows = sized_stated start b st r Pending may.among;
+    others = changed_others r (resumed_in group) (λ s. refl) rows st.rows.apart there;
+    apart = apart_still rows again (same start b st r (resumed_in group) (λ s. refl) may.among) st.rows.apart;
+    below = below_changed start b st r (resumed_in group) (λ s. refl) may.among;
+    sized_rows = sized_changed start b st r (resumed_in group) (λ s. refl) may.among;
     change_other = λ u apart. resume_other v u c apart;
     phase = λ d. refl;
     sized = ap (passes_or_none (is_of_size (b.size k v))) (resume_itself v c) ∙ resumed_size (b.size k v) (volume_of v c.volumes) ∙ (base start b st).sized k v may.may.0;
@@ -72,12 +71,12 @@ module _ (start : PlantState) (b : Between) (r : PairRow) (st : StandsBetween st
     duplex = λ has. true≢false (sym (ap is_duplex has.state) ∙ ap (λ (s : PairRow). is_duplex s.state) (is_pending IsDuplex has));
     plans = λ j w known. (known, is_other k v b.done (none_known start b st k v may.may.1) j w known);
     still = λ j w other known. known;
-    rowed = λ kept. stated_there r Pending rows st.rows.apart there;
+    rowed = λ kept. itself_there r (resumed_in group) (λ s. refl) rows st.rows.apart there;
     owed = owed_resumed;
     failed = λ has kept x low. absurd (true≢false (sym has.state ∙ ap (λ (s : PairRow). is_device_suspended s.state) (is_pending IsFailed has)));
-    carried = λ s has. ((kept_resumed_row b.group rows r (standing_rows_are_kept start b st) may.among (dropped_suspended start b r st may.among may.may.1) may.counted).each s has).own;
-    held = λ a x settled. stated_held r Pending rows st.rows.apart there start a x;
+    carried = λ s has. ((kept_resumed_row b.group rows r (standing_rows_are_kept start b st) may.among group (dropped_suspended start b r st may.among may.may.1) may.counted).each s has).own;
+    held = λ a x settled. changed_held r (resumed_in group) (λ s. refl) rows st.rows.apart there start a x;
   }
 
 pub resumed_rows_stand : (start : PlantState) → ResumedRowsStand start
-resumed_rows_stand start b r st may = stands_there start b r.control r.volume (resumed r.volume) (with_state r.device Pending b.point.rows) b.done st (resumes start b r st may)
+resumed_rows_stand start b r group st may = stands_there start b r.control r.volume (resumed r.volume) (with_resumed r.device group b.point.rows) b.done st (resumes start b r group st may)

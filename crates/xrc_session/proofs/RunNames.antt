@@ -1,11 +1,10 @@
 -- What a run of a script may speak of has names.
 use Rattle.std.proofs.Common.{◌≡◌, inl, inr, ℕ, zero, suc, ◌+◌, Bool, true, false, List, [], ◌∷◌, ◌++◌, length, take, drop, Option, Some, None, Result, Ok, Err, refl, sym, ap, subst, ◌∙◌, arith}
-use Rattle.std.specs.Prelude.{◌&&◌, ◌||◌, ◌==◌, ◌-◌, bytes_eq, codes, if◌then◌else◌, map, nat_le, slice_index, slice_range, sum_by}
+use Rattle.std.specs.Prelude.{◌&&◌, ◌==◌, bytes_eq, codes, if◌then◌else◌, map, nat_le, slice_range, sum_by}
 use Rattle.std.specs.Int.{w16, w32, from_be_bytes}
 use Rattle.std.specs.List.{list_all}
 use Rattle.std.proofs.lemmas.List.Folds.{list_all-append}
-use Rattle.std.proofs.lemmas.Slice.Eq.{bytes_eq-Decides}
-use Rattle.tod_stamp.specs.Fields.{◌>>=◌, Left, Bad, bytes_at, number_at, within}
+use Rattle.tod_stamp.specs.Fields.{◌>>=◌, Left, Bad, number_at, within}
 use Rattle.tod_stamp.specs.Names.{is_serial, name_in}
 use Rattle.tod_stamp.proofs.FieldLaws.{bind_ok}
 use Rattle.crash_plant.specs.declared.device.Device.TheVariants.{Volume}
@@ -15,8 +14,8 @@ use Rattle.write_trace.specs.declared.header.VolumeHead.{VolumeHead}
 use Rattle.write_trace.specs.declared.trace.HeaderError.{HeaderError}
 use Rattle.write_trace.specs.declared.trace.Trace.{Trace}
 use Rattle.write_trace.specs.WholeTraces.{after_header, bad_start, entries_from, trace_of, whole_trace}
-use Rattle.write_trace.specs.Headers.{are_volumes, bases_at, header_at, is_trace_mark, trace_mark, tracks_of, version_at, volumes_at}
-use Rattle.write_trace.proofs.HeaderSteps.{bytes_keep, volumes_keep}
+use Rattle.write_trace.specs.Headers.{are_volumes, bases_at, header_at, tracks_of, version_at, volumes_at}
+use Rattle.write_trace.proofs.HeaderSteps.{volumes_keep}
 use Rattle.write_trace.proofs.FieldsAgain.{first_volume}
 use Rattle.pair_table.specs.declared.names.NamedDevice.{NamedDevice}
 use Rattle.pair_table.specs.declared.names.NamedVolume.{NamedVolume}
@@ -30,21 +29,6 @@ use Rattle.xrc_session.specs.Runs.AreLabels.{Given, Last}
 
 -- ---- headers
 
--- A version that is read is the first one.
-version_keeps : (left : Left) (x : ℕ × Left) → version_at 1 left ≡ Ok x → x.0 ≡ 1
-unfolding version_at
-version_keeps left x e =
-    let one = bind_ok (bytes_at 4 (is_trace_mark 1) left) (λ m. Ok (slice_index m.0 3 - 48, m.1)) x e in
-    let is : one.0.0 ≡ trace_mark 1 = (bytes_eq-Decides one.0.0 (trace_mark 1)).0 (first_or (bytes_eq one.0.0 (trace_mark 1)) (bytes_keep 4 (is_trace_mark 1) left one.0 one.1)) in
-    first_is (slice_index one.0.0 3 - 48, one.0.1) x one.2 ∙ ap (λ (t : List ℕ). slice_index t 3 - 48) is
-  where
-    first_or : (b : Bool) → (b || false) ≡ true → b ≡ true
-    first_or true same = refl
-    first_or false same = absurd cc
-
-    first_is : (a b : ℕ × Left) → (let p : Result (ℕ × Left) Bad = Ok a in let q : Result (ℕ × Left) Bad = Ok b in p ≡ q) → b.0 ≡ a.0
-    first_is a b same = cc
-
 abbrev after_volumes : (version : ℕ) → List VolumeHead → Left → Result (Header × Left) Bad
 after_volumes version volumes left = number_at w32 (λ n. nat_le n (sum_by tracks_of volumes)) left >>= (λ k. bases_at version volumes k.0 (0, 0) k.1 >>= (λ b. Ok (record { version = version; volumes = volumes; base = b.0 }, b.1)))
 
@@ -52,32 +36,31 @@ abbrev after_version : (version : ℕ) → Left → Result (Header × Left) Bad
 after_version version left = number_at w16 (within 1 32) left >>= (λ c. volumes_at version c.0 [] c.1 >>= (λ v. after_volumes version v.0 v.1))
 
 -- The volumes of a header that is read are a header's.
-header_keeps : (left : Left) (x : Header × Left) → header_at 1 left ≡ Ok x → are_volumes 1 [] x.0.volumes ≡ true
+header_keeps : (left : Left) (x : Header × Left) → header_at left ≡ Ok x → are_volumes x.0.version [] x.0.volumes ≡ true
 unfolding header_at
 header_keeps left x e =
-    let one = bind_ok (version_at 1 left) (λ m. after_version m.0 m.1) x e in
-    by_version one.0.0 one.0.1 (version_keeps left one.0 one.1) one.2
+    let one = bind_ok (version_at left) (λ m. after_version m.0 m.1) x e in
+    by_version one.0.0 one.0.1 one.2
   where
     header_is : (a b : Header × Left) → (let p : Result (Header × Left) Bad = Ok a in let q : Result (Header × Left) Bad = Ok b in p ≡ q) → a ≡ b
     header_is a b same = cc
 
-    by_version : (version : ℕ) (after : Left) → version ≡ 1 → after_version version after ≡ Ok x → are_volumes 1 [] x.0.volumes ≡ true
-    by_version version after first same =
+    by_version : (version : ℕ) (after : Left) → after_version version after ≡ Ok x → are_volumes x.0.version [] x.0.volumes ≡ true
+    by_version version after same =
         let two = bind_ok (number_at w16 (within 1 32) after) (λ c. volumes_at version c.0 [] c.1 >>= (λ v. after_volumes version v.0 v.1)) x same in
         let three = bind_ok (volumes_at version two.0.0 [] two.0.1) (λ v. after_volumes version v.0 v.1) x two.2 in
         let volumes = three.0.0 in
         let four = bind_ok (number_at w32 (λ n. nat_le n (sum_by tracks_of volumes)) three.0.1) (λ k. bases_at version volumes k.0 (0, 0) k.1 >>= (λ b. Ok (record { version = version; volumes = volumes; base = b.0 }, b.1))) x three.2 in
         let five = bind_ok (bases_at version volumes four.0.0 (0, 0) four.0.1) (λ b. Ok (record { version = version; volumes = volumes; base = b.0 }, b.1)) x four.2 in
         let found : Header × Left = (record { version = version; volumes = volumes; base = five.0.0 }, five.0.1) in
-        let read : volumes_at 1 two.0.0 [] two.0.1 ≡ Ok three.0 = subst (λ (n : ℕ). volumes_at n two.0.0 [] two.0.1 ≡ Ok three.0) first three.1 in
-        subst (λ (h : Header × Left). are_volumes 1 [] h.0.volumes ≡ true) (header_is found x five.2) (volumes_keep two.0.0 [] two.0.1 three.0 read).rules
+        subst (λ (h : Header × Left). are_volumes h.0.version [] h.0.volumes ≡ true) (header_is found x five.2) (volumes_keep version two.0.0 [] two.0.1 three.0 three.1).rules
 
 -- They have serials.
-serials_named : (seen : List (List ℕ)) (control volume : ℕ) (heads : List VolumeHead) → are_volumes 1 seen heads ≡ true → list_all (λ (v : NamedVolume). is_serial v.serial) (volumes_named control volume heads) ≡ true
-serials_named seen control volume [] are = refl
-serials_named seen control volume (v ∷ heads) are =
-    let first = first_volume 1 seen v heads are in
-    both first.serial (serials_named (v.serial ∷ seen) control (volume + 1) heads first.others)
+serials_named : (version : ℕ) (seen : List (List ℕ)) (control volume : ℕ) (heads : List VolumeHead) → are_volumes version seen heads ≡ true → list_all (λ (v : NamedVolume). is_serial v.serial) (volumes_named control volume heads) ≡ true
+serials_named version seen control volume [] are = refl
+serials_named version seen control volume (v ∷ heads) are =
+    let first = first_volume version seen v heads are in
+    both first.serial (serials_named version (v.serial ∷ seen) control (volume + 1) heads first.others)
   where
     both : {b c : Bool} → b ≡ true → c ≡ true → (b && c) ≡ true
     both {b} {c} x y = ap (λ (e : Bool). e && c) x ∙ y
@@ -90,20 +73,20 @@ trace_with failed given read = elim read [
   | Err bad ↦ Err (bad_start failed given bad)
 ]
 
-trace_is : (failed : Bool) (given : List ℕ) → trace_of 1 failed given ≡ trace_with failed given (header_at 1 (whole_trace given))
+trace_is : (failed : Bool) (given : List ℕ) → trace_of failed given ≡ trace_with failed given (header_at (whole_trace given))
 unfolding trace_of
 trace_is failed given = refl
 
 -- A trace that sources gave has volumes with serials.
-trace_keeps : (failed : Bool) (given : List ℕ) (t : Trace) → trace_of 1 failed given ≡ Ok t → are_volumes 1 [] t.header.volumes ≡ true
-trace_keeps failed given t is = by_header (header_at 1 (whole_trace given)) refl (sym (trace_is failed given) ∙ is)
+trace_keeps : (failed : Bool) (given : List ℕ) (t : Trace) → trace_of failed given ≡ Ok t → are_volumes t.header.version [] t.header.volumes ≡ true
+trace_keeps failed given t is = by_header (header_at (whole_trace given)) refl (sym (trace_is failed given) ∙ is)
   where
     trace_same : (a b : Trace) → (let p : Result Trace HeaderError = Ok a in let q : Result Trace HeaderError = Ok b in p ≡ q) → a ≡ b
     trace_same a b same = cc
 
-    by_header : (r : Result (Header × Left) Bad) → header_at 1 (whole_trace given) ≡ r → trace_with failed given r ≡ Ok t → are_volumes 1 [] t.header.volumes ≡ true
+    by_header : (r : Result (Header × Left) Bad) → header_at (whole_trace given) ≡ r → trace_with failed given r ≡ Ok t → are_volumes t.header.version [] t.header.volumes ≡ true
     by_header (Ok h) read same =
-        subst (λ (x : Trace). are_volumes 1 [] x.header.volumes ≡ true) (trace_same (after_header failed given h.0 (entries_from (length h.1.bytes) h.0.version h.0.volumes 0 h.1)) t same) (header_keeps (whole_trace given) h read)
+        subst (λ (x : Trace). are_volumes x.header.version [] x.header.volumes ≡ true) (trace_same (after_header failed given h.0 (entries_from (length h.1.bytes) h.0.version h.0.volumes 0 h.1)) t same) (header_keeps (whole_trace given) h read)
     by_header (Err bad) read same = absurd cc
 
 pub traces_have_serials : (control : ℕ) (sources : List SourceBytes) (traces : List Trace) → AreTracesGiven sources traces → list_all (λ (v : NamedVolume). is_serial v.serial) (primaries_named control traces) ≡ true
@@ -114,7 +97,7 @@ traces_have_serials control (s ∷ sources) (t ∷ traces) given =
     let first : trace_given s ≡ Ok t = head_is (trace_given s) (Ok t) (map trace_given sources) (map (λ x. Ok x) traces) given in
     let others : AreTracesGiven sources traces = tail_is (trace_given s) (Ok t) (map trace_given sources) (map (λ x. Ok x) traces) given in
     list_all-append (λ (v : NamedVolume). is_serial v.serial) (volumes_named control 0 t.header.volumes) (primaries_named (control + 1) traces)
-    ∙ ap (λ (b : Bool). b && list_all (λ (v : NamedVolume). is_serial v.serial) (primaries_named (control + 1) traces)) (serials_named [] control 0 t.header.volumes (trace_keeps s.has_failed (bytes_given s) t first))
+    ∙ ap (λ (b : Bool). b && list_all (λ (v : NamedVolume). is_serial v.serial) (primaries_named (control + 1) traces)) (serials_named t.header.version [] control 0 t.header.volumes (trace_keeps s.has_failed (bytes_given s) t first))
     ∙ traces_have_serials (control + 1) sources traces others
   where
     head_is : (a b : Result Trace HeaderError) (xs ys : List (Result Trace HeaderError)) → a ∷ xs ≡ b ∷ ys → a ≡ b

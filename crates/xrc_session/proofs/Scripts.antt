@@ -55,12 +55,12 @@ headers_good k named [] none = ([], refl)
 headers_good k named (s ∷ sources) none = by_trace (λ more. headers_good (k + 1) more sources) (trace_given s) refl none
   where
     by_again : (t : Trace) → trace_given s ≡ Ok t → (let P : Type 0 = (traces : List Trace) × AreTracesGiven sources traces in ((more : List (List ℕ)) → stop_of_headers (k + 1) more sources ≡ None → P)) → (o : Option ℕ)
-        → (let x : Option Stop = elim o [ Some v ↦ Some (stops.BadHeader k (serial_place v)) | None ↦ stop_of_headers (k + 1) (named ++ serials_in_header t.header.volumes) sources ] in x ≡ None) → (traces : List Trace) × AreTracesGiven (s ∷ sources) traces
+        → (let x : Option Stop = elim o [ Some v ↦ Some (stops.BadHeader k (serial_place t.header.version v)) | None ↦ stop_of_headers (k + 1) (named ++ serials_in_header t.header.volumes) sources ] in x ≡ None) → (traces : List Trace) × AreTracesGiven (s ∷ sources) traces
     by_again t is others None rest = let more = others (named ++ serials_in_header t.header.volumes) rest in (t ∷ more.0, (λ i. is i ∷ more.1 i))
     by_again t is others (Some v) rest = absurd cc
 
     by_trace : (let P : Type 0 = (traces : List Trace) × AreTracesGiven sources traces in ((more : List (List ℕ)) → stop_of_headers (k + 1) more sources ≡ None → P)) → (r : Result Trace HeaderError) → trace_given s ≡ r
-        → (let x : Option Stop = elim r [ Err error ↦ Some (stop_of_header k error) | Ok t ↦ elim (first_named_again named 0 t.header.volumes) [ Some v ↦ Some (stops.BadHeader k (serial_place v)) | None ↦ stop_of_headers (k + 1) (named ++ serials_in_header t.header.volumes) sources ] ] in x ≡ None)
+        → (let x : Option Stop = elim r [ Err error ↦ Some (stop_of_header k error) | Ok t ↦ elim (first_named_again named 0 t.header.volumes) [ Some v ↦ Some (stops.BadHeader k (serial_place t.header.version v)) | None ↦ stop_of_headers (k + 1) (named ++ serials_in_header t.header.volumes) sources ] ] in x ≡ None)
         → (traces : List Trace) × AreTracesGiven (s ∷ sources) traces
     by_trace others (Ok t) is rest = by_again t is others (first_named_again named 0 t.header.volumes) rest
     by_trace others (Err error) is rest = absurd cc

@@ -1,14 +1,13 @@
 -- A row that is resumed and suspended again as it was: its plan if it owes no track, and the rows.
-use Rattle.std.proofs.Common.{◌≡◌, ℕ, zero, suc, Bool, true, false, not, ◌&&◌, List, [], ◌∷◌, Option, Some, None, refl, sym, ap, ◌∙◌, arith, true≢false}
+use Rattle.std.proofs.Common.{◌≡◌, ℕ, zero, suc, Bool, true, false, cond, not, ◌&&◌, List, [], ◌∷◌, Option, Some, None, refl, sym, ap, ◌∙◌, arith, true≢false}
 use Rattle.std.specs.List.{Contains, list_all}
 use Rattle.std.specs.Option.{option_map}
 use Rattle.std.proofs.lemmas.Bool.{eqb-true}
 use Rattle.std.proofs.lemmas.List.Elements.{All-get_or}
 use Rattle.change_map.specs.Sets.{has_track, size}
 use Rattle.pair_table.specs.declared.row.PairRow.{PairRow}
-use Rattle.pair_table.specs.declared.row.PairState.{PairState}
 use Rattle.pair_table.specs.Rows.{is_suspended}
-use Rattle.pair_table.specs.Tables.{changed_row, in_state, is_of, none_clash, with_state}
+use Rattle.pair_table.specs.Tables.{changed_row, in_state, is_of, none_clash, resumed_in, with_resumed, with_state}
 use Rattle.pending_queue.specs.Entries.{WaitingEntry, is_copy_of, is_of_volume}
 use Rattle.group_state.specs.declared.volume.Volume.{Volume}
 use Rattle.group_state.specs.Volumes.{owed, owed_in, passes, resumed_volume, volume_of, wants}
@@ -21,7 +20,7 @@ use Rattle.group_state.proofs.SoundLaws.{all_up, count_cons, dropped_none, none_
 use Rattle.fed_logs.specs.Logs.{IsPlanDone}
 use Rattle.mover.proofs.Pairs.{Among, among_of}
 use Rattle.mover.proofs.Pairs.Among.{Here, Later}
-use Rattle.xrc_session.specs.Taking.{IsSoundForRow, IsSoundForRows}
+use Rattle.xrc_session.specs.Taking.{IsSoundForRow, IsSoundForRows, regrouped_row, regrouped_rows}
 use Rattle.xrc_session.proofs.Calls.{own_is, resume_itself}
 use Rattle.xrc_session.proofs.CarriedRows.{one_of_device}
 use Rattle.xrc_session.proofs.KeptRows.{sized_there}
@@ -72,14 +71,14 @@ module _ (s : Group) (rows : List PairRow) (r : PairRow) (kept : IsSoundForRows 
 
 -- ---- the rows
 
--- Rows with one in another state, and then in its own again, are as they were.
-pub stated_back : (r : PairRow) (state : PairState) (rows : List PairRow) → none_clash rows ≡ true → Contains rows r → with_state r.device r.state (with_state r.device state rows) ≡ rows
-stated_back r state rows apart among = all rows (λ x there is. one_of_device r x rows apart (among_of rows r among) there (eqb-true r.device x.device is))
+-- Rows with one that is resumed in a group, and then in its own state again, are as they were but for the group.
+pub grouped_back : (r : PairRow) (group : Option (List ℕ)) (rows : List PairRow) → none_clash rows ≡ true → Contains rows r → with_state r.device r.state (with_resumed r.device group rows) ≡ regrouped_rows r.device group rows
+grouped_back r group rows apart among = all rows (λ x there is. one_of_device r x rows apart (among_of rows r among) there (eqb-true r.device x.device is))
   where
-    all : (some : List PairRow) → ((x : PairRow) → Among x some → is_of r.device x ≡ true → r ≡ x) → with_state r.device r.state (with_state r.device state some) ≡ some
+    all : (some : List PairRow) → ((x : PairRow) → Among x some → is_of r.device x ≡ true → r ≡ x) → with_state r.device r.state (with_resumed r.device group some) ≡ regrouped_rows r.device group some
     all [] same = refl
     all (x ∷ some) same = λ i. head (is_of r.device x) refl i ∷ all some (λ y there. same y (Later x some there)) i
       where
-        head : (b : Bool) → is_of r.device x ≡ b → changed_row r.device r.state (changed_row r.device state x) ≡ x
-        head true is = rw is (rw is (ap (in_state r.state) (sym (same x (Here some) is)) ∙ same x (Here some) is))
-        head false is = rw is (rw is refl)
+        head : (b : Bool) → is_of r.device x ≡ b → changed_row r.device r.state (cond b (resumed_in group x) x) ≡ cond b (regrouped_row group x) x
+        head true is = ap (λ (c : Bool). cond c (in_state r.state (resumed_in group x)) (resumed_in group x)) is ∙ ap (λ (y : PairRow). record x { state = y.state; group = group }) (same x (Here some) is)
+        head false is = ap (λ (c : Bool). cond c (in_state r.state x) x) is

@@ -26,10 +26,10 @@ use Rattle.mover.proofs.Pairs.{Among, among_of, apart_still}
 use Rattle.xrc_session.specs.EpochPauses.{Between, MaySuspend, StandsBetween}
 use Rattle.xrc_session.specs.CarriedLaws.{SuspendedRowsStand}
 use Rattle.xrc_session.proofs.Calls.{drop_itself, drop_other, keeps_drop, own_is}
-use Rattle.xrc_session.proofs.CarriedRows.{IsOther, stated_held, stated_others, stated_there}
+use Rattle.xrc_session.proofs.CarriedRows.{IsOther, changed_held, changed_others, itself_there}
 use Rattle.xrc_session.proofs.Standing.{Changes, stands_there}
 use Rattle.xrc_session.proofs.KeptRows.{kept_dropped_row, standing_rows_are_kept}
-use Rattle.xrc_session.proofs.Knowing.{base, below_stated, not_true, owed_before, own_state, passes_map, same, sized_stated}
+use Rattle.xrc_session.proofs.Knowing.{base, below_changed, not_true, owed_before, own_row, passes_map, same, sized_changed}
 
 module _ (start : PlantState) (b : Between) (r : PairRow) (state : PairState) (all : Bool) (st : StandsBetween start b) (may : MaySuspend b r state all) where
   abbrev k : ℕ
@@ -60,7 +60,7 @@ module _ (start : PlantState) (b : Between) (r : PairRow) (state : PairState) (a
   kept_before kept = sym (kept_dropped v all v c) ∙ kept
 
   is_state : (is : PairState → Type 0) (has : HasRowIn is k v suspended) → has.row ≡ in_state state r
-  is_state is has = own_state start b st r state may.among is has
+  is_state is has = own_row start b st r (in_state state) (λ s. refl) may.among is has
 
   never_live : (is : PairState → Type 0) (has : HasRowIn is k v suspended) → is_suspended has.row.state ≡ false → ⊥
   never_live is has live = true≢false (sym may.suspends ∙ ap (λ (s : PairRow). is_suspended s.state) (sym (is_state is has)) ∙ live)
@@ -87,10 +87,10 @@ module _ (start : PlantState) (b : Between) (r : PairRow) (state : PairState) (a
   suspends : Changes start b k v (dropped v all) suspended (plans_without k v b.done)
   suspends = record {
     low = may.may;
-    others = stated_others r state rows st.rows.apart there;
-    apart = apart_still rows suspended (same start b st r state may.among) st.rows.apart;
-    below = below_stated start b st r state may.among;
-    sized_rows = sized_stated start b st r state may.among;
+    others = changed_others r (in_state state) (λ s. refl) rows st.rows.apart there;
+    apart = apart_still rows suspended (same start b st r (in_state state) (λ s. refl) may.among) st.rows.apart;
+    below = below_changed start b st r (in_state state) (λ s. refl) may.among;
+    sized_rows = sized_changed start b st r (in_state state) (λ s. refl) may.among;
     change_other = λ u apart. drop_other v u all c apart;
     phase = λ d. refl;
     sized =
@@ -103,13 +103,13 @@ module _ (start : PlantState) (b : Between) (r : PairRow) (state : PairState) (a
     plans = known_other;
     still = λ j w other known. and_from (b.done j w) (not (nat_eq j k && nat_eq w v)) known
         (ap not (ap (λ (t : Bool). t && nat_eq w v) (number_sym j k) ∙ ap (λ (t : Bool). nat_eq k j && t) (number_sym w v) ∙ other));
-    rowed = λ kept. stated_there r state rows st.rows.apart there;
+    rowed = λ kept. itself_there r (in_state state) (λ s. refl) rows st.rows.apart there;
     owed = owed_after;
     failed = λ has kept x low.
         let is : is_device_suspended state ≡ true = ap (λ (s : PairRow). is_device_suspended s.state) (sym (is_state IsFailed has)) ∙ has.state in
         all_tracks all refl (may.failed is) x low (kept_before kept);
     carried = λ s has. ((kept_dropped_row b.group rows r (standing_rows_are_kept start b st) may.among state all may.suspends).each s has).own;
-    held = λ a x settled. stated_held r state rows st.rows.apart there start a x;
+    held = λ a x settled. changed_held r (in_state state) (λ s. refl) rows st.rows.apart there start a x;
   }
 
 pub suspended_rows_stand : (start : PlantState) → SuspendedRowsStand start

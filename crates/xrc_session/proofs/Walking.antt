@@ -14,10 +14,10 @@ use Rattle.pair_table.specs.declared.row.PairState.TheVariants.{Pending, Copy, D
 use Rattle.pair_table.specs.declared.row.SuspendCause.TheVariants.{Command}
 use Rattle.pair_table.specs.Devices.{is_among}
 use Rattle.pair_table.specs.Rows.{is_suspended}
-use Rattle.pair_table.specs.Tables.{changed_row, in_state, is_of, none_clash, row_of, with_state, without_row}
+use Rattle.pair_table.specs.Tables.{in_state, is_of, none_clash, resumed_in, row_changed, row_of, with_resumed, with_state, without_row}
 use Rattle.pair_table.proofs.FindLaws.{found_passes}
 use Rattle.pair_table.proofs.PutLaws.{number_sym}
-use Rattle.pair_table.proofs.TableLaws.{either_false, first_apart, no_row, with_state-absent, without-absent}
+use Rattle.pair_table.proofs.TableLaws.{changed-absent, either_false, first_apart, no_row, with_state-absent, without-absent}
 use Rattle.group_state.specs.Controls.{counts}
 use Rattle.group_state.specs.Groups.{Group, control_at}
 use Rattle.group_state.specs.Machine.{Call, group_after}
@@ -30,11 +30,11 @@ use Rattle.fed_logs.specs.Moves.{Plans, plans_without}
 use Rattle.mover.proofs.Failing.{among_map}
 use Rattle.mover.proofs.Pairs.{Among, among_of, apart_among, apart_still, contains_of, found_of_device, pair_of, pairs_of}
 use Rattle.mover.proofs.Pairs.Among.{Here, Later}
-use Rattle.xrc_session.specs.Taking.{AllMay, IfAdds, IsSuspendedSince, IsSoundForRows, MayBeBegun, MayTake, after_calls, as_pending, calls_of_change, carry_calls, command_calls, drop_call, drop_calls, forget_calls, is_begun, owes_again, plans_after, plans_after_calls}
-use Rattle.xrc_session.specs.Taking.{resume_calls, rows_by_command, stands_again, state_by_command, state_or_pending, tracks_owed_to}
+use Rattle.xrc_session.specs.Taking.{AllMay, IfAdds, IsSuspendedSince, IsSoundForRows, MayBeBegun, MayTake, after_calls, as_pending, calls_of_change, carry_calls, command_calls, drop_call, drop_calls, forget_calls, pair_group_after, regrouped_row, is_begun, owes_again, plans_after, plans_after_calls}
+use Rattle.xrc_session.specs.Taking.{resume_calls, rows_by_command, stands_again, state_by_command, state_or_pending, tracks_owed_to, regrouped_rows}
 use Rattle.xrc_session.proofs.KeptRows.{apart_last, may_carry_row}
-use Rattle.xrc_session.proofs.CarriedRows.{among_either, among_kept, stated_among}
-use Rattle.xrc_session.proofs.StandsAgain.{resumed_done, stated_back}
+use Rattle.xrc_session.proofs.CarriedRows.{among_either, among_kept, itself_among}
+use Rattle.xrc_session.proofs.StandsAgain.{grouped_back, resumed_done}
 
 -- ---- rows in their places
 
@@ -73,8 +73,8 @@ pub record Steps (J : Group → List PairRow → Plans → Type 0) (fits : PairR
   pub drop : (s : Group) (rows : List PairRow) (done : Plans) (r : PairRow) (state : PairState) (all : Bool) → J s rows done → Contains rows r → is_suspended state ≡ true
       → (is_device_suspended state ≡ true → all ≡ true) → (all ≡ false → IsPlanDone r.volume (control_at s r.control))
       → J (group_after s (Drop r.control r.volume all)) (with_state r.device state rows) (plans_without r.control r.volume done)
-  pub resume : (s : Group) (rows : List PairRow) (done : Plans) (r : PairRow) → J s rows done → Contains rows r → is_suspended r.state ≡ true → counts (control_at s r.control).phase ≡ true
-      → J (group_after s (Resume r.control r.volume)) (with_state r.device Pending rows) done
+  pub resume : (s : Group) (rows : List PairRow) (done : Plans) (r : PairRow) (group : Option (List ℕ)) → J s rows done → Contains rows r → is_suspended r.state ≡ true → counts (control_at s r.control).phase ≡ true
+      → J (group_after s (Resume r.control r.volume)) (with_resumed r.device group rows) done
   pub forget : (s : Group) (rows : List PairRow) (done : Plans) (r : PairRow) → J s rows done → Contains rows r → is_suspended r.state ≡ true
       → J (group_after s (Forget r.control r.volume)) (without_row r.device rows) done
   pub add : (s : Group) (rows : List PairRow) (done : Plans) (r : PairRow) → J s rows done → r.control < length s.controls → counts (control_at s r.control).phase ≡ true → r.state ≡ Pending → none_clash (rows ++ r ∷ []) ≡ true → fits r
@@ -220,41 +220,41 @@ module _ (J : Group → List PairRow → Plans → Type 0) (fits : PairRow → T
   }
 
   -- A row is resumed.
-  resume_one : (before : List PairRow) (r : PairRow) (s : Group) (done : Plans) → Contains before r → is_suspended r.state ≡ true → counts (control_at s r.control).phase ≡ true → J s before done
-      → Walked J (Resume r.control r.volume ∷ []) s (with_state r.device Pending before) done
-  resume_one before r s done among suspended counted j =
+  resume_one : (before : List PairRow) (r : PairRow) (group : Option (List ℕ)) (s : Group) (done : Plans) → Contains before r → is_suspended r.state ≡ true → counts (control_at s r.control).phase ≡ true → J s before done
+      → Walked J (Resume r.control r.volume ∷ []) s (with_resumed r.device group before) done
+  resume_one before r group s done among suspended counted j =
       let own = (steps.kept s before done j).each r among in
-      record { may = ((own.low, own.own.dropped suspended), tt); ends = steps.resume s before done r j among suspended counted }
+      record { may = ((own.low, own.own.dropped suspended), tt); ends = steps.resume s before done r group j among suspended counted }
 
-  -- A row is resumed, and its volume is dropped again, since the row is suspended as it was.
-  again_one : (before : List PairRow) (r : PairRow) (s : Group) (done : Plans) → Contains before r → is_suspended r.state ≡ true → counts (control_at s r.control).phase ≡ true → J s before done
-      → Walked J (Resume r.control r.volume ∷ Drop r.control r.volume (owes_again (tracks_owed_to s (Some r)) r.state) ∷ []) s before done
-  again_one before r s done among suspended counted j = record {
+  -- A row is resumed, and its volume is dropped again, since the row is suspended as it was. It has its new group.
+  again_one : (before : List PairRow) (r : PairRow) (group : Option (List ℕ)) (s : Group) (done : Plans) → Contains before r → is_suspended r.state ≡ true → counts (control_at s r.control).phase ≡ true → J s before done
+      → Walked J (Resume r.control r.volume ∷ Drop r.control r.volume (owes_again (tracks_owed_to s (Some r)) r.state) ∷ []) s (regrouped_rows r.device group before) done
+  again_one before r group s done among suspended counted j = record {
     may = (resumed.may.0, ((follows.each pending there).low, tt));
-    ends = subst (λ (rows : List PairRow). J (group_after t (Drop r.control r.volume all)) rows (plans_without r.control r.volume done)) (stated_back r Pending before kept.apart among)
-        (steps.drop t (with_state r.device Pending before) done pending r.state all resumed.ends there suspended failed known);
+    ends = subst (λ (rows : List PairRow). J (group_after t (Drop r.control r.volume all)) rows (plans_without r.control r.volume done)) (grouped_back r group before kept.apart among)
+        (steps.drop t (with_resumed r.device group before) done pending r.state all resumed.ends there suspended failed known);
   }
     where
       kept : IsSoundForRows s before
       kept = steps.kept s before done j
 
-      resumed : Walked J (Resume r.control r.volume ∷ []) s (with_state r.device Pending before) done
-      resumed = resume_one before r s done among suspended counted j
+      resumed : Walked J (Resume r.control r.volume ∷ []) s (with_resumed r.device group before) done
+      resumed = resume_one before r group s done among suspended counted j
 
       t : Group
       t = group_after s (Resume r.control r.volume)
 
       pending : PairRow
-      pending = in_state Pending r
+      pending = resumed_in group r
 
       all : Bool
       all = owes_again (tracks_owed_to s (Some r)) r.state
 
-      follows : IsSoundForRows t (with_state r.device Pending before)
-      follows = steps.kept t (with_state r.device Pending before) done resumed.ends
+      follows : IsSoundForRows t (with_resumed r.device group before)
+      follows = steps.kept t (with_resumed r.device group before) done resumed.ends
 
-      there : Contains (with_state r.device Pending before) pending
-      there = contains_of pending (with_state r.device Pending before) (stated_among r Pending before kept.apart (among_of before r among))
+      there : Contains (with_resumed r.device group before) pending
+      there = contains_of pending (with_resumed r.device group before) (itself_among r (resumed_in group) (λ x. refl) before kept.apart (among_of before r among))
 
       failed : is_device_suspended r.state ≡ true → all ≡ true
       failed is = ap (λ (b : Bool). b || not (nat_eq (tracks_owed_to s (Some r)) 0)) is
@@ -264,19 +264,25 @@ module _ (J : Group → List PairRow → Plans → Type 0) (fits : PairRow → T
           (eqb-true (tracks_owed_to s (Some r)) 0 (negated (nat_eq (tracks_owed_to s (Some r)) 0) (either_false (is_device_suspended r.state) (not (nat_eq (tracks_owed_to s (Some r)) 0)) part).1))
 
   resumes : (device : ℕ) (before after : List PairRow) (o : Option PairRow) → row_of device before ≡ o → (s : Group) (done : Plans) → IfSome o (λ r. (is_suspended r.state ≡ true) × (counts (control_at s r.control).phase ≡ true)) → J s before done
-      → Walked J (resume_calls s o (row_of device after)) s (cond (stands_again o (row_of device after)) before (with_state device Pending before)) done
-  resumes device before after None is s done begun j = record { may = tt; ends = subst (λ (rows : List PairRow). J s rows done) (sym (with_state-absent device Pending before (no_row device before is))) j }
+      → Walked J (resume_calls s o (row_of device after)) s (cond (stands_again o (row_of device after)) (regrouped_rows device (pair_group_after device after) before) (with_resumed device (pair_group_after device after) before)) done
+  resumes device before after None is s done begun j = record {
+    may = tt;
+    ends = subst (λ (rows : List PairRow). J s rows done) (sym (changed-absent device (resumed_in (pair_group_after device after)) before (no_row device before is))) j;
+  }
   resumes device before after (Some r) is s done begun j = choose (stands_again (Some r) (row_of device after))
     where
+      group : Option (List ℕ)
+      group = pair_group_after device after
+
       among : Contains before r
       among = contains_of r before (found_in (is_of device) before r is)
 
       same : device ≡ r.device
       same = eqb-true device r.device (found_passes (is_of device) before r is)
 
-      choose : (b : Bool) → Walked J (Resume r.control r.volume ∷ cond b (Drop r.control r.volume (owes_again (tracks_owed_to s (Some r)) r.state) ∷ []) []) s (cond b before (with_state device Pending before)) done
-      choose true = again_one before r s done among begun.0 begun.1 j
-      choose false = subst (λ (d : ℕ). Walked J (Resume r.control r.volume ∷ []) s (with_state d Pending before) done) (sym same) (resume_one before r s done among begun.0 begun.1 j)
+      choose : (b : Bool) → Walked J (Resume r.control r.volume ∷ cond b (Drop r.control r.volume (owes_again (tracks_owed_to s (Some r)) r.state) ∷ []) []) s (cond b (regrouped_rows device group before) (with_resumed device group before)) done
+      choose true = subst (λ (d : ℕ). Walked J (Resume r.control r.volume ∷ Drop r.control r.volume (owes_again (tracks_owed_to s (Some r)) r.state) ∷ []) s (regrouped_rows d group before) done) (sym same) (again_one before r group s done among begun.0 begun.1 j)
+      choose false = subst (λ (d : ℕ). Walked J (Resume r.control r.volume ∷ []) s (with_resumed d group before) done) (sym same) (resume_one before r group s done among begun.0 begun.1 j)
 
   command_walk : (change : Change) (before after : List PairRow) (s : Group) (done : Plans) → MayBeBegun s change before after → IfAdds change after (λ r. fits (in_state Pending r)) → none_clash (rows_by_command change before after) ≡ true → J s before done
       → WalksBy change before after s done
@@ -328,9 +334,9 @@ added_state device before new after found apart whole r t there follows = elim (
         absurd (true≢false (sym (eq-eqb r.device new.device (sym (eqb-true device r.device is) ∙ eqb-true device new.device own_device)) ∙ (apart_last (in_state Pending new) r before whole old).device))
 
 -- The state in which a resume leaves rows: the row is pending, or is suspended again as it was.
-resumed_state : (device : ℕ) (before : List PairRow) (p : Option PairRow) → none_clash before ≡ true → (r t : PairRow) → Among r (cond (stands_again (row_of device before) p) before (with_state device Pending before)) → IsAfter r t
+resumed_state : (device : ℕ) (group : Option (List ℕ)) (before : List PairRow) (p : Option PairRow) → none_clash before ≡ true → (r t : PairRow) → Among r (cond (stands_again (row_of device before) p) (regrouped_rows device group before) (with_resumed device group before)) → IsAfter r t
     → (nat_eq device t.device ≡ true → p ≡ Some t) → state_by_command (Resumed device) before t ≡ r.state
-resumed_state device before p apart r t there follows found = choose (stands_again (row_of device before) p) refl there
+resumed_state device group before p apart r t there follows found = choose (stands_again (row_of device before) p) refl there
   where
     -- what becomes of the row that was before
     was_row : (w : PairRow) → Among w before → t.device ≡ w.device → (again : Bool) → stands_again (row_of device before) p ≡ again → (b : Bool) → nat_eq device w.device ≡ b
@@ -350,17 +356,31 @@ resumed_state device before p apart r t there follows found = choose (stands_aga
     device_is : t.device ≡ r.device
     device_is = ap (λ (x : PairRow). x.device) follows
 
-    stated_device : (w : PairRow) → (let x : PairRow = changed_row device Pending w in x.device) ≡ w.device
-    stated_device w = by (is_of device w)
+    resumed_device : (w : PairRow) → (let x : PairRow = row_changed device (resumed_in group) w in x.device) ≡ w.device
+    resumed_device w = by (is_of device w)
       where
-        by : (b : Bool) → (let x : PairRow = cond b (in_state Pending w) w in x.device) ≡ w.device
+        by : (b : Bool) → (let x : PairRow = cond b (resumed_in group w) w in x.device) ≡ w.device
         by true = refl
         by false = refl
 
-    stated_state : (w : PairRow) → (let x : PairRow = changed_row device Pending w in x.state) ≡ cond (nat_eq device w.device && true) Pending w.state
-    stated_state w = by (is_of device w)
+    pending_state : (w : PairRow) → (let x : PairRow = row_changed device (resumed_in group) w in x.state) ≡ cond (nat_eq device w.device && true) Pending w.state
+    pending_state w = by (is_of device w)
       where
-        by : (b : Bool) → (let x : PairRow = cond b (in_state Pending w) w in x.state) ≡ cond (b && true) Pending w.state
+        by : (b : Bool) → (let x : PairRow = cond b (resumed_in group w) w in x.state) ≡ cond (b && true) Pending w.state
+        by true = refl
+        by false = refl
+
+    grouped_device : (w : PairRow) → (let x : PairRow = row_changed device (regrouped_row group) w in x.device) ≡ w.device
+    grouped_device w = by (is_of device w)
+      where
+        by : (b : Bool) → (let x : PairRow = cond b (regrouped_row group w) w in x.device) ≡ w.device
+        by true = refl
+        by false = refl
+
+    grouped_state : (w : PairRow) → (let x : PairRow = row_changed device (regrouped_row group) w in x.state) ≡ w.state
+    grouped_state w = by (is_of device w)
+      where
+        by : (b : Bool) → (let x : PairRow = cond b (regrouped_row group w) w in x.state) ≡ w.state
         by true = refl
         by false = refl
 
@@ -368,12 +388,15 @@ resumed_state device before p apart r t there follows found = choose (stands_aga
     stays true state = refl
     stays false state = refl
 
-    choose : (again : Bool) → stands_again (row_of device before) p ≡ again → Among r (cond again before (with_state device Pending before)) → state_by_command (Resumed device) before t ≡ r.state
-    choose true is there = was_row r there device_is true is (nat_eq device r.device) refl ∙ stays (nat_eq device r.device) r.state
+    choose : (again : Bool) → stands_again (row_of device before) p ≡ again → Among r (cond again (regrouped_rows device group before) (with_resumed device group before)) → state_by_command (Resumed device) before t ≡ r.state
+    choose true is there =
+        let was = among_map (row_changed device (regrouped_row group)) r before there in
+        let same : t.device ≡ was.row.device = device_is ∙ sym (ap (λ (x : PairRow). x.device) was.is) ∙ grouped_device was.row in
+        was_row was.row was.among same true is (nat_eq device was.row.device) refl ∙ stays (nat_eq device was.row.device) was.row.state ∙ sym (grouped_state was.row) ∙ ap (λ (x : PairRow). x.state) was.is
     choose false is there =
-        let was = among_map (changed_row device Pending) r before there in
-        let same : t.device ≡ was.row.device = device_is ∙ sym (ap (λ (x : PairRow). x.device) was.is) ∙ stated_device was.row in
-        was_row was.row was.among same false is (nat_eq device was.row.device) refl ∙ sym (stated_state was.row) ∙ ap (λ (x : PairRow). x.state) was.is
+        let was = among_map (row_changed device (resumed_in group)) r before there in
+        let same : t.device ≡ was.row.device = device_is ∙ sym (ap (λ (x : PairRow). x.device) was.is) ∙ resumed_device was.row in
+        was_row was.row was.among same false is (nat_eq device was.row.device) refl ∙ sym (pending_state was.row) ∙ ap (λ (x : PairRow). x.state) was.is
 
 pub begun_state : (change : Change) (before after : List PairRow) (s : Group) → MayBeBegun s change before after → none_clash before ≡ true → none_clash (rows_by_command change before after) ≡ true → none_clash after ≡ true → (r t : PairRow)
     → Among r (rows_by_command change before after) → Among t after → IsAfter r t → state_by_command change before t ≡ r.state
@@ -386,7 +409,7 @@ begun_state (Added device) before after s begun apart whole clear r t there amon
     choose None is none whole there = absurd none
     choose (Some new) is begun whole there = added_state device before new after is apart whole r t there follows
 begun_state (Resumed device) before after s begun apart whole clear r t there among follows =
-    resumed_state device before (row_of device after) apart r t there follows (λ is. ap (λ (d : ℕ). row_of d after) (eqb-true device t.device is) ∙ found_of_device t after clear among)
+    resumed_state device (pair_group_after device after) before (row_of device after) apart r t there follows (λ is. ap (λ (d : ℕ). row_of d after) (eqb-true device t.device is) ∙ found_of_device t after clear among)
 begun_state (Gone devices) before after s begun apart whole clear r t there among follows = not_begun (Gone devices) before r t follows refl apart (among_kept (λ x. not (is_among x.device devices)) r before there).0
 begun_state (SuspendedRows devices) before after s begun apart whole clear r t there among follows = not_begun (SuspendedRows devices) before r t follows refl apart there
 begun_state Ended before after s begun apart whole clear r t there among follows = not_begun Ended before r t follows refl apart there

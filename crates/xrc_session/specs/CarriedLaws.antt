@@ -1,5 +1,5 @@
 -- The laws of rows between two epochs. Each is the contract of a public function.
-use Rattle.std.specs.Prelude.{◌≡◌, ℕ, ◌<◌, ◌++◌, List, [], ◌∷◌, length, Bool, nat_lt, Ok, true, IsTrue}
+use Rattle.std.specs.Prelude.{◌≡◌, ℕ, ◌<◌, ◌++◌, List, [], ◌∷◌, length, Bool, Option, nat_lt, Ok, true, IsTrue}
 use Rattle.change_map.specs.Sets.{every_track}
 use Rattle.copy_plan.specs.Plans.{fresh_plan}
 use Rattle.std.specs.List.{All, Contains}
@@ -10,10 +10,9 @@ use Rattle.pair_table.specs.declared.command.Command.{Command}
 use Rattle.pair_table.specs.declared.level.Level.{Level}
 use Rattle.pair_table.specs.declared.row.PairRow.{PairRow}
 use Rattle.pair_table.specs.declared.row.PairState.{PairState}
-use Rattle.pair_table.specs.declared.row.PairState.TheVariants.{Pending}
 use Rattle.pair_table.specs.Commands.{answer, table_after}
 use Rattle.pair_table.specs.Naming.{Naming}
-use Rattle.pair_table.specs.Tables.{Table, none_clash, with_state, without_row}
+use Rattle.pair_table.specs.Tables.{Table, none_clash, with_resumed, with_state, without_row}
 use Rattle.group_state.specs.Controls.{counts}
 use Rattle.group_state.specs.Groups.{Group, control_at}
 use Rattle.group_state.specs.Machine.Call.{Carry, Drop, Forget, Resume}
@@ -37,10 +36,10 @@ abbrev pub SuspendedRowsStand : PlantState → Type 0
 SuspendedRowsStand start = (b : Between) (r : PairRow) (state : PairState) (all : Bool) → StandsBetween start b → MaySuspend b r state all
     → StandsBetween start (between_after (Drop r.control r.volume all) (with_state r.device state b.point.rows) (plans_without r.control r.volume b.done) b)
 
--- A row becomes pending again, and its volume is carried again, of which the tracks in its map are wanted.
+-- A row becomes pending again, in whatever group, and its volume is carried again, of which the tracks in its map are wanted.
 abbrev pub ResumedRowsStand : PlantState → Type 0
-ResumedRowsStand start = (b : Between) (r : PairRow) → StandsBetween start b → MayResume b r
-    → StandsBetween start (between_after (Resume r.control r.volume) (with_state r.device Pending b.point.rows) b.done b)
+ResumedRowsStand start = (b : Between) (r : PairRow) (group : Option (List ℕ)) → StandsBetween start b → MayResume b r
+    → StandsBetween start (between_after (Resume r.control r.volume) (with_resumed r.device group b.point.rows) b.done b)
 
 -- A row is taken out, and its volume is forgotten.
 abbrev pub ForgottenRowsStand : PlantState → Type 0

@@ -75,7 +75,7 @@ bytes_given s = if s.has_failed then take (length s.held - length s.rest) s.held
 
 -- the trace of these bytes, or why its header is refused
 abbrev pub trace_given : SourceBytes → Result Trace HeaderError
-trace_given s = trace_of 1 s.has_failed (bytes_given s)
+trace_given s = trace_of s.has_failed (bytes_given s)
 
 -- A source tells its bytes, and its count of faults, which ends below the largest number, tells whether it failed.
 pub record SourceTold {S : Type 0} (left : S → Option (List ℕ)) (faults : S → ℕ) (before now : S) (s : SourceBytes) : Type 0 where

@@ -1,5 +1,5 @@
 -- What ends a run before its script is heard: the numbers of the site, the lengths of its devices, and the headers of the traces, in this order.
-use Rattle.std.specs.Prelude.{◌≡◌, ◌⊎◌, ℕ, ◌+◌, ◌*◌, ◌<◌, ◌==◌, ◌&&◌, List, [], ◌∷◌, ◌++◌, length, map, find, Bool, Option, Some, None, Result, Ok, Err, IsErrOf, IsSomeAnd, IsTrue, nat_le, nat_lt, bytes_eq, if◌then◌else◌, slice_index_or}
+use Rattle.std.specs.Prelude.{◌≡◌, ◌⊎◌, ℕ, ◌+◌, ◌<◌, ◌==◌, ◌&&◌, List, [], ◌∷◌, ◌++◌, length, map, find, Bool, Option, Some, None, Result, Ok, Err, IsErrOf, IsSomeAnd, IsTrue, nat_le, nat_lt, bytes_eq, if◌then◌else◌, slice_index_or}
 use Rattle.std.specs.List.{list_all, list_any}
 use Rattle.xrc_edge.specs.declared.limits.TheConstants.{FEWEST_JOURNALS, MOST_JOURNALS, MOST_SITE_VOLUMES}
 use Rattle.xrc_edge.specs.Causes.{Rose}
@@ -79,7 +79,7 @@ stop_of_headers k named [] = None
 stop_of_headers k named (s ∷ sources) = elim (trace_given s) [
   | Err error ↦ Some (stop_of_header k error)
   | Ok t ↦ elim (first_named_again named 0 t.header.volumes) [
-    | Some v ↦ Some (BadHeader k (serial_place v))
+    | Some v ↦ Some (BadHeader k (serial_place t.header.version v))
     | None ↦ stop_of_headers (k + 1) (named ++ serials_in_header t.header.volumes) sources
   ]
 ]

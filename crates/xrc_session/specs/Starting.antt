@@ -126,7 +126,7 @@ start_line session level at = record { time = stamp at; session = session; comma
 abbrev pub level_started : (session : List ℕ) → Line → Option Level
 level_started session line = elim line.command [
   | Start level ↦ if bytes_eq line.session session then Some level else None
-  | AddPair primary secondary ↦ None
+  | AddPair primary secondary group ↦ None
   | DelPair choice ↦ None
   | Suspend choice ↦ None
   | Query ↦ None

@@ -1,5 +1,5 @@
 -- A command's change of rows taken over into the shared state: what the state keeps for rows, and the calls that a change makes.
-use Rattle.std.specs.Prelude.{◌≡◌, ℕ, ◌<◌, ◌==◌, ◌&&◌, ◌||◌, not, List, [], ◌∷◌, ◌++◌, filter, length, Bool, true, false, Option, Some, None, IfSome, IsSomeAnd, IsTrue, if◌then◌else◌}
+use Rattle.std.specs.Prelude.{◌≡◌, ℕ, ◌<◌, ◌==◌, ◌&&◌, ◌||◌, not, List, [], ◌∷◌, ◌++◌, filter, map, length, Bool, true, false, Option, Some, None, IfSome, IsSomeAnd, IsTrue, if◌then◌else◌}
 use Rattle.std.specs.List.{Contains, flat_map}
 use Rattle.change_map.specs.Sets.{every_track}
 use Rattle.copy_plan.specs.Plans.{fresh_plan}
@@ -10,7 +10,7 @@ use Rattle.pair_table.specs.declared.row.PairState.{PairState}
 use Rattle.pair_table.specs.declared.row.PairState.TheVariants.{Pending, Duplex, Suspended}
 use Rattle.pair_table.specs.Devices.{is_among}
 use Rattle.pair_table.specs.Rows.{is_suspended}
-use Rattle.pair_table.specs.Tables.{in_state, none_clash, row_of, with_state}
+use Rattle.pair_table.specs.Tables.{in_state, none_clash, row_changed, row_of, with_resumed}
 use Rattle.group_state.specs.Volumes.{owed}
 use Rattle.group_state.specs.Controls.{counts}
 use Rattle.group_state.specs.Groups.{Group, control_at}
@@ -84,11 +84,29 @@ abbrev pub as_pending : Option PairRow → List PairRow
 as_pending None = []
 as_pending (Some r) = in_state Pending r ∷ []
 
+abbrev pub group_of_row : Option PairRow → Option (List ℕ)
+group_of_row None = None
+group_of_row (Some r) = r.group
+
+-- the group of a device's row after a command, if it has one
+abbrev pub pair_group_after : (device : ℕ) → (after : List PairRow) → Option (List ℕ)
+pair_group_after device after = group_of_row (row_of device after)
+
+-- a row in a group or in none, in the state that it has
+abbrev pub regrouped_row : (group : Option (List ℕ)) → PairRow → PairRow
+regrouped_row group r = record r { group = group }
+
+-- the rows with the device's in a group or in none
+abbrev pub regrouped_rows : (device : ℕ) → (group : Option (List ℕ)) → List PairRow → List PairRow
+regrouped_rows device group rows = map (row_changed device (regrouped_row group)) rows
+
 -- The rows that a command leaves of those before it, without its suspensions. The row that it adds is found among those after it. One that it
--- resumes, and that is suspended again as it was, stays.
+-- resumes has the group of the row after it, and it stays in its state if it is suspended again as it was.
 abbrev pub rows_by_command : Change → (before after : List PairRow) → List PairRow
 rows_by_command (Added device) before after = before ++ as_pending (row_of device after)
-rows_by_command (Resumed device) before after = if stands_again (row_of device before) (row_of device after) then before else with_state device Pending before
+rows_by_command (Resumed device) before after =
+    let group = pair_group_after device after in
+    if stands_again (row_of device before) (row_of device after) then regrouped_rows device group before else with_resumed device group before
 rows_by_command (Gone devices) before after = filter (λ r. not (is_among r.device devices)) before
 rows_by_command change before after = before
 

@@ -32,21 +32,26 @@ fn stop_of_header(control: u16, error: HeaderError) -> Stop
     }
 }
 
-/// That no volume of a controller has a serial that an earlier trace names.
-fn check_serials(control: u16, named: &[Serial], volumes: &[VolumeHead]) -> Result<(), Stop>
+/// That no volume of a controller, in a header of a version, has a serial that an earlier trace names.
+fn check_serials(
+    control: u16,
+    version: u8,
+    named: &[Serial],
+    volumes: &[VolumeHead],
+) -> Result<(), Stop>
     requires { length volumes.now ≤ MOST_CONTROL_VOLUMES }
     ensures ok { OnOk result (first_named_again named.now 0 volumes.now ≡ None) }
-    ensures again { IfErr result (λ stop. (v : ℕ) × (first_named_again named.now 0 volumes.now ≡ Some v) × (stop ≡ Stop.BadHeader control (serial_place v))) }
+    ensures again { IfErr result (λ stop. (v : ℕ) × (first_named_again named.now 0 volumes.now ≡ Some v) × (stop ≡ Stop.BadHeader control (serial_place version v))) }
 {
     for (volume, head) in volumes.iter().enumerate() {
         if named.contains(&head.serial) {
-            return Err(Stop::BadHeader(control, serial_place(volume)));
+            return Err(Stop::BadHeader(control, serial_place(version, volume)));
         }
     }
     Ok(())
 }
 
-/// Names the volumes of a controller.
+/// Names the volumes of a controller. Those of either version keep version 2's rules.
 fn name_volumes(
     alloc: Global,
     names: &mut Names,
@@ -55,7 +60,7 @@ fn name_volumes(
     volumes: &[VolumeHead],
 ) -> Result<(), Stop>
     requires control { control < MOST_CONTROLS }
-    requires heads { IsTrue (are_volumes 1 [] volumes.now) }
+    requires heads { IsTrue (are_volumes 2 [] volumes.now) }
     requires few { length volumes.now ≤ MOST_CONTROL_VOLUMES }
     requires apart { NamesApart control volumes.now named.old.items names.old }
     ensures ok { OnOk result ((names.new ≡ record names.old { primaries = names.old.primaries ++ volumes_named control 0 volumes.now }) × (named.new.items ≡ named.old.items ++ serials_in_header volumes.now)) }
@@ -89,7 +94,12 @@ fn open_lane<S: Source>(
         Ok(started) => started,
         Err(error) => return Err(stop_of_header(control, error)),
     };
-    check_serials(control, named.as_slice(), header.volumes.as_slice())?;
+    check_serials(
+        control,
+        header.version,
+        named.as_slice(),
+        header.volumes.as_slice(),
+    )?;
     name_volumes(alloc, names, named, control, header.volumes.as_slice())?;
     let side = Sidefile::make(alloc, control, reader)?;
     let primary = Primary::make(alloc, header)?;

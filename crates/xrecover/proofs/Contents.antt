@@ -26,7 +26,7 @@ use Rattle.xrecover.specs.RedoneVolumes.{Draws, Redoes}
 content_by_none : (device x : ℕ) (t : Option (List Rec)) (i : Item) → is_of_track device x i ≡ false → content_by device x t i ≡ t
 content_by_none device x t (Image d y recs) none = λ n. cond (none n) (Some recs) t
 content_by_none device x t (Delta d y kind) none = λ n. cond (none n) (Some (apply (unwrap_or t []) kind)) t
-content_by_none device x t (Pair row) none = refl
+content_by_none device x t (Pair version row) none = refl
 content_by_none device x t (Gone d) none = refl
 
 -- Items of other tracks leave a track.
@@ -66,8 +66,8 @@ module _ (plant : PlantState) (device x : ℕ) where
       by_test false is (inl mine) = absurd cc
       by_test false is (inr short) = short
   one_short earlier (Delta of y kind) t keeps has = absurd cc
-  one_short earlier (Pair row) t keeps (inl mine) = absurd cc
-  one_short earlier (Pair row) t keeps (inr short) = short
+  one_short earlier (Pair version row) t keeps (inl mine) = absurd cc
+  one_short earlier (Pair version row) t keeps (inr short) = short
   one_short earlier (Gone of) t keeps (inl mine) = absurd cc
   one_short earlier (Gone of) t keeps (inr short) = short
 

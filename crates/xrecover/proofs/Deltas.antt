@@ -10,7 +10,7 @@ use Rattle.crash_plant.specs.declared.device.Device.TheVariants.{Journal}
 use Rattle.crash_plant.specs.Moments.{PlantState}
 use Rattle.control_set.specs.declared.value.Mark.{Mark}
 use Rattle.control_set.proofs.Keeps.{number_kept}
-use Rattle.pair_table.specs.Rows.{row_at}
+use Rattle.pair_table.specs.Rows.{row_by, row_length}
 use Rattle.state_set.specs.Slots.{Stored}
 use Rattle.xrc_journal.specs.Items.{Item, Form, Earlier, earlier_after, may_draw, none_earlier}
 use Rattle.xrc_journal.specs.Items.Item.{Image, Delta, Pair, Gone}
@@ -31,7 +31,7 @@ use Rattle.site_means.proofs.Goes.{ByGroup, goes_by}
 abbrev pub is_delta : Item → Bool
 is_delta (Image d x recs) = false
 is_delta (Delta d x kind) = true
-is_delta (Pair row) = false
+is_delta (Pair version row) = false
 is_delta (Gone d) = false
 
 -- ---- one item
@@ -44,12 +44,12 @@ module _ (form : Form) (earlier : Earlier) (left : Left) (item : Item) (next : L
       let two = bind_ok (body_image_field one.0.1) (λ r. Ok (Image one.0.0.0 one.0.0.1 r.0, r.1)) (item, next) one.2 in
       sym (ap (λ (p : Item × Left). is_delta p.0) (given_is (Image one.0.0.0 one.0.0.1 two.0.0, two.0.1) (item, next) two.2))
 
-  pair_no_delta : pair_item_at left ≡ Ok (item, next) → is_delta item ≡ false
+  pair_no_delta : (version : ℕ) → pair_item_at version left ≡ Ok (item, next) → is_delta item ≡ false
   unfolding pair_item_at
-  pair_no_delta e =
-      let one = bind_ok (bytes_at 30 any left) (λ t. row_or left (row_at t.0) >>= (λ r. Ok (Pair r, t.1))) (item, next) e in
-      let two = bind_ok (row_or left (row_at one.0.0)) (λ r. Ok (Pair r, one.0.1)) (item, next) one.2 in
-      sym (ap (λ (p : Item × Left). is_delta p.0) (given_is (Pair two.0, one.0.1) (item, next) two.2))
+  pair_no_delta version e =
+      let one = bind_ok (bytes_at (row_length version) any left) (λ t. row_or left (row_by version t.0) >>= (λ r. Ok (Pair version r, t.1))) (item, next) e in
+      let two = bind_ok (row_or left (row_by version one.0.0)) (λ r. Ok (Pair version r, one.0.1)) (item, next) one.2 in
+      sym (ap (λ (p : Item × Left). is_delta p.0) (given_is (Pair version two.0, one.0.1) (item, next) two.2))
 
   gone_no_delta : gone_item_at left ≡ Ok (item, next) → is_delta item ≡ false
   unfolding gone_item_at
@@ -63,7 +63,8 @@ no_tag late tag other two kept =
     let is : tag ≡ 2 = eqb-true tag 2 two in
     let three : nat_eq tag 3 ≡ false = ap (λ (n : ℕ). nat_eq n 3) is in
     let four : nat_eq tag 4 ≡ false = ap (λ (n : ℕ). nat_eq n 4) is in
-    clash (sym kept ∙ (λ i. (other i && not late) || (two i && (false && not late)) || three i || four i))
+    let five : nat_eq tag 5 ≡ false = ap (λ (n : ℕ). nat_eq n 5) is in
+    clash (sym kept ∙ (λ i. (other i && not late) || (two i && (false && not late)) || three i || four i || five i))
   where
     clash : true ≡ false → ⊥
     clash e = cc
@@ -72,16 +73,17 @@ item_no_delta : (form : Form) (earlier : Earlier) (left : Left) (item : Item) (n
 unfolding item_at
 item_no_delta form earlier left item next none read =
     let one = bind_ok (number_at w8 (is_tag form.deltas earlier.late) left)
-    (λ t. cond (nat_eq t.0 1) (image_item_at form earlier t.1) (cond (nat_eq t.0 2) (delta_item_at form t.1) (cond (nat_eq t.0 3) (pair_item_at t.1) (gone_item_at t.1)))) (item, next) read in
+    (λ t. cond (nat_eq t.0 1) (image_item_at form earlier t.1) (cond (nat_eq t.0 2) (delta_item_at form t.1) (cond (nat_eq t.0 3) (pair_item_at 1 t.1) (cond (nat_eq t.0 5) (pair_item_at 2 t.1) (gone_item_at t.1))))) (item, next) read in
     let kept = number_kept w8 (is_tag form.deltas earlier.late) left one.0.0 one.0.1 one.1 in
-    choose one.0.1 one.0.0 (ap (λ (b : Bool). is_tag b earlier.late one.0.0) (sym none) ∙ kept) (nat_eq one.0.0 1) refl (nat_eq one.0.0 2) refl (nat_eq one.0.0 3) one.2
+    choose one.0.1 one.0.0 (ap (λ (b : Bool). is_tag b earlier.late one.0.0) (sym none) ∙ kept) (nat_eq one.0.0 1) refl (nat_eq one.0.0 2) refl (nat_eq one.0.0 3) (nat_eq one.0.0 5) one.2
   where
-    choose : (after : Left) (tag : ℕ) → is_tag false earlier.late tag ≡ true → (one : Bool) → nat_eq tag 1 ≡ one → (two : Bool) → nat_eq tag 2 ≡ two → (three : Bool)
-        → cond one (image_item_at form earlier after) (cond two (delta_item_at form after) (cond three (pair_item_at after) (gone_item_at after))) ≡ Ok (item, next) → is_delta item ≡ false
-    choose after tag kept true is1 two is2 three read = image_no_delta form earlier after item next read
-    choose after tag kept false is1 true is2 three read = absurd (no_tag earlier.late tag is1 is2 kept)
-    choose after tag kept false is1 false is2 true read = pair_no_delta form earlier after item next read
-    choose after tag kept false is1 false is2 false read = gone_no_delta form earlier after item next read
+    choose : (after : Left) (tag : ℕ) → is_tag false earlier.late tag ≡ true → (one : Bool) → nat_eq tag 1 ≡ one → (two : Bool) → nat_eq tag 2 ≡ two → (three five : Bool)
+        → cond one (image_item_at form earlier after) (cond two (delta_item_at form after) (cond three (pair_item_at 1 after) (cond five (pair_item_at 2 after) (gone_item_at after)))) ≡ Ok (item, next) → is_delta item ≡ false
+    choose after tag kept true is1 two is2 three five read = image_no_delta form earlier after item next read
+    choose after tag kept false is1 true is2 three five read = absurd (no_tag earlier.late tag is1 is2 kept)
+    choose after tag kept false is1 false is2 true five read = pair_no_delta form earlier after item next 1 read
+    choose after tag kept false is1 false is2 false true read = pair_no_delta form earlier after item next 2 read
+    choose after tag kept false is1 false is2 false false read = gone_no_delta form earlier after item next read
 
 -- ---- a body
 
@@ -146,7 +148,7 @@ module _ (shape : Shape) (images : Images) (none : shape.form.deltas ≡ false) 
 one_drawn : (device x : ℕ) (i : Item) → is_delta i ≡ false → is_of_track device x i ≡ draws device x i
 one_drawn device x (Image d y recs) none = refl
 one_drawn device x (Delta d y kind) none = absurd cc
-one_drawn device x (Pair row) none = refl
+one_drawn device x (Pair version row) none = refl
 one_drawn device x (Gone d) none = refl
 
 drawn : (device x : ℕ) (items : List Item) → list_any is_delta items ≡ false → list_any (is_of_track device x) items ≡ list_any (draws device x) items

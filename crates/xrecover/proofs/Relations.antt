@@ -76,7 +76,7 @@ module _ (plant : PlantState) (device x : ℕ) where
   one_within : (earlier : Earlier) (i : Item) → is_item (form_of plant) earlier i ≡ true → HasItem device x (i ∷ []) → slot_end x ≤ plant.lengths (Volume device)
   one_within earlier (Image of y recs) keeps has = image_within earlier of y recs keeps (alone (of == device && y == x) has)
   one_within earlier (Delta of y kind) keeps has = absurd cc
-  one_within earlier (Pair row) keeps has = absurd cc
+  one_within earlier (Pair version row) keeps has = absurd cc
   one_within earlier (Gone of) keeps has = absurd cc
 
   pub items_within : (earlier : Earlier) (items : List Item) → are_items_after (form_of plant) earlier items ≡ true → HasItem device x items → slot_end x ≤ plant.lengths (Volume device)

@@ -13,5 +13,5 @@ returns-in-Some c =
     let volumes = c.args.volumes.now in
     let found = sym c.in-Some.ensures in
     let there = (position-Some (λ (v : VolumeHead). bytes_eq v.serial c.args.serial) volumes c.in-Some.number c.index-volumes-number.result found).0 in
-    let made : ℕ → Result NamedVolume Stop = λ k. Ok (record { number = c.in-Some.number; cylinders = k }) in
-    ap made (cylinders_is volumes c.in-Some.number c.index-volumes-number.result there) ∙ ap (volume_numbered volumes) (sym found)
+    let made : ℕ → Result NamedVolume Stop = λ k. Ok (record { version = c.args.version; number = c.in-Some.number; cylinders = k }) in
+    ap made (cylinders_is volumes c.in-Some.number c.index-volumes-number.result there) ∙ ap (volume_numbered c.args.version volumes) (sym found)

@@ -22,7 +22,7 @@ loop-device-preserved c =
       | in-Some w ↦
           let is : row_of device rows ≡ Some w.in-Some.row.now = sym found ∙ ap option_copied w.in-Some.is in
           let long = pair_length w.in-Some.row.now (found_is_row device rows w.in-Some.row.now c.requires.rules.each is) in
-          put_one (λ d. pair_item (row_of d rows)) c.args.body.now c.loop-device.body c.args.devices.now c.loop-device.device-index device c.loop-device-test.true refl c.loop-device.invariant (Pair w.in-Some.row.now) c.match-row_of.body
+          put_one (λ d. pair_item (row_of d rows)) c.args.body.now c.loop-device.body c.args.devices.now c.loop-device.device-index device c.loop-device-test.true refl c.loop-device.invariant (Pair 2 w.in-Some.row.now) c.match-row_of.body
           (ap pair_item is) (omega (arith, long)) (w.body-is ∙ w.put_row.ensures)
       | in_default w ↦
           let is : row_of device rows ≡ None = sym found ∙ ap option_copied w.in_default.is in

@@ -1,10 +1,11 @@
-use Rattle.std.specs.Prelude.{◌≡◌, ◌<◌, ◌||◌, ℕ, false, length, slice_index_or}
-use Rattle.site_store.proofs.HitStates.{reaches_by}
+use Rattle.std.specs.Prelude.{◌≡◌, ◌<◌, ◌||◌, ℕ, Some, false, length, slice_get, slice_index_or}
+use Rattle.pair_table.specs.declared.row.PairRow.{PairRow}
+use Rattle.site_store.proofs.Reached.{reaches_by}
 use Rattle.site_store.proofs.hits.reached_devices.Given as goal
 
--- of the devices before it is said whether they are reached
-abbrev pub invariant-loop-device : goal.invariant-loop-device
-invariant-loop-device l = record {
+-- of the rows before it is said whether they are reached
+abbrev pub invariant-loop-row : goal.invariant-loop-row
+invariant-loop-row l = record {
   long : length l.reached ≡ 64;
-  are : (d : ℕ) → d < l.device → slice_index_or l.reached d false ≡ (reaches_by l.level l.marked d || reaches_by l.level l.hit d);
+  are : (n : ℕ) (r : PairRow) → n < l.row-index → slice_get l.table.rows n ≡ Some r → slice_index_or l.reached r.device false ≡ (reaches_by l.level l.table.rows l.marked r || reaches_by l.level l.table.rows l.hit r);
 }

@@ -4,7 +4,7 @@ use Rattle.crash_plant.specs.declared.device.Device.TheVariants.{State}
 use Rattle.state_set.specs.Slots.{Stored, state_slot_place, state_at, state_of}
 use Rattle.pair_table.specs.Tables.{are_below}
 use Rattle.state_set.proofs.Below.{found_below}
-use Rattle.state_set.proofs.Windows.{read_is, some_state, no_state}
+use Rattle.state_set.proofs.Windows.{read_is, some_state, found_started, no_state}
 use Rattle.state_set.proofs.slots.get.Goals as goal
 
 pub returns-in-Ok-Some-clause-holds : goal.returns-in-Ok-Some-clause-holds
@@ -31,3 +31,6 @@ pub returns-in-Ok-Some-clause-below : goal.returns-in-Ok-Some-clause-below
 returns-in-Ok-Some-clause-below g c =
     let volumes = c.volumes.ensures ∙ c.read_slot.ensures.only.site.volumes in
     ap (λ (v : ℕ). are_below v c.in-Ok-Some.found.1.rows) (sym volumes) ∙ found_below c.volumes.result c.args.session c.in-Ok.bytes c.in-Ok-Some.found (sym c.in-Ok-Some.field-0-is ∙ c.in-Ok-Some.ensures)
+
+pub returns-in-Ok-Some-clause-started : goal.returns-in-Ok-Some-clause-started
+returns-in-Ok-Some-clause-started g c = found_started c.args.session (state_at c.volumes.result c.args.session c.in-Ok.bytes) c.in-Ok-Some.found (sym c.in-Ok-Some.field-0-is ∙ c.in-Ok-Some.ensures)

@@ -12,9 +12,9 @@ returns-clause-spelled c =
     let front = c.copy_from_slice.new.self in
     let rest = drop 15 c.args.out.now in
     let long : length front ≡ 15 = omega (arith, c.copy_from_slice.ensures.len, length-take 15 c.args.out.now, c.told-out) in
-    let count : length (rows_spelling rows) ≡ 30 * length rows = rows_length rows c.len-count.ensures.rules.each in
-    take-put_mid 15 (15 + 30 * c.from.result - 15) (front ++ rest) c.put_rows.new.out (state_length rows) (omega (arith, count, ap length c.put_rows.ensures)) (omega (arith, long, length-append front rest))
+    let count : length (rows_spelling 2 rows) ≡ 38 * length rows = rows_length rows c.len-count.ensures.rules.each in
+    take-put_mid 15 (15 + 38 * c.from.result - 15) (front ++ rest) c.put_rows.new.out (state_length rows) (omega (arith, count, ap length c.put_rows.ensures)) (omega (arith, long, length-append front rest))
     ∙ ap (λ (t : List ℕ). t ++ c.put_rows.new.out) (take_at front rest 15 long ∙ c.copy_from_slice.ensures.after ∙ c.head.ensures.head)
-    ∙ ap (λ (t : List ℕ). head_spelling t level c.len-count.result ++ c.put_rows.new.out) c.session.ensures
-    ∙ ap (λ (n : ℕ). head_spelling c.args.table.now.session level n ++ c.put_rows.new.out) c.len-count.ensures.count
-    ∙ ap (λ (t : List ℕ). head_spelling c.args.table.now.session level (length rows) ++ t) c.put_rows.ensures
+    ∙ ap (λ (t : List ℕ). head_spelling 2 t level c.len-count.result ++ c.put_rows.new.out) c.session.ensures
+    ∙ ap (λ (n : ℕ). head_spelling 2 c.args.table.now.session level n ++ c.put_rows.new.out) c.len-count.ensures.count
+    ∙ ap (λ (t : List ℕ). head_spelling 2 c.args.table.now.session level (length rows) ++ t) c.put_rows.ensures

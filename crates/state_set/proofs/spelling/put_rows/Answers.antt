@@ -10,22 +10,22 @@ pub loop-place-preserved : goal.loop-place-preserved
 loop-place-preserved c =
     let rows = c.rows-row-items.result.now in
     let i = c.loop-place.place in
-    let from = 30 * i in
-    let n = 30 * i + 30 - 30 * i in
+    let from = 38 * i in
+    let n = 38 * i + 38 - 38 * i in
     let out = c.loop-place.out in
     let new = c.copy_from_slice.new.self in
-    let room : from + 30 ≤ length out = omega (arith, c.loop-place.auto.out, c.requires, c.loop-place-test.true, ap length c.rows-row-items.ensures.rows) in
-    let long : length new ≡ 30 = omega (arith, c.copy_from_slice.ensures.len, length-take n (drop from out), length-drop from out, room) in
+    let room : from + 38 ≤ length out = omega (arith, c.loop-place.auto.out, c.requires, c.loop-place-test.true, ap length c.rows-row-items.ensures.rows) in
+    let long : length new ≡ 38 = omega (arith, c.copy_from_slice.ensures.len, length-take n (drop from out), length-drop from out, room) in
     let spelled : new ≡ row_spelling c.row-item.result = c.copy_from_slice.ensures.after ∙ c.encode_row.ensures.spelled in
-    take-put_mid from n out new (30 * (i + 1)) (omega (arith, long)) (omega (arith, room))
+    take-put_mid from n out new (38 * (i + 1)) (omega (arith, long)) (omega (arith, room))
     ∙ ap (λ (t : List ℕ). t ++ new) c.loop-place.invariant
-    ∙ ap (λ (t : List ℕ). rows_spelling (take i rows) ++ t) spelled
+    ∙ ap (λ (t : List ℕ). rows_spelling 2 (take i rows) ++ t) spelled
     ∙ sym (spelled_more rows i c.row-item.result c.loop-place-test.true c.row-item.is)
 
 pub returns : goal.returns
 returns c =
     let rows = c.rows-row-items.result.now in
     let same = c.rows-row-items.ensures.rows in
-    sym (take_all (30 * c.loop-place.place) c.loop-place.out (omega (arith, c.loop-place.auto.out, c.requires, c.loop-place-test.false, ap length same)))
+    sym (take_all (38 * c.loop-place.place) c.loop-place.out (omega (arith, c.loop-place.auto.out, c.requires, c.loop-place-test.false, ap length same)))
     ∙ c.loop-place.invariant
-    ∙ ap rows_spelling (take_all c.loop-place.place rows (omega (arith, c.loop-place-test.false)) ∙ same)
+    ∙ ap (rows_spelling 2) (take_all c.loop-place.place rows (omega (arith, c.loop-place-test.false)) ∙ same)

@@ -4,4 +4,4 @@ use Rattle.state_set.proofs.spelling.put_rows.Given as goal
 
 -- the rows so far
 abbrev pub invariant-loop-place : goal.invariant-loop-place
-invariant-loop-place l = take (30 * l.place) l.out ≡ rows_spelling (take l.place l.row-items)
+invariant-loop-place l = take (38 * l.place) l.out ≡ rows_spelling 2 (take l.place l.row-items)

@@ -1,4 +1,6 @@
-use Rattle.std.proofs.Common.{rules, arith, ◌≡◌, ◌∙◌, ◌≤◌, [], ℕ, List, false, length, Result, Err, refl, sym, ap, subst}
+use Rattle.std.proofs.Common.{rules, arith, ◌≡◌, ◌∙◌, ◌≤◌, [], inl, inr, ℕ, List, false, length, Result, Err, refl, sym, ap, subst}
+use Rattle.std.proofs.lemmas.Bool.{cases_Bool}
+use Rattle.std.proofs.lemmas.Result.{err_from_is_err_and}
 use Rattle.std.specs.Prelude.{IsErrOf}
 use Rattle.ckd_track.specs.SlotPlaces.{slot_track}
 use Rattle.crash_plant.specs.declared.device.Device.TheVariants.{Journal, Volume}
@@ -26,14 +28,17 @@ use Rattle.third_copy.specs.declared.copy_error.CopyError.TheVariants.{NoTarget,
 use Rattle.third_copy.specs.declared.outcome.CopyOutcome.{CopyOutcome}
 use Rattle.third_copy.specs.Answers.{CopiesSite, CountsPairs, IsCopyCalledFor, IsEarlyCopy, TellsCopyLasting}
 use Rattle.volume_copy.specs.declared.copy_job.CopyJob.{CopyJob}
-use Rattle.third_copy.specs.Pairs.{AreJobs, IsPair, job_of}
+use Rattle.third_copy.specs.Pairs.{AreFound, AreJobs, IsPair, job_of}
 use Rattle.volume_label.specs.Labels.{volume_need}
-use Rattle.third_copy.proofs.Phases.{are_since, first_since, long_pair, pair_there, jobs_ready, later_copied, none_since, nothing_copied, read_then, still_counts, store_apart, stores_still, targets_since, tells_late, tells_nothing, tells_recover, unwritten_moments}
-use Rattle.third_copy.proofs.Counting.{all_counts, copied_job, found_counts, job_source, pair_counts, redo_counts}
+use Rattle.third_copy.proofs.Phases.{are_since, first_since, found_since, long_pair, pair_there, jobs_ready, later_copied, none_since, nothing_copied, read_then, still_counts, store_apart, stores_still, targets_since, tells_late, tells_nothing, tells_recover, unwritten_moments}
+use Rattle.third_copy.proofs.Counting.{all_counts, copied_job, found_counts, job_source, pair_counts, redo_counts, source_rose}
 use Rattle.third_copy.proofs.JobsDone.{ready_then}
 use Rattle.third_copy.proofs.Redone.{content_since, redone_since, redone_still}
 use Rattle.third_copy.proofs.SeenRows.{end_means, sees_moments}
 use Rattle.third_copy.proofs.Site.{duplex_row, frees, keeps_copied, pair_duplex, redo_after, redo_meant, redo_site, row_step, rows_apart, rows_meant, same_means, seen_still, site_works}
+use Rattle.crash_plant.specs.Moments.{on}
+use Rattle.xrecover.proofs.Labels.{keeps_then}
+use Rattle.third_copy.proofs.KeptLabels.{keeps_both, keeps_jobs, keeps_nothing}
 use Rattle.third_copy.proofs.copying.copy.Goals as goal
 
 -- ---- what the site means can't be told
@@ -277,7 +282,8 @@ returns-in_err-faulty-clause-cause g c =
     let three = g.P.Plant.state c.redo.new.plant in
     let rows = c.in_ok-reading.reading.means.table.rows in
     let e = c.in_err-faulty.field-0.0 in
-    let is : c.from_residual-in_err-faulty.result ≡ Err (Recover e) = search rules in
+    let p = err_from_is_err_and c.from_residual-in_err-faulty.result c.from_residual-in_err-faulty.ensures.1 in
+    let is : c.from_residual-in_err-faulty.result ≡ Err (Recover e) = cc (p.1, p.2) in
     let counts = so_good old.faults one.faults c.in_ok-reading.reading c.in_ok-reading.ensures.fails in
     let since = targets_since rows c.args.shift old.faults one.faults two.faults counts c.jobs_of.ensures.counts in
     subst (λ (r : Result CopyOutcome CopyError). TellsFaults old.faults three.faults (λ d. IsErrOf r (Recover (Site (Fault d))))) (sym is)
@@ -306,7 +312,8 @@ returns-in_err-faulty-clause-moments g c = λ told.
 pub returns-in_err-faulty-clause-lasts : goal.returns-in_err-faulty-clause-lasts
 returns-in_err-faulty-clause-lasts g c = λ told.
     let e = c.in_err-faulty.field-0.0 in
-    let is : c.from_residual-in_err-faulty.result ≡ Err (Recover e) = search rules in
+    let p = err_from_is_err_and c.from_residual-in_err-faulty.result c.from_residual-in_err-faulty.ensures.1 in
+    let is : c.from_residual-in_err-faulty.result ≡ Err (Recover e) = cc (p.1, p.2) in
     let tells = g.P.Plant.tells in
     let old = g.P.Plant.state c.args.plant.now in
     let one = g.P.Plant.state c.read_recoverable.new.plant in
@@ -345,7 +352,8 @@ returns-in_err-faulty-clause-counts g c = λ told.
 pub returns-in_err-faulty-clause-ok : goal.returns-in_err-faulty-clause-ok
 returns-in_err-faulty-clause-ok g c = λ told.
     let e = c.in_err-faulty.field-0.0 in
-    let is : c.from_residual-in_err-faulty.result ≡ Err (Recover e) = search rules in
+    let p = err_from_is_err_and c.from_residual-in_err-faulty.result c.from_residual-in_err-faulty.ensures.1 in
+    let is : c.from_residual-in_err-faulty.result ≡ Err (Recover e) = cc (p.1, p.2) in
     let tells = g.P.Plant.tells in
     let old = g.P.Plant.state c.args.plant.now in
     let one = g.P.Plant.state c.read_recoverable.new.plant in
@@ -404,8 +412,9 @@ returns-clause-works g c =
     let redo = redo_after tells (meant_rows old old.bytes) (walked old old.bytes) old two three works (redo_meant tells old two works c.args.session means says three c.redo.ensures.works) in
     let long : tells → (r : PairRow) → IsPair means.table.rows r → volume_need r.cylinders ≤ length (old.bytes (Volume r.device)) = λ told r pair.
     long_pair old means.table.rows c.in_ok-reading.ensures.long r pair (g.met.P.Plant.length_told c.args.plant.now (Volume r.device) told (pair_there old means.table.rows c.requires.home c.in_ok-reading.ensures.below r pair)) in
+    let found = λ (told : tells). subst (λ (l : List CopyJob). AreFound means c.args.shift old l) (sym c.as_slice.ensures.value) (found_since old one means c.args.shift c.in_ok-jobs.jobs.items c.read_recoverable.ensures.reads.only.site (λ d. (works_reads tells old one c.read_recoverable.ensures.reads).bytes told d) (c.in_ok-jobs.ensures.found told)) in
     site_works tells old two three means c.args.shift jobs faulty c.jobs_of.ensures.sound are (rows_meant tells old two works c.args.session means says) (same_means tells old two works c.args.session means says)
-    (λ told r pair fit. content_since tells told old two three works AsItIs means.table.rows faulty (c.in_ok-faulty.ensures.redone told) r pair fit (long told r pair)) old new redo c.copy_jobs-done.ensures.works
+    (λ told r pair fit. content_since tells told old two three works AsItIs means.table.rows faulty (c.in_ok-faulty.ensures.redone told) r pair fit (long told r pair)) found old new redo c.copy_jobs-done.ensures.works
 
 pub returns-clause-progress : goal.returns-clause-progress
 returns-clause-progress g c = λ told. keeps_copied g.P.Plant.tells told c.args.shift (g.P.Plant.state c.args.plant.now) (g.P.Plant.state c.copy_jobs-done.new.plant) (returns-clause-works g c)
@@ -495,18 +504,24 @@ returns-clause-copied g c = λ told.
     let works = read_then tells old one two c.read_recoverable.ensures.reads c.jobs_of.ensures.works in
     let since = targets_since rows shift old.faults one.faults two.faults counts c.jobs_of.ensures.counts in
     let ends = c.copy_jobs-done.ensures.ends in
-    λ r pair is.
-    let job = copied_job tells old two three new means shift jobs faulty copied sound are since c.in_ok-faulty.ensures.failed ends r pair is in
-    let done = ends.are_done told job.0 (job_of means shift r) job.1 is in
+    let moves = c.copy_jobs-done.ensures.works in
+    let redone = λ (r : PairRow) (pair : IsPair rows r) (fit : is_among r.device faulty ≡ false).
     let row = duplex_row r.device rows (pair_duplex tells old two three means shift jobs faulty sound are r pair) in
     let v = Volume r.device in
     let stays = λ (b z : List ℕ) (step : CopiesJobs faulty jobs (λ e. slot_track (three.bytes (Volume e))) v b z). row_step tells old two three means shift jobs faulty sound are (λ e. slot_track (three.bytes (Volume e))) (λ p is_pair fit x below. refl) r.device b z step row in
-    let moves = c.copy_jobs-done.ensures.works in (
-      record { all_done = done.all_done; durable = done.durable },
-      redone_still tells told AsItIs r (walked old old.bytes) old three new (stays (three.bytes v) (new.bytes v) (moves.bytes told v))
-          (λ z left. let start = moves.moments told v new.clock ((moves.elapses told).kept v).later (omega arith) z left in (start.0, start.1, stays start.0 z start.2))
-          (redone_since tells told old two three works AsItIs rows faulty (c.in_ok-faulty.ensures.redone told) r pair job.2),
-    )
+    redone_still tells told AsItIs r (walked old old.bytes) old three new (stays (three.bytes v) (new.bytes v) (moves.bytes told v))
+    (λ z left. let start = moves.moments told v new.clock ((moves.elapses told).kept v).later (omega arith) z left in (start.0, start.1, stays start.0 z start.2))
+    (redone_since tells told old two three works AsItIs rows faulty (c.in_ok-faulty.ensures.redone told) r pair fit) in
+    record {
+      copied = λ r pair is.
+          let job = copied_job tells old two three new means shift jobs faulty copied sound are since c.in_ok-faulty.ensures.failed ends r pair is in
+          let done = ends.are_done told job.0 (job_of means shift r) job.1 is in
+          (record { all_done = done.all_done; durable = done.durable }, redone r pair job.2);
+      redone = λ r pair. elim (cases_Bool (is_among r.device faulty)) [
+        | inl bad ↦ inr (source_rose tells old two three new means shift jobs faulty copied sound are since c.in_ok-faulty.ensures.failed ends r pair bad)
+        | inr fit ↦ inl (redone r pair fit)
+      ];
+    }
 
 pub returns-clause-moments : goal.returns-clause-moments
 returns-clause-moments g c = λ told.
@@ -531,8 +546,9 @@ returns-clause-moments g c = λ told.
     let long : tells → (r : PairRow) → IsPair rows r → volume_need r.cylinders ≤ length (old.bytes (Volume r.device)) = λ told r pair.
     long_pair old rows c.in_ok-reading.ensures.long r pair (g.met.P.Plant.length_told c.args.plant.now (Volume r.device) told (pair_there old rows c.requires.home c.in_ok-reading.ensures.below r pair)) in
     let content = λ (told : tells) (r : PairRow) (pair : IsPair rows r) (fit : is_among r.device faulty ≡ false). content_since tells told old two three works AsItIs rows faulty (c.in_ok-faulty.ensures.redone told) r pair fit (long told r pair) in
+    let found = λ (told : tells). subst (λ (l : List CopyJob). AreFound means shift old l) (sym c.as_slice.ensures.value) (found_since old one means shift c.in_ok-jobs.jobs.items c.read_recoverable.ensures.reads.only.site (λ d. (works_reads tells old one c.read_recoverable.ensures.reads).bytes told d) (c.in_ok-jobs.ensures.found told)) in
     let redo = redo_after tells (meant_rows old old.bytes) (walked old old.bytes) one two three c.jobs_of.ensures.works (redo_meant tells old two works c.args.session means says three c.redo.ensures.works) in
-    let from_one = site_works tells old two three means shift jobs faulty sound are meant only content one new redo c.copy_jobs-done.ensures.works in
+    let from_one = site_works tells old two three means shift jobs faulty sound are meant only content found one new redo c.copy_jobs-done.ensures.works in
     sees_moments tells told shift old one new c.read_recoverable.ensures.reads (c.in_ok-reading.ensures.durable told) from_one (returns-clause-works g c) (λ d r row. rows_apart tells old two three means shift jobs faulty sound are meant only told d r row)
 
 pub returns-clause-lasts : goal.returns-clause-lasts
@@ -558,8 +574,9 @@ returns-clause-lasts g c = λ told.
     let long : tells → (r : PairRow) → IsPair rows r → volume_need r.cylinders ≤ length (old.bytes (Volume r.device)) = λ told r pair.
     long_pair old rows c.in_ok-reading.ensures.long r pair (g.met.P.Plant.length_told c.args.plant.now (Volume r.device) told (pair_there old rows c.requires.home c.in_ok-reading.ensures.below r pair)) in
     let content = λ (told : tells) (r : PairRow) (pair : IsPair rows r) (fit : is_among r.device faulty ≡ false). content_since tells told old two three works AsItIs rows faulty (c.in_ok-faulty.ensures.redone told) r pair fit (long told r pair) in
+    let found = λ (told : tells). subst (λ (l : List CopyJob). AreFound means shift old l) (sym c.as_slice.ensures.value) (found_since old one means shift c.in_ok-jobs.jobs.items c.read_recoverable.ensures.reads.only.site (λ d. (works_reads tells old one c.read_recoverable.ensures.reads).bytes told d) (c.in_ok-jobs.ensures.found told)) in
     let redo = redo_after tells (meant_rows old old.bytes) (walked old old.bytes) one two three c.jobs_of.ensures.works (redo_meant tells old two works c.args.session means says three c.redo.ensures.works) in
-    let from_one = site_works tells old two three means shift jobs faulty sound are meant only content one new redo c.copy_jobs-done.ensures.works in
+    let from_one = site_works tells old two three means shift jobs faulty sound are meant only content found one new redo c.copy_jobs-done.ensures.works in
     end_means tells told shift old one new c.read_recoverable.ensures.reads (c.in_ok-reading.ensures.durable told) from_one
 
 pub returns-clause-cause : goal.returns-clause-cause
@@ -573,3 +590,55 @@ returns-clause-cause g c =
     let ends = c.copy_jobs-done.ensures.ends in
     tells_nothing old.faults new.faults _ (λ d told. absurd cc) (λ d store.
     ends.spared d (λ k j at. (store_apart d store j.source, store_apart d store j.target)) ∙ c.in_ok-faulty.ensures.fault.others d store (λ is. cc) ∙ stores_still rows c.args.shift one.faults two.faults c.jobs_of.ensures.counts d store ∙ counts d)
+
+-- ---- labels
+
+pub returns-in_err-reading-clause-labels : goal.returns-in_err-reading-clause-labels
+returns-in_err-reading-clause-labels g c = λ told.
+    let old = g.P.Plant.state c.args.plant.now in
+    let one = g.P.Plant.state c.read_recoverable.new.plant in
+    keeps_nothing g.P.Plant.tells told old one (works_reads g.P.Plant.tells old one c.read_recoverable.ensures.reads)
+
+pub returns-in_err-room-clause-labels : goal.returns-in_err-room-clause-labels
+returns-in_err-room-clause-labels g c = λ told.
+    let old = g.P.Plant.state c.args.plant.now in
+    let one = g.P.Plant.state c.read_recoverable.new.plant in
+    keeps_nothing g.P.Plant.tells told old one (works_reads g.P.Plant.tells old one c.read_recoverable.ensures.reads)
+
+pub returns-in_err-jobs-clause-labels : goal.returns-in_err-jobs-clause-labels
+returns-in_err-jobs-clause-labels g c = λ told.
+    let old = g.P.Plant.state c.args.plant.now in
+    let one = g.P.Plant.state c.read_recoverable.new.plant in
+    let two = g.P.Plant.state c.jobs_of.new.plant in
+    keeps_nothing g.P.Plant.tells told old two (read_then g.P.Plant.tells old one two c.read_recoverable.ensures.reads c.jobs_of.ensures.works)
+
+pub returns-in_err-tools-clause-labels : goal.returns-in_err-tools-clause-labels
+returns-in_err-tools-clause-labels g c = λ told.
+    let old = g.P.Plant.state c.args.plant.now in
+    let one = g.P.Plant.state c.read_recoverable.new.plant in
+    let two = g.P.Plant.state c.jobs_of.new.plant in
+    keeps_nothing g.P.Plant.tells told old two (read_then g.P.Plant.tells old one two c.read_recoverable.ensures.reads c.jobs_of.ensures.works)
+
+pub returns-in_err-faulty-clause-labels : goal.returns-in_err-faulty-clause-labels
+returns-in_err-faulty-clause-labels g c = λ told.
+    let tells = g.P.Plant.tells in
+    let old = g.P.Plant.state c.args.plant.now in
+    let one = g.P.Plant.state c.read_recoverable.new.plant in
+    let two = g.P.Plant.state c.jobs_of.new.plant in
+    let three = g.P.Plant.state c.redo.new.plant in
+    let works = read_then tells old one two c.read_recoverable.ensures.reads c.jobs_of.ensures.works in
+    keeps_both tells told _ _ old two three works c.redo.ensures.works (keeps_nothing tells told old two works) (c.redo.ensures.treats told)
+
+pub returns-clause-labels : goal.returns-clause-labels
+returns-clause-labels g c = λ told.
+    let tells = g.P.Plant.tells in
+    let old = g.P.Plant.state c.args.plant.now in
+    let one = g.P.Plant.state c.read_recoverable.new.plant in
+    let two = g.P.Plant.state c.jobs_of.new.plant in
+    let three = g.P.Plant.state c.redo.new.plant in
+    let new = g.P.Plant.state c.copy_jobs-done.new.plant in
+    let works = read_then tells old one two c.read_recoverable.ensures.reads c.jobs_of.ensures.works in
+    let copies = c.copy_jobs-done.ensures.works in
+    let redone = keeps_both tells told _ _ old two three works c.redo.ensures.works (keeps_nothing tells told old two works) (c.redo.ensures.treats told) in
+    λ v. keeps_then (on old (Volume v)) (on three (Volume v)) (on new (Volume v)) (omega (arith, ((works.elapses told).kept (Volume v)).later, ((c.redo.ensures.works.elapses told).kept (Volume v)).later)) (redone v) ((copies.elapses told).kept (Volume v))
+    (keeps_jobs tells told c.in_ok-faulty.faulty c.as_slice.result.now (λ d. slot_track (three.bytes (Volume d))) three new copies v)

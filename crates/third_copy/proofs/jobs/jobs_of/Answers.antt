@@ -9,10 +9,10 @@ use Rattle.volume_copy.specs.declared.copy_job.CopyJob.{CopyJob}
 use Rattle.xrc_journal.specs.Jobs.{FailsByCount}
 use Rattle.xrecover.proofs.Rows.{some_there}
 use Rattle.third_copy.specs.declared.targets.Target.{Target}
-use Rattle.third_copy.specs.declared.targets.Target.TheVariants.{Missing, Unread}
+use Rattle.third_copy.specs.declared.targets.Target.TheVariants.{Found, Missing, Unread}
 use Rattle.third_copy.specs.Pairs.{job_of}
 use Rattle.third_copy.specs.Targets.{is_unread, target_in, target_of}
-use Rattle.third_copy.proofs.Finding.{Finding, finding_all, finding_found, finding_missing, finding_none, finding_none_without, finding_other, finding_unread, missing_counts, missing_works}
+use Rattle.third_copy.proofs.Finding.{Finding, finding_all, finding_all_found, finding_found, finding_missing, finding_none, finding_none_without, finding_other, finding_unread, missing_counts, missing_works}
 use Rattle.third_copy.proofs.jobs.jobs_of.Goals as goal
 use Rattle.third_copy.proofs.jobs.jobs_of.Goals.{then-is_duplex+in-Found, then-is_duplex+in-Unread, else-is_duplex}
 
@@ -61,7 +61,7 @@ loop-place-preserved g c =
           let f = w.find_target.ensures in
           let duplex = sym c.is_duplex.ensures ∙ w.if-is_duplex.true in
           let count = subst (λ (t : Target). FailsByCount (is_unread t) (cur.faults (Volume (target_of shift r))) (new.faults (Volume (target_of shift r)))) w.in-Found.is f.count in
-          let some : g.P.Plant.tells → target_in cur rows shift r ≢ Missing = λ told e. let read : w.find_target.result ≢ Unread = λ u. absurd (cc (sym u ∙ w.in-Found.is)) in cc (sym w.in-Found.is ∙ f.told told read ∙ e) in
+          let some : g.P.Plant.tells → target_in cur rows shift r ≡ Found = λ told. let read : w.find_target.result ≢ Unread = λ u. absurd (cc (sym u ∙ w.in-Found.is)) in sym (f.told told read) ∙ w.in-Found.is in
           let found = finding_found g.P.Plant.tells means shift sound i jobs old cur inv.finding r is duplex new f.works f.counts count (f.found w.in-Found.is) some in
           let jobs_is : c.if-is_duplex.jobs.items ≡ jobs ++ job_of means shift r ∷ [] = (λ k. (w.jobs-is k).items) ∙ w.push_reserved.ensures.items ∙ ap (λ (j : CopyJob). jobs ++ j ∷ []) w.job_of.ensures in
           record {
@@ -74,7 +74,7 @@ loop-place-preserved g c =
           let f = w.find_target.ensures in
           let duplex = sym c.is_duplex.ensures ∙ w.if-is_duplex.true in
           let count = subst (λ (t : Target). FailsByCount (is_unread t) (cur.faults (Volume (target_of shift r))) (new.faults (Volume (target_of shift r)))) w.in-Unread.is f.count in
-          let found = finding_unread g.P.Plant.tells means shift sound i jobs old cur inv.finding r is duplex new f.works f.counts count (f.free w.in-Unread.is) in
+          let found = finding_unread g.P.Plant.tells means shift sound i jobs old cur inv.finding r is duplex new f.works f.counts count (f.there w.in-Unread.is) (f.free w.in-Unread.is) in
           record {
             finding = subst (λ (p : PlantState). Finding g.P.Plant.tells means shift (i + 1) c.if-is_duplex.jobs.items old p) (ap g.P.Plant.state (sym w.plant-is)) (subst (λ (l : List CopyJob). Finding g.P.Plant.tells means shift (i + 1) l old new) (λ k. (sym w.jobs-is k).items) found);
             count = omega (arith, ap vec_len w.jobs-is, inv.count);
@@ -94,6 +94,9 @@ returns-clause-works g c = c.loop-place.invariant.finding.works
 
 pub returns-clause-jobs : goal.returns-clause-jobs
 returns-clause-jobs g c = finding_all g.P.Plant.tells c.args.means.now c.args.shift c.loop-place.place c.loop-place.jobs.items (g.P.Plant.state c.args.plant.now) (g.P.Plant.state c.loop-place.plant) (omega (arith, c.len-place-end.ensures.count, c.loop-place-test.false)) c.loop-place.invariant.finding
+
+pub returns-clause-found : goal.returns-clause-found
+returns-clause-found g c told = finding_all_found g.P.Plant.tells c.args.means.now c.args.shift c.loop-place.place c.loop-place.jobs.items (g.P.Plant.state c.args.plant.now) (g.P.Plant.state c.loop-place.plant) c.loop-place.invariant.finding told
 
 pub returns-clause-none : goal.returns-clause-none
 returns-clause-none g c told = finding_none_without g.P.Plant.tells c.args.means.now c.args.shift c.loop-place.place c.loop-place.jobs.items (g.P.Plant.state c.args.plant.now) (g.P.Plant.state c.loop-place.plant) (omega (arith, c.len-place-end.ensures.count, c.loop-place-test.false)) c.loop-place.invariant.finding told

@@ -30,7 +30,7 @@ sync_and_note-requires-clause-next g c κs within told =
     let job = c.args.job.now in
     let before = (g.P.Plant.state c.args.plant.now).bytes (Volume job.target) in
     let after = (g.P.Plant.state c.copy_tracks.new.plant).bytes (Volume job.target) in
-    let still = chosen_still c.args.cylinder before after (c.copy_tracks.ensures.works.target_bytes told) in
+    let still = chosen_still c.args.cylinder before after (c.copy_tracks.ensures.works.target_bytes told).torn in
     subst (λ (o : Option Progress). IsNextNumber o c.progress_after-next.result.number) (sym still) (subst (λ (p : Progress). IsNextNumber (chosen_progress before) p.number) (sym c.progress_after-next.ensures) (c.requires.stands told).next)
 
 pub returns-in_err-copy_tracks-clause-works : goal.returns-in_err-copy_tracks-clause-works

@@ -1,16 +1,14 @@
-use Rattle.std.proofs.Common.{rules, arith, ◌≡◌, ◌∙◌, List, Option, Bool, Result, Err, inl, inr, refl, sym, subst}
+use Rattle.std.proofs.Common.{rules, arith, ◌≡◌, ◌∙◌, List, Option, Some, Bool, Result, Err, inl, inr, refl, sym, subst}
 use Rattle.std.proofs.lemmas.Result.{on_ok_weaker}
 use Rattle.ckd_track.specs.declared.rec.Rec.{Rec}
 use Rattle.ckd_track.specs.SlotPlaces.{slot_place, slot_track}
 use Rattle.crash_plant.specs.declared.device.Device.TheVariants.{Volume}
-use Rattle.crash_plant.specs.Bytes.{Torn}
-use Rattle.crash_plant.proofs.BehindGates.{torn_again}
 use Rattle.volume_copy.specs.Copying.{IsOfCopy}
 use Rattle.volume_copy.specs.Faults.{FailsAmong}
-use Rattle.volume_copy.specs.Targets.{IsCopyOf, IsHeld}
+use Rattle.volume_copy.specs.Targets.{IsCopyOf, IsHeld, WritesTargetSlots}
 use Rattle.volume_copy.proofs.Copying.{copy_twice, on_source, on_target, source_there}
 use Rattle.volume_copy.proofs.Faults.{fails_none, fails_one, fails_so, fails_then, none_rose}
-use Rattle.volume_copy.proofs.Targets.{torn_same}
+use Rattle.volume_copy.proofs.Targets.{writes_again, writes_same, writes_slot}
 use Rattle.volume_copy.proofs.tracks.copy_track.Goals as goal
 
 pub read_track-requires-clause-there : goal.read_track-requires-clause-there
@@ -32,7 +30,7 @@ pub returns-in_err-held-clause-works : goal.returns-in_err-held-clause-works
 returns-in_err-held-clause-works g c =
     let job = c.args.job.now in
     let read = c.read_track.ensures in
-    on_source g.P.Plant.tells job.source job.target c.requires.ready.apart (Torn (slot_place c.args.track) 57344) (g.P.Plant.state c.args.plant.now) (g.P.Plant.state c.read_track.new.plant) (torn_same (slot_place c.args.track) 57344) read.only read.same read.moments
+    on_source g.P.Plant.tells job.source job.target c.requires.ready.apart (WritesTargetSlots (slot_track ((g.P.Plant.state c.args.plant.now).bytes (Volume job.source))) (slot_place c.args.track) 57344) (g.P.Plant.state c.args.plant.now) (g.P.Plant.state c.read_track.new.plant) (writes_same (slot_track ((g.P.Plant.state c.args.plant.now).bytes (Volume job.source))) (slot_place c.args.track) 57344) read.only read.same read.moments
 
 pub returns-in_err-held-clause-fails : goal.returns-in_err-held-clause-fails
 returns-in_err-held-clause-fails g c =
@@ -49,13 +47,18 @@ returns-then-held-clause-works g c =
     let job = c.args.job.now in
     let read = c.read_track.ensures in
     let write = c.write_image.ensures in
-    let step = Torn (slot_place c.args.track) 57344 in
     let a = g.P.Plant.state c.args.plant.now in
     let b = g.P.Plant.state c.read_track.new.plant in
     let d = g.P.Plant.state c.write_image.new.plant in
-    copy_twice g.P.Plant.tells job.source job.target c.requires.ready.apart step a b d (torn_again (slot_place c.args.track) 57344)
-    (on_source g.P.Plant.tells job.source job.target c.requires.ready.apart step a b (torn_same (slot_place c.args.track) 57344) read.only read.same read.moments)
-    (on_target g.P.Plant.tells job.source job.target c.requires.ready.apart step b d write.only write.torn write.moments)
+    let content = slot_track (a.bytes (Volume job.source)) in
+    let step = WritesTargetSlots content (slot_place c.args.track) 57344 in
+    let recs = c.read_track.new.slot in
+    let held : g.P.Plant.tells → content c.args.track ≡ Some recs = λ told. subst (λ (h : Bool). IsHeld (content c.args.track) h recs) c.if-held.true (c.in_ok-held.ensures.held told) in
+    copy_twice g.P.Plant.tells job.source job.target c.requires.ready.apart step a b d (writes_again content (slot_place c.args.track) 57344)
+    (on_source g.P.Plant.tells job.source job.target c.requires.ready.apart step a b (writes_same content (slot_place c.args.track) 57344) read.only read.same read.moments)
+    (on_target g.P.Plant.tells job.source job.target c.requires.ready.apart step b d write.only
+    (λ told. writes_slot content c.args.track recs (b.bytes (Volume job.target)) (d.bytes (Volume job.target)) (held told) write.short (write.torn told))
+    (λ told s from to z left. let start = write.moments told s from to z left in (start.0, start.1, writes_slot content c.args.track recs start.0 z (held told) write.short start.2)))
 
 pub returns-then-held-clause-copied : goal.returns-then-held-clause-copied
 returns-then-held-clause-copied g c told =
@@ -79,7 +82,7 @@ pub returns-clause-works : goal.returns-clause-works
 returns-clause-works g c =
     let job = c.args.job.now in
     let read = c.read_track.ensures in
-    on_source g.P.Plant.tells job.source job.target c.requires.ready.apart (Torn (slot_place c.args.track) 57344) (g.P.Plant.state c.args.plant.now) (g.P.Plant.state c.read_track.new.plant) (torn_same (slot_place c.args.track) 57344) read.only read.same read.moments
+    on_source g.P.Plant.tells job.source job.target c.requires.ready.apart (WritesTargetSlots (slot_track ((g.P.Plant.state c.args.plant.now).bytes (Volume job.source))) (slot_place c.args.track) 57344) (g.P.Plant.state c.args.plant.now) (g.P.Plant.state c.read_track.new.plant) (writes_same (slot_track ((g.P.Plant.state c.args.plant.now).bytes (Volume job.source))) (slot_place c.args.track) 57344) read.only read.same read.moments
 
 pub returns-clause-copied : goal.returns-clause-copied
 returns-clause-copied g c told =

@@ -3,13 +3,13 @@ use Rattle.std.specs.List.{flat_map}
 use Rattle.std.specs.Prelude.{IsTrue}
 use Rattle.write_trace.specs.declared.header.Header.{Header}
 use Rattle.write_trace.specs.Entries.{entry_spelling}
-use Rattle.write_trace.specs.Headers.{header_spelling, is_header_of}
+use Rattle.write_trace.specs.Headers.{header_spelling, is_header}
 use Rattle.workload.specs.Traces.{generated_entries}
 use Rattle.workload.proofs.Headers.{headers_keep_rules}
 use Rattle.workload.proofs.traces.trace.Goals as goal
 
 pub header-requires-2 : goal.header-requires-2
-header-requires-2 c = subst (λ (h : Header). IsTrue (is_header_of 1 h)) (sym c.in_ok-header.ensures) (headers_keep_rules c.args.control c.requires)
+header-requires-2 c = subst (λ (h : Header). IsTrue (is_header h)) (sym c.in_ok-header.ensures) (headers_keep_rules c.args.control c.requires)
 
 pub returns : goal.returns
 returns c =

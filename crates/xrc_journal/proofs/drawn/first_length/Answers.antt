@@ -1,6 +1,7 @@
-use Rattle.std.proofs.Common.{arith}
+use Rattle.std.proofs.Common.{refl, arith}
 use Rattle.xrc_journal.specs.Bodies.{BeginsWith}
 use Rattle.xrc_journal.proofs.Scans.{image_length, image_bad}
+use Rattle.xrc_journal.proofs.Told.{tagged_size}
 use Rattle.xrc_journal.proofs.drawn.first_length.Goals as goal
 
 pub overflow_add-result : goal.overflow_add-result
@@ -17,3 +18,9 @@ unreachable-requires c =
 
 pub returns-in-Ok : goal.returns-in-Ok
 returns-in-Ok c = λ item begins. (image_length c.args.bytes.now item _ _ c.in-Ok.length c.in-1.is begins c.in-Ok.ensures.ok c.in-Ok.ensures.length).0
+
+pub returns-in-3 : goal.returns-in-3
+returns-in-3 c = λ item begins. tagged_size 1 c.args.bytes.now item refl c.in-3.is begins
+
+pub returns-in-5 : goal.returns-in-5
+returns-in-5 c = λ item begins. tagged_size 2 c.args.bytes.now item refl c.in-5.is begins

@@ -1,6 +1,8 @@
-use Rattle.std.proofs.Common.{◌∙◌, ap, sym, Err}
+use Rattle.std.proofs.Common.{◌≡◌, ◌∙◌, ap, subst, sym, true, Err, List, []}
+use Rattle.write_trace.specs.declared.header.VolumeHead.{VolumeHead}
+use Rattle.write_trace.specs.Headers.{are_volumes}
 use Rattle.xrc_session.specs.Openings.{first_named_again}
-use Rattle.xrc_session.proofs.NamedVolumes.{serials_by_header}
+use Rattle.xrc_session.proofs.NamedVolumes.{serials_by_header, volumes_of_header}
 use Rattle.xrc_session.proofs.Numbered.{given_on}
 use Rattle.xrc_session.proofs.OpenedLane.{lane_again, lane_passes_on, lane_refused}
 use Rattle.xrc_session.proofs.opening.open_lane.Goals as goal
@@ -18,6 +20,11 @@ returns-in_err-check_serials-clause-stops g c =
     let at = ap (λ l. first_named_again l 0 started.0.volumes) (sym c.as_slice.ensures.value) ∙ ap (first_named_again named 0) (sym c.as_slice-2.ensures) ∙ again.1 in
     lane_again g.S.Source.left g.S.Source.faults c.args.control c.args.named.now.items c.args.lane.now (record c.args.lane.now { source = c.start.new.source }) started.0 started.1 c.in-Ok.ensures.0 c.in-Ok.ensures.1 c.from_residual.result again.0 e at again.2
     (given_on c.from_residual.result e c.from_residual.ensures)
+
+pub name_volumes-requires-clause-heads : goal.name_volumes-requires-clause-heads
+name_volumes-requires-clause-heads g c =
+    let good = volumes_of_header c.in-Ok.started.0 c.in-Ok.ensures.0.kept in
+    subst (λ (heads : List VolumeHead). are_volumes 2 [] heads ≡ true) (sym c.as_slice-3.ensures) good.are
 
 pub returns-clause-named : goal.returns-clause-named
 returns-clause-named g c =
